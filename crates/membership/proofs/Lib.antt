@@ -1,0 +1,10 @@
+pub mod Updates
+pub mod Counting
+pub mod Covering
+pub mod Machine
+pub mod Statements
+pub mod Settle
+pub mod Join
+pub mod Attempt
+pub mod Invariants
+pub mod Intersection

@@ -1,0 +1,6 @@
+pub mod SetLaws
+pub mod CountLaws
+pub mod Members
+pub mod ListLaws
+pub mod PlaceLaws
+pub mod WalkLaws

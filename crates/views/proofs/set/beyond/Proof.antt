@@ -1,0 +1,19 @@
+-- `views::set::beyond` meets its contract: a byte is beyond no bound of eight or more, and below that a shift leaves what is beyond.
+use mathlib.Core.Path.{sym}
+use borrow.Author.Needs.{needs}
+use Rattle.views.specs.Limits.{maxMembers}
+use Rattle.views.proofs.SetLaws.{beyond-past, beyond-shift}
+use Rattle.views.proofs.set.beyond.Statement.{statement}
+use Rattle.views.proofs.set.beyond.Tie as tie
+
+returns : tie.Need-returns
+returns c = sym (beyond-past (c .before .args .set) maxMembers (c .before .args .members) (c .before .fits .set .fits) (c .if1 .taken))
+
+shr-result : tie.Need-shr-result
+shr-result c = search needs
+
+returns-2 : tie.Need-returns-2
+returns-2 c = beyond-shift (c .before .args .set) (c .before .args .members)
+
+pub beyond-spec : {M : Type 1} → statement M
+beyond-spec = tie.close (tie.spec returns shr-result returns-2)

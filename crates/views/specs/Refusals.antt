@@ -1,0 +1,67 @@
+-- The number of each refusal, as the table 'Where each refusal is checked' has it.
+use mathlib.Core.Bool.{Bool, true, false}
+use Prim.Native.Nat.{ℕ}
+use Rattle.views.specs.declared.refusal.Refusal.{Refusal}
+use Rattle.views.specs.declared.refusal.Refusal.the-variants.{MembersOutOfRange, FirstSetUnfit, ListLength, RecordsUnsound, UnknownStep, NoSuchMember, SetUnfit, IdentifierNotAbove, ListFull, NoSuchView, NotInSet, NotAboveCarrier, NoCarrierView, NoneOutgoing, WaitingFull, OrderFull, NoneWaiting, NoneToDeliver, NotAboveClient, InfoMissing, TestFailed, NoClientView, AlreadyRegistered, OutgoingFull, NoneToHand, ClientNotCarrier, NothingNewToTell, NoneToReport, ToldTooLow, NotAboveSettled, RegistrationMissing, EndsEarly, UnknownKind, SectionCount, EmptySet, NotRising, ToldOutOfRange, BytesLeftOver, BufferTooShort, LineUnreadable, AnotherView, SenderNotInView, TooManyOpen}
+use Rattle.views.specs.declared.refusal.Verdict.{Verdict}
+use Rattle.views.specs.declared.refusal.Verdict.the-variants.{Accepted, Refused}
+
+abbrev pub numberOf : Refusal → ℕ
+numberOf MembersOutOfRange = 1
+numberOf FirstSetUnfit = 2
+numberOf ListLength = 3
+numberOf RecordsUnsound = 4
+numberOf UnknownStep = 5
+numberOf NoSuchMember = 6
+numberOf SetUnfit = 7
+numberOf IdentifierNotAbove = 8
+numberOf ListFull = 9
+numberOf NoSuchView = 10
+numberOf NotInSet = 11
+numberOf NotAboveCarrier = 12
+numberOf NoCarrierView = 13
+numberOf NoneOutgoing = 14
+numberOf WaitingFull = 15
+numberOf OrderFull = 16
+numberOf NoneWaiting = 17
+numberOf NoneToDeliver = 18
+numberOf NotAboveClient = 19
+numberOf InfoMissing = 20
+numberOf TestFailed = 21
+numberOf NoClientView = 22
+numberOf AlreadyRegistered = 23
+numberOf OutgoingFull = 24
+numberOf NoneToHand = 25
+numberOf ClientNotCarrier = 26
+numberOf NothingNewToTell = 27
+numberOf NoneToReport = 28
+numberOf ToldTooLow = 29
+numberOf NotAboveSettled = 30
+numberOf RegistrationMissing = 31
+numberOf EndsEarly = 32
+numberOf UnknownKind = 33
+numberOf SectionCount = 34
+numberOf EmptySet = 35
+numberOf NotRising = 36
+numberOf ToldOutOfRange = 37
+numberOf BytesLeftOver = 38
+numberOf BufferTooShort = 39
+numberOf LineUnreadable = 40
+numberOf AnotherView = 41
+numberOf SenderNotInView = 42
+numberOf TooManyOpen = 43
+
+-- 0 for accepted, or the refusal's number
+abbrev pub codeOf : Verdict → ℕ
+codeOf Accepted = 0
+codeOf (Refused r) = numberOf r
+
+-- what follows if the condition is met, else the refusal
+unfoldable pub need : Bool → Refusal → Verdict → Verdict
+need true r rest = rest
+need false r rest = Refused r
+
+-- one verdict, and if it is accepted another
+unfoldable pub andThen : Verdict → Verdict → Verdict
+andThen Accepted rest = rest
+andThen (Refused r) rest = Refused r

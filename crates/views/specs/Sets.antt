@@ -1,0 +1,43 @@
+-- Sets of members as bytes, and the majority test in words of members.
+use mathlib.Core.Bool.{Bool, true, false, cond}
+use Prim.Native.Nat.{ℕ, zero, suc, _+_, _*_, _/_, _%_, _^_}
+use lib.Dec.{eqb, ltb, leb}
+use lib.Bits.{bitAnd}
+use Rattle.views.specs.Limits.{maxMembers}
+
+abbrev pub both : Bool → Bool → Bool
+both true b = b
+both false b = false
+
+-- member p is in the set: bit p is 1
+unfoldable pub has : ℕ → ℕ → Bool
+has s p = eqb (s / 2 ^ p % 2) 1
+
+-- the set has no member
+abbrev pub isEmpty : ℕ → Bool
+isEmpty s = eqb s 0
+
+-- the set has a member that is not below n
+unfoldable pub isBeyond : ℕ → ℕ → Bool
+isBeyond s n = leb (2 ^ n) s
+
+-- the members that both sets have
+unfoldable pub inCommon : ℕ → ℕ → ℕ
+inCommon s t = bitAnd s t
+
+-- what those of the members below n weigh together that the test picks
+unfoldable pub weigh : (ℕ → ℕ) → (ℕ → Bool) → ℕ → ℕ
+weigh w pick zero = 0
+weigh w pick (suc n) = weigh w pick n + cond (pick n) (w n) 0
+
+-- every member weighs 1
+abbrev pub one : ℕ → ℕ
+one p = 1
+
+-- how many members the set has
+abbrev pub size : ℕ → ℕ
+size s = weigh one (has s) maxMembers
+
+-- Test: twice the members in common exceed the members of the held view
+unfoldable pub majorityOf : ℕ → ℕ → Bool
+majorityOf s held = ltb (size held) (2 * size (inCommon s held))

@@ -1,0 +1,199 @@
+// Lists of views by value, rising by identifier: a count and 32 places. A list too long for its places keeps its count and
+// the first 32 views, so whoever makes one compares the count with its own limit.
+use crate::View;
+use crate::ViewId;
+use crate::limits;
+ghost use mathlib.Core.Path.{_≡_};
+ghost use mathlib.Core.List.{List, [], _∷_};
+ghost use mathlib.Core.Bool.{Bool};
+ghost use Prim.Native.Nat.{ℕ, _≤_, _<_, min};
+ghost use lib.ListN.{getD};
+ghost use Rattle.views.specs.Limits.{maxViews};
+ghost use Rattle.views.specs.Lists.{isRising, findOf, insertOf, unionOf, aboveOf, noView, listOf, placed};
+ghost use Rattle.views.specs.Choice.{choiceOf};
+
+pub struct Views {
+    pub count: usize,
+    pub at: [View; 32],
+}
+
+pub enum Lookup {
+    Found(View),
+    Missing,
+}
+
+// The next view of two lists, and how many of each list it takes.
+pub struct Choice {
+    pub view: View,
+    pub left: usize,
+    pub right: usize,
+}
+
+// How many places a count makes use of.
+pub fn used(count: usize) -> usize
+    ensures { λ r. ⌜ r ≡ min count maxViews ⌝ }
+{
+    if count < limits::VIEWS {
+        count
+    } else {
+        limits::VIEWS
+    }
+}
+
+// The view at a place, the zero view past the last place.
+pub fn view_at(list: Views, i: usize) -> View
+    ensures { λ r. ⌜ r ≡ getD (list .at) i noView ⌝ }
+{
+    if i < limits::VIEWS {
+        list.at[i]
+    } else {
+        View {
+            id: ViewId(0),
+            set: 0,
+        }
+    }
+}
+
+// The list of one view.
+pub fn single(v: View) -> Views
+    ensures { λ r. ⌜ r ≡ placed (v ∷ []) ⌝ }
+{
+    let none = View {
+        id: ViewId(0),
+        set: 0,
+    };
+    let mut at = [none; 32];
+    at[0] = v;
+    Views { count: 1, at }
+}
+
+// Each identifier is below the next.
+pub fn rising(list: Views) -> bool
+    ensures { λ r. ⌜ r ≡ isRising (listOf list) ⌝ }
+{
+    let n = used(list.count);
+    let mut i = 1;
+    while i < n {
+        let before = list.at[i - 1];
+        let v = list.at[i];
+        if v.id.0 <= before.id.0 {
+            return false;
+        }
+        i += 1;
+    }
+    true
+}
+
+// The view with the identifier.
+pub fn find(list: Views, id: ViewId) -> Lookup
+    ensures { λ r. ⌜ r ≡ findOf (id .0) (listOf list) ⌝ }
+{
+    let n = used(list.count);
+    let mut i = 0;
+    while i < n {
+        let v = list.at[i];
+        if v.id.0 == id.0 {
+            return Lookup::Found(v);
+        }
+        i += 1;
+    }
+    Lookup::Missing
+}
+
+// The next view of two lists that stand at x and y, as far as either has one.
+pub fn choose(has_x: bool, x: View, has_y: bool, y: View) -> Choice
+    ensures { λ r. ⌜ r ≡ choiceOf «has_x» x «has_y» y ⌝ }
+{
+    if !has_x {
+        return Choice {
+            view: y,
+            left: 0,
+            right: 1,
+        };
+    }
+    if !has_y {
+        return Choice {
+            view: x,
+            left: 1,
+            right: 0,
+        };
+    }
+    if y.id.0 < x.id.0 {
+        return Choice {
+            view: y,
+            left: 0,
+            right: 1,
+        };
+    }
+    if x.id.0 == y.id.0 {
+        return Choice {
+            view: x,
+            left: 1,
+            right: 1,
+        };
+    }
+    Choice {
+        view: x,
+        left: 1,
+        right: 0,
+    }
+}
+
+// Both lists together; of two views with one identifier the first list's.
+pub fn union(a: Views, b: Views) -> Views
+    ensures { λ r. ⌜ r ≡ placed (unionOf (listOf a) (listOf b)) ⌝ }
+{
+    let n = used(a.count);
+    let m = used(b.count);
+    let none = View {
+        id: ViewId(0),
+        set: 0,
+    };
+    let mut at = [none; 32];
+    let mut k = 0;
+    let mut i = 0;
+    let mut j = 0;
+    while i + j < n + m {
+        let x = view_at(a, i);
+        let y = view_at(b, j);
+        let c = choose(i < n, x, j < m, y);
+        if k < limits::VIEWS {
+            let v = c.view;
+            at[k] = v;
+        }
+        k += 1;
+        i += c.left;
+        j += c.right;
+    }
+    Views { count: k, at }
+}
+
+// The list with a view in its place, unless its identifier is there already.
+pub fn insert(list: Views, v: View) -> Views
+    ensures { λ r. ⌜ r ≡ placed (insertOf v (listOf list)) ⌝ }
+{
+    union(list, single(v))
+}
+
+// Only the views above the identifier.
+pub fn prune(list: Views, floor: ViewId) -> Views
+    ensures { λ r. ⌜ r ≡ placed (aboveOf (floor .0) (listOf list)) ⌝ }
+{
+    let n = used(list.count);
+    let none = View {
+        id: ViewId(0),
+        set: 0,
+    };
+    let mut at = [none; 32];
+    let mut k = 0;
+    let mut i = 0;
+    while i < n {
+        let v = list.at[i];
+        if floor.0 < v.id.0 {
+            at[k] = v;
+            k += 1;
+        }
+        i += 1;
+    }
+    Views { count: k, at }
+}
