@@ -1,0 +1,14 @@
+# Thin names for the commands that matter.
+.PHONY: test run clean
+
+# The gate: layout, proofs, must-fail edits, programs.
+test:
+	.ci/run
+
+# The message vectors, through the proved reader and writer.
+run:
+	rt check vectors
+	target/bin/vectors < crates/vectors/stdin
+
+clean:
+	rm -rf target

@@ -1,0 +1,118 @@
+-- A member that takes a message of its carrier view's order keeps its book sound: the inward list has room because it is no longer than what was taken.
+use mathlib.Core.Path.{_≡_}
+use mathlib.Core.Logic.{⊎-elim}
+use mathlib.Core.Bool.{Bool, true, false}
+use mathlib.Core.Option.{some}
+use mathlib.Core.List.{List, [], _∷_, _++_}
+use Prim.Native.Nat.{ℕ, _+_, _≤_, _<_}
+use native.Mathlib.Omega.{arith}
+use lib.ListN.{length}
+use Rattle.views.specs.declared.View.{View}
+use Rattle.views.specs.Limits.{maxOrdered}
+use Rattle.views.specs.Points.{at}
+use Rattle.views.specs.Lists.{idOf}
+use Rattle.views.proofs.SetLaws.{known}
+use Rattle.membership.proofs.Updates.{upd-ind}
+use Rattle.rules.specs.Data.{Member, Message, client, info, registered, told, entry, Item, item, Book, Group}
+use Rattle.rules.specs.Member.{clientIsCarrier, takes, received, took}
+use Rattle.rules.specs.Sound.{limitAt, orderAt}
+use Rattle.rules.proofs.Soundness.{EntrySound, entry-from, info-sound, told-sound, ItemsFrom}
+use Rattle.rules.proofs.HeldLaws.{Made, learned-sound}
+use Rattle.rules.proofs.QueueLaws.{length-snoc, items-snoc, limit-le, limit-at, limit-snoc}
+use Rattle.rules.proofs.Kept.{CarrierSound, ClientSound, BookKept}
+
+-- v is the carrier view of b, in whose order a message is left
+pub record Left (s : Group) (b : Book) (v : View) : Type 0 where
+  pub carries : b .carrier .view ≡ some v
+  pub left : b .carrier .taken < length (s .order (idOf v))
+  pub short : length (s .order (idOf v)) ≤ maxOrdered
+
+module _ (s : Group) (b : Book) (v : View) (f : Left s b v) (k : BookKept s b) where
+  left-at : b .carrier .taken + 1 ≤ length (orderAt s (b .carrier .view))
+  left-at = rw (f .carries) (omega (arith, f .left))
+
+  takes-sound : (i r : Member → Bool) (t : Member → ℕ) (l : List (Item ℕ)) → ((q : Member) → q < s .members → t q ≤ maxOrdered)
+      → length l ≤ maxOrdered → ItemsFrom (s .members) l → CarrierSound s (takes i r t l (b .carrier))
+  takes-sound i r t l h n o = record { short = n; tolds-short = h; taken-in = left-at; listed = k .carrier .listed; from = o }
+
+  -- a message other than a client's
+  plain-sound : (i r : Member → Bool) (t : Member → ℕ) → ((q : Member) → q < s .members → t q ≤ maxOrdered) → CarrierSound s (takes i r t (b .carrier .inward) (b .carrier))
+  plain-sound i r t h = takes-sound i r t (b .carrier .inward) h (k .carrier .short) (k .carrier .from)
+
+  inward-room : (l : List (Item ℕ)) → limitAt (b .carrier .view) l ≤ b .carrier .taken → (length l ≤ b .carrier .taken) × (length l < maxOrdered)
+  inward-room l h = omega (arith, limit-at (b .carrier .view) v l (f .carries), f .left, f .short)
+
+  received-sound : (q x : ℕ) → q < s .members → length (b .client .inward) < maxOrdered → ClientSound s (received (item q x) (b .client))
+  unfolding received
+  received-sound q x i h =
+      let c = k .client in
+      let more = limit-snoc (b .client .view) (b .client .inward) (item q x) in
+      record {
+        short = omega (arith, length-snoc (b .client .inward) (item q x));
+        handed-in = omega (arith, c .handed-in);
+        told-in = omega (arith, c .told-in);
+        reported-in = omega (arith, c .reported-in);
+        listed = c .listed;
+        from = items-snoc _ _ q x i (c .from);
+      }
+
+  took-client : (q x : ℕ) → q < s .members → BookKept s (took q (client x) b)
+  unfolding took received
+  took-client q x i =
+      ⊎-elim
+      (λ (t : clientIsCarrier b ≡ true).
+      let was : limitAt (b .carrier .view) (b .client .inward) ≤ b .carrier .taken = rw t at (k .inward-taken) in
+      let room = inward-room (b .client .inward) was in
+      let now : limitAt (b .carrier .view) (b .client .inward ++ (item q x ∷ [])) ≤ b .carrier .taken + 1
+      = omega (arith, limit-le (b .carrier .view) (b .client .inward ++ (item q x ∷ [])), length-snoc (b .client .inward) (item q x)) in
+      rw t (record {
+        held = k .held;
+        carrier = plain-sound _ _ _ (k .carrier .tolds-short);
+        client = received-sound q x i (room .1);
+        inward-taken = rw t now;
+        outgoing = k .outgoing;
+        below = k .below;
+      }))
+      (λ (t : clientIsCarrier b ≡ false).
+      let was : limitAt (b .carrier .view) (b .carrier .inward) ≤ b .carrier .taken = rw t at (k .inward-taken) in
+      let room = inward-room (b .carrier .inward) was in
+      let long = length-snoc (b .carrier .inward) (item q x) in
+      let now : limitAt (b .carrier .view) (b .carrier .inward ++ (item q x ∷ [])) ≤ b .carrier .taken + 1
+      = omega (arith, limit-le (b .carrier .view) (b .carrier .inward ++ (item q x ∷ []))) in
+      rw t (record {
+        held = k .held;
+        carrier = takes-sound _ _ _ _ (k .carrier .tolds-short) (omega arith) (items-snoc _ _ q x i (k .carrier .from));
+        client = k .client;
+        inward-taken = rw t now;
+        outgoing = k .outgoing;
+        below = k .below;
+      }))
+      (known (clientIsCarrier b))
+
+  pub took-kept : Made (s .views) → (q : Member) (m : Message) → EntrySound s (entry q m) → BookKept s (took q m b)
+  unfolding took
+  took-kept m q (client x) e = took-client q x (entry-from e)
+  took-kept m q (info x l) e = record {
+    held = learned-sound (s .views) m x l (b .held) (info-sound e) (k .held);
+    carrier = plain-sound _ _ _ (k .carrier .tolds-short);
+    client = k .client;
+    inward-taken = omega (arith, k .inward-taken);
+    outgoing = k .outgoing;
+    below = k .below;
+  }
+  took-kept m q registered e = record {
+    held = k .held;
+    carrier = plain-sound _ _ _ (k .carrier .tolds-short);
+    client = k .client;
+    inward-taken = omega (arith, k .inward-taken);
+    outgoing = k .outgoing;
+    below = k .below;
+  }
+  took-kept m q (told n) e = record {
+    held = k .held;
+    carrier = plain-sound _ _ _ (upd-ind q n (b .carrier .tolds) (λ r x. r < s .members → x ≤ maxOrdered) (λ _. told-sound e .1) (λ r _. k .carrier .tolds-short r));
+    client = k .client;
+    inward-taken = omega (arith, k .inward-taken);
+    outgoing = k .outgoing;
+    below = k .below;
+  }

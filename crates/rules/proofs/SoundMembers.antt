@@ -1,0 +1,208 @@
+-- A member's steps keep its book sound. One law for each step that is accepted, on its refusal row; the deliver step's law is SoundDeliver's.
+use mathlib.Core.Path.{_≡_, sym}
+use mathlib.Core.Logic.{⊎-elim}
+use mathlib.Core.Bool.{true, false, not}
+use mathlib.Core.Option.{some}
+use mathlib.Core.List.{List}
+use Prim.Native.Nat.{ℕ, suc, _≤_, _<_}
+use native.Mathlib.Omega.{arith}
+use lib.Dec.{eqb, ltb}
+use lib.ListN.{length, take, drop}
+use borrow.Author.Tests.{ltb-true, leb-true, eqb-false, eq-eqb, ne-eqb, not-true}
+use Rattle.views.specs.declared.View.{View}
+use Rattle.views.specs.Limits.{maxOutgoing}
+use Rattle.views.specs.Sets.{both}
+use Rattle.views.specs.Lists.{idOf}
+use Rattle.views.proofs.SetLaws.{known, both-true}
+use Rattle.views.proofs.Members.{In, in-nil}
+use Rattle.rules.specs.Data.{Member, Message, client, registered, told, Entry, entry, Book, Group, rank}
+use Rattle.rules.specs.Member.{clientIsCarrier, isAbove, outgoes, queues, hasRoom, joined, joins, Passing, passing, attempted, attempts, noted, registers, sends, moves, hands, tells, reports, collected, collects}
+use Rattle.rules.specs.Sound.{limitAt}
+use Rattle.rules.proofs.Soundness.{EntrySound, clientEntry, infoEntry, registeredEntry, toldEntry, QueueSound}
+use Rattle.rules.proofs.Holding.{Holds, gives, need-holds, view-holds, first-holds}
+use Rattle.rules.proofs.HeldLaws.{Made, opened-sound, collected-sound}
+use Rattle.rules.proofs.QueueLaws.{queue-snoc, queue-one, queue-first, next-below, next-taken, limit-le, limit-at}
+use Rattle.rules.proofs.Kept.{BookKept, Keeps}
+
+module _ (s : Group) where
+  -- ---- outgoing
+
+  pub outgoes-kept : (l : List Entry) (b : Book) → QueueSound s maxOutgoing l → BookKept s b → BookKept s (outgoes l b)
+  outgoes-kept l b q k = record { held = k .held; carrier = k .carrier; client = k .client; inward-taken = k .inward-taken; outgoing = q; below = k .below }
+
+  queues-kept : (p : Member) (m : Message) (b : Book) → EntrySound s (entry p m) → hasRoom b ≡ true → BookKept s b → BookKept s (queues p m b)
+  unfolding queues
+  queues-kept p m b e h k =
+      ⊎-elim
+      (λ (t : clientIsCarrier b ≡ true).
+      let room : ltb (length (b .outgoing)) maxOutgoing ≡ true = rw t at h in
+      rw t (outgoes-kept _ b (queue-snoc _ _ _ (b .outgoing) (entry p m) (ltb-true _ _ room) e (k .outgoing)) k))
+      (λ (t : clientIsCarrier b ≡ false). rw t k)
+      (known (clientIsCarrier b))
+
+  -- ---- join
+
+  joined-kept : (p : Member) (v : View) (b : Book) → p < s .members → In v (s .views) → rank (b .carrier .view) ≤ idOf v → BookKept s b → BookKept s (joined p v b)
+  unfolding joined
+  joined-kept p v b i j l k =
+      let apart : eqb (rank (b .client .view)) (suc (idOf v)) ≡ false = ne-eqb _ _ (λ (e : rank (b .client .view) ≡ suc (idOf v)). omega (arith, k .below)) in
+      record {
+        held = k .held;
+        carrier = record {
+          short = omega arith;
+          tolds-short = λ q n. omega arith;
+          taken-in = omega arith;
+          listed = λ w e. let d : v ≡ w = cc in rw (← d) j;
+          from = λ q x n. absurd (in-nil n);
+        };
+        client = k .client;
+        inward-taken = rw apart (omega arith);
+        outgoing = queue-one _ _ _ _ (omega arith)
+            (infoEntry i (record { short = omega (arith, k .held .short); rises = k .held .rises; listed = k .held .listed }));
+        below = omega (arith, k .below);
+      }
+
+  pub joins-keep : (p : Member) (v : View) (b : Book) → p < s .members → In v (s .views) → BookKept s b → Keeps s (joins p v b)
+  unfolding joins
+  joins-keep p v b i j k =
+      need-holds _ _ _ (λ _.
+      need-holds (isAbove (idOf v) (b .carrier .view)) _ _ (λ h.
+      gives (joined-kept p v b i j (leb-true _ _ h) k)))
+
+  -- ---- pass: the message that goes out, the view that it goes to, the book without it
+
+  abbrev pub Passes : Passing → Type 0
+  Passes x = In (x .to) (s .views) × EntrySound s (x .first) × BookKept s (x .book)
+
+  pub passing-keeps : (b : Book) → BookKept s b → Holds Passes (passing b)
+  unfolding passing
+  passing-keeps b k =
+      view-holds (b .carrier .view) _ _ (λ v h.
+      first-holds (b .outgoing) _ _ (λ e rest d.
+      let q = queue-first _ _ _ (b .outgoing) e rest d (k .outgoing) in
+      gives (k .carrier .listed v h, q .0, outgoes-kept rest b (q .1) k)))
+
+  -- ---- attempt
+
+  attempted-kept : Made (s .views) → (v : View) (b : Book) → b .carrier .view ≡ some v → rank (b .client .view) ≤ idOf v → BookKept s b → BookKept s (attempted v b)
+  unfolding attempted
+  attempted-kept m v b c l k =
+      let j : In v (s .views) = k .carrier .listed v c in
+      let above : rank (b .carrier .view) ≡ suc (idOf v) = rw c in
+      let apart : clientIsCarrier b ≡ false = ne-eqb _ _ (λ (e : rank (b .client .view) ≡ rank (b .carrier .view)). omega arith) in
+      let same : eqb (suc (idOf v)) (rank (b .carrier .view)) ≡ true = eq-eqb _ _ (sym above) in
+      let arrived : limitAt (b .carrier .view) (b .carrier .inward) ≤ b .carrier .taken = rw apart at (k .inward-taken) in
+      record {
+        held = opened-sound (s .views) m v (b .held) j (k .held);
+        carrier = record { short = omega arith; tolds-short = k .carrier .tolds-short; taken-in = k .carrier .taken-in; listed = k .carrier .listed; from = λ q x n. absurd (in-nil n) };
+        client = record {
+          short = k .carrier .short;
+          handed-in = omega arith;
+          told-in = omega arith;
+          reported-in = omega arith;
+          listed = λ w e. let d : v ≡ w = cc in rw (← d) j;
+          from = k .carrier .from;
+        };
+        inward-taken = rw same arrived;
+        outgoing = k .outgoing;
+        below = omega arith;
+      }
+
+  pub attempts-keep : Made (s .views) → (weight : Member → ℕ) (n : ℕ) (p : Member) (b : Book) → BookKept s b → Keeps s (attempts weight n p b)
+  unfolding attempts
+  attempts-keep m weight n p b k =
+      view-holds (b .carrier .view) _ _ (λ v c.
+      need-holds (isAbove (idOf v) (b .client .view)) _ _ (λ h.
+      need-holds _ _ _ (λ _.
+      need-holds _ _ _ (λ _.
+      gives (attempted-kept m v b c (leb-true _ _ h) k)))))
+
+  -- ---- register and send
+
+  noted-kept : (b : Book) → BookKept s b → BookKept s (noted b)
+  noted-kept b k = let c = k .client in record {
+    held = k .held;
+    carrier = k .carrier;
+    client = record { short = c .short; handed-in = c .handed-in; told-in = c .told-in; reported-in = c .reported-in; listed = c .listed; from = c .from };
+    inward-taken = k .inward-taken;
+    outgoing = k .outgoing;
+    below = k .below;
+  }
+
+  pub registers-keep : (p : Member) (b : Book) → p < s .members → BookKept s b → Keeps s (registers p b)
+  unfolding registers
+  registers-keep p b i k =
+      view-holds (b .client .view) _ _ (λ v _.
+      need-holds _ _ _ (λ _.
+      need-holds (hasRoom b) _ _ (λ h.
+      gives (queues-kept p registered (noted b) (registeredEntry i) h (noted-kept b k)))))
+
+  pub sends-keep : (p : Member) (x : ℕ) (b : Book) → p < s .members → BookKept s b → Keeps s (sends p x b)
+  unfolding sends
+  sends-keep p x b i k =
+      view-holds (b .client .view) _ _ (λ v _.
+      need-holds (hasRoom b) _ _ (λ h.
+      gives (queues-kept p (client x) b (clientEntry i) h k)))
+
+  -- ---- hand, tell and safe: positions of the client view's inward list
+
+  moves-kept : (h t r : ℕ) (b : Book) → h ≤ limitAt (b .client .view) (b .client .inward) → t ≤ limitAt (b .client .view) (b .client .inward)
+      → r ≤ limitAt (b .client .view) (b .client .inward) → BookKept s b → BookKept s (moves h t r b)
+  moves-kept h t r b i j l k = let c = k .client in record {
+    held = k .held;
+    carrier = k .carrier;
+    client = record { short = c .short; handed-in = i; told-in = j; reported-in = l; listed = c .listed; from = c .from };
+    inward-taken = k .inward-taken;
+    outgoing = k .outgoing;
+    below = k .below;
+  }
+
+  pub hands-keep : (p : Member) (b : Book) → BookKept s b → Keeps s (hands p b)
+  unfolding hands
+  hands-keep p b k = let c = k .client in
+      view-holds (b .client .view) _ _ (λ v e.
+      first-holds (drop (b .client .handed) (b .client .inward)) _ _ (λ x rest d.
+      gives (moves-kept _ _ _ b (omega (arith, next-below (b .client .handed) (b .client .inward) x rest d, limit-at (b .client .view) v (b .client .inward) e)) (c .told-in) (c .reported-in) k)))
+
+  pub tells-keep : (p : Member) (b : Book) → p < s .members → BookKept s b → Keeps s (tells p b)
+  unfolding tells
+  tells-keep p b i k = let c = k .client in
+      view-holds (b .client .view) _ _ (λ v e.
+      need-holds _ _ _ (λ _.
+      need-holds (both (not (eqb (b .client .handed) (b .client .told))) (not (eqb (b .client .handed) 0))) _ _ (λ h.
+      need-holds (hasRoom b) _ _ (λ r.
+      let some : b .client .handed ≡ 0 → ⊥ = eqb-false _ _ (not-true _ (both-true (not (eqb (b .client .handed) (b .client .told))) _ h .1)) in
+      gives (queues-kept p (told (b .client .handed)) _
+      (toldEntry i (omega arith) (omega (arith, c .handed-in, c .short, limit-le (b .client .view) (b .client .inward)))) r
+      (moves-kept _ _ _ b (c .handed-in) (c .handed-in) (c .reported-in) k))))))
+
+  pub reports-keep : (n : ℕ) (p : Member) (b : Book) → BookKept s b → Keeps s (reports n p b)
+  unfolding reports
+  reports-keep n p b k = let c = k .client in
+      view-holds (b .client .view) _ _ (λ v e.
+      need-holds _ _ _ (λ _.
+      first-holds (drop (b .client .reported) (take (b .client .handed) (b .client .inward))) _ _ (λ x rest d.
+      need-holds _ _ _ (λ _.
+      gives (moves-kept _ _ _ b (c .handed-in) (c .told-in)
+      (omega (arith, next-taken (b .client .reported) (b .client .handed) (b .client .inward) x rest d, limit-at (b .client .view) v (b .client .inward) e)) k)))))
+
+  -- ---- collect
+
+  collected-kept : Made (s .views) → (v : View) (b : Book) → In v (s .views) → BookKept s b → BookKept s (collected v b)
+  unfolding collected
+  collected-kept m v b j k = record {
+    held = collected-sound (s .views) m v (b .held) j (k .held);
+    carrier = k .carrier;
+    client = k .client;
+    inward-taken = k .inward-taken;
+    outgoing = k .outgoing;
+    below = k .below;
+  }
+
+  pub collects-keep : Made (s .views) → (n : ℕ) (b : Book) → BookKept s b → Keeps s (collects n b)
+  unfolding collects
+  collects-keep m n b k =
+      view-holds (b .carrier .view) _ _ (λ v c.
+      need-holds _ _ _ (λ _.
+      need-holds _ _ _ (λ _.
+      gives (collected-kept m v b (k .carrier .listed v c) k))))

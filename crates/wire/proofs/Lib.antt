@@ -1,0 +1,11 @@
+pub mod VerdictLaws
+pub mod FormatLaws
+pub mod ReaderLaws
+pub mod SeamLaws
+pub mod WriterLaws
+pub mod TripViews
+pub mod TripMessages
+pub mod TripWritten
+pub mod TripRead
+pub mod RoundTrip
+pub mod MessageCases

@@ -1,0 +1,139 @@
+-- The writer: a frame's bytes put together from their parts, and what each verdict says of the call.
+use mathlib.Core.Path.{_≡_, refl, sym, ap, _∙_}
+use mathlib.Core.List.{List, [], _∷_, _++_, append-assoc, append-nil}
+use Prim.Native.Nat.{ℕ, _+_, _*_, _<_, _≤_}
+use native.Mathlib.Omega.{arith}
+use borrow.Author.Tests.{le-leb, lt-leb}
+use lib.ListN.{length, set, take, drop, length-append, take-append-drop}
+use lib.Seq.{length-take-le}
+use Rattle.numbers.specs.Number.{put, digits}
+use Rattle.numbers.proofs.NumberLaws.{length-digits}
+use Rattle.views.specs.declared.View.{View}
+use Rattle.views.specs.declared.refusal.Refusal.{Refusal}
+use Rattle.views.specs.declared.refusal.Refusal.the-variants.{BufferTooShort}
+use Rattle.views.specs.declared.refusal.Verdict.the-variants.{Accepted, Refused}
+use Rattle.views.specs.Limits.{maxViews}
+use Rattle.views.specs.Lists.{listOf}
+use Rattle.wire.specs.declared.Message.{Message}
+use Rattle.wire.specs.declared.Message.the-variants.{Client, Info, Registered, Told}
+use Rattle.wire.specs.declared.Frame.{Frame}
+use Rattle.wire.specs.Format.{kindOf, numbersOf, viewsBytes, numbersBytes, bytesOf}
+use Rattle.wire.specs.Writer.{numberOf, frameBytes, frameVerdict, writeVerdict, writtenOf, leaves, overwritten, Wrote}
+use Rattle.wire.proofs.VerdictLaws.{need-met, need-unmet, need-accepted, then-accepted, then-refused}
+use Rattle.wire.proofs.FormatLaws.{views-few}
+use Rattle.wire.proofs.SeamLaws.{byte-seam, number-seam, part-seam, part-whole, length-viewsBytes}
+
+-- ---- the parts of a frame
+
+-- a message's numbers are one number of 8 bytes, or none
+pub numbers-digits : (m : Message) → numbersBytes (numbersOf m) ≡ digits (8 * length (numbersOf m)) (numberOf m)
+unfolding numbersBytes digits
+numbers-digits (Client x) = append-nil (digits 8 x)
+numbers-digits Info = refl
+numbers-digits Registered = refl
+numbers-digits (Told k) = append-nil (digits 8 k)
+
+pub length-numbers : (m : Message) → length (numbersBytes (numbersOf m)) ≡ 8 * length (numbersOf m)
+length-numbers m = ap length (numbers-digits m) ∙ length-digits (8 * length (numbersOf m)) (numberOf m)
+
+-- the front of a message with n views: kind, identifier, count
+abbrev pub frontBytes : ℕ → ℕ → ℕ → List ℕ
+frontBytes kind g n = (kind ∷ digits 4 g) ++ (n ∷ [])
+
+length-front : (kind g n : ℕ) → length (frontBytes kind g n) ≡ 6
+length-front kind g n = length-append (kind ∷ digits 4 g) (n ∷ []) ∙ omega (arith, length-digits 4 g)
+
+pub length-bytes : (g : ℕ) (m : Message) (l : List View) → length (bytesOf g m l) ≡ 7 + 5 * length l + 8 * length (numbersOf m)
+unfolding bytesOf
+length-bytes g m l =
+    simp length-append (omega (arith, length-digits 4 g, length-viewsBytes l, length-numbers m))
+
+regroup : (a v w : List ℕ) (n : ℕ) → ((a ++ n ∷ []) ++ v) ++ w ≡ a ++ ((n ∷ v) ++ w)
+regroup a v w n = simp append-assoc
+
+bytes-parts : (g n : ℕ) (m : Message) (l : List View) → length l ≡ n
+    → (frontBytes (kindOf m) g n ++ viewsBytes l) ++ (length (numbersOf m) ∷ numbersBytes (numbersOf m)) ≡ bytesOf g m l
+unfolding bytesOf
+bytes-parts g n m l e =
+    rw (← e) (regroup (kindOf m ∷ digits 4 g) (viewsBytes l) (length (numbersOf m) ∷ numbersBytes (numbersOf m)) (length l))
+
+pub length-frame : (f : Frame) → length (f .views .at) ≡ maxViews → f .views .count ≤ maxViews
+    → length (frameBytes f) ≡ 7 + 5 * f .views .count + 8 * length (numbersOf (f .message))
+length-frame f z h =
+    length-bytes (f .view .0) (f .message) (listOf (f .views))
+    ∙ ap (λ (n : ℕ). 7 + 5 * n + 8 * length (numbersOf (f .message))) (length-take-le (f .views .count) (f .views .at) (omega arith))
+
+-- ---- the parts stored
+
+-- kind, identifier and count, stored one behind the other
+pub front-stored : (kind g n : ℕ) (b c : List ℕ) → 6 ≤ length b → c ≡ put (set b 0 kind) 1 4 g → set c 5 n ≡ overwritten (frontBytes kind g n) b
+front-stored kind g n b c h e =
+    let one : set b 0 kind ≡ overwritten (kind ∷ []) b = byte-seam [] b 0 kind refl (omega arith) in
+    let two : put (set b 0 kind) 1 4 g ≡ overwritten (kind ∷ digits 4 g) b =
+    ap (λ (x : List ℕ). put x 1 4 g) one ∙ number-seam (kind ∷ []) b 1 4 g refl (omega arith)
+    in
+    ap (λ (x : List ℕ). set x 5 n) (e ∙ two) ∙ byte-seam (kind ∷ digits 4 g) b 5 n (omega (arith, length-digits 4 g)) (omega arith)
+
+-- the count k of numbers and the number x, if there is one, stored from a place on
+pub numbers-stored : (m : Message) (at k x : ℕ) (b c : List ℕ) → k ≡ length (numbersOf m) → x ≡ numberOf m → at + 1 + 8 * k ≤ length b
+    → c ≡ put (set b at k) (at + 1) (8 * k) x
+    → c ≡ take at b ++ ((length (numbersOf m) ∷ numbersBytes (numbersOf m)) ++ drop (at + (1 + 8 * length (numbersOf m))) b)
+numbers-stored m at k x b c p q h e =
+    let d = take at b in
+    let ld : length d ≡ at = length-take-le at b (omega arith) in
+    let start : overwritten d b ≡ b = rw ld (take-append-drop at b) in
+    let one : set b at k ≡ overwritten (d ++ k ∷ []) b = ap (λ (y : List ℕ). set y at k) (sym start) ∙ byte-seam d b at k ld (omega arith) in
+    let l1 : length (d ++ k ∷ []) ≡ at + 1 = length-append d (k ∷ []) ∙ omega arith in
+    let two : put (set b at k) (at + 1) (8 * k) x ≡ overwritten ((d ++ k ∷ []) ++ digits (8 * k) x) b =
+    ap (λ (y : List ℕ). put y (at + 1) (8 * k) x) one ∙ number-seam (d ++ k ∷ []) b (at + 1) (8 * k) x l1 h
+    in
+    rw (numbers-digits m, ← p, ← q)
+    (e ∙ two ∙ ap (λ (y : List ℕ). overwritten y b) (append-assoc d (k ∷ []) (digits (8 * k) x))
+    ∙ part-whole (k ∷ digits (8 * k) x) b at (1 + 8 * k) (omega arith) (omega (arith, length-digits (8 * k) x)))
+
+-- the three parts stored one behind the other: b1 after the front, b2 after the views
+pub frame-stored : (g n : ℕ) (m : Message) (l : List View) (b b1 b2 b3 : List ℕ) → length l ≡ n
+    → b1 ≡ overwritten (frontBytes (kindOf m) g n) b
+    → b2 ≡ take 6 b1 ++ (viewsBytes l ++ drop (6 + 5 * n) b1)
+    → b3 ≡ take (6 + 5 * n) b2 ++ ((length (numbersOf m) ∷ numbersBytes (numbersOf m)) ++ drop (6 + 5 * n + (1 + 8 * length (numbersOf m))) b2)
+    → b3 ≡ overwritten (bytesOf g m l) b
+frame-stored g n m l b b1 b2 b3 e p q r =
+    let f = frontBytes (kindOf m) g n in
+    let w = length (numbersOf m) ∷ numbersBytes (numbersOf m) in
+    let lv : length (viewsBytes l) ≡ 5 * n = length-viewsBytes l ∙ ap (λ (k : ℕ). 5 * k) e in
+    let two : b2 ≡ overwritten (f ++ viewsBytes l) b =
+    q ∙ ap (λ (x : List ℕ). take 6 x ++ (viewsBytes l ++ drop (6 + 5 * n) x)) p
+    ∙ part-seam f (viewsBytes l) b 6 (5 * n) (length-front (kindOf m) g n) lv
+    in
+    let lt : length (f ++ viewsBytes l) ≡ 6 + 5 * n = length-append f (viewsBytes l) ∙ omega (arith, length-front (kindOf m) g n, lv) in
+    r ∙ ap (λ (x : List ℕ). take (6 + 5 * n) x ++ (w ++ drop (6 + 5 * n + (1 + 8 * length (numbersOf m))) x)) two
+    ∙ part-seam (f ++ viewsBytes l) w b (6 + 5 * n) (1 + 8 * length (numbersOf m)) lt (omega (arith, length-numbers m))
+    ∙ ap (λ (x : List ℕ). overwritten x b) (bytes-parts g n m l e)
+
+-- ---- what each verdict says
+
+-- a frame that can be written has no more views than places
+pub frame-few : (f : Frame) → frameVerdict f ≡ Accepted → f .views .count ≤ maxViews
+unfolding frameVerdict
+frame-few f e = views-few _ _ (need-accepted _ _ _ e .0)
+
+pub wrote-refused : (f : Frame) (b : List ℕ) (r : Refusal) → frameVerdict f ≡ Refused r → Wrote f b b (record { verdict = Refused r; length = 0 })
+unfolding writeVerdict writtenOf leaves
+wrote-refused f b r e =
+    let v : writeVerdict f (length b) ≡ Refused r = then-refused r _ e in
+    record { reply = rw v; buffer = rw v }
+
+pub wrote-short : (f : Frame) (b : List ℕ) → frameVerdict f ≡ Accepted → length b < length (frameBytes f)
+    → Wrote f b b (record { verdict = Refused BufferTooShort; length = 0 })
+unfolding writeVerdict writtenOf leaves
+wrote-short f b e h =
+    let v : writeVerdict f (length b) ≡ Refused BufferTooShort = then-accepted _ e ∙ need-unmet _ _ (lt-leb _ _ h) in
+    record { reply = rw v; buffer = rw v }
+
+pub wrote-whole : (f : Frame) (b exit : List ℕ) (n : ℕ) → frameVerdict f ≡ Accepted → exit ≡ overwritten (frameBytes f) b → n ≡ length (frameBytes f) → n ≤ length b
+    → Wrote f b exit (record { verdict = Accepted; length = n })
+unfolding writeVerdict writtenOf leaves
+wrote-whole f b exit n e p q h =
+    let room : length (frameBytes f) ≤ length b = rw q at h in
+    let v : writeVerdict f (length b) ≡ Accepted = then-accepted _ e ∙ need-met _ _ (le-leb _ _ room) in
+    record { reply = rw (v, q); buffer = rw (v, p) }

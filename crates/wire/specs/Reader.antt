@@ -1,0 +1,101 @@
+-- The reader: the message at the front of bytes, or the first refusal, 32 to 34 as the bytes come, then 35 to 37, and 38 above it.
+use mathlib.Core.Bool.{Bool, true, false, cond}
+use mathlib.Core.List.{List, [], _∷_}
+use Prim.Native.Nat.{ℕ, zero, suc, _+_, _*_, _%_}
+use lib.Dec.{eqb, leb}
+use lib.ListN.{length, getD}
+use Rattle.numbers.specs.Number.{get}
+use Rattle.views.specs.declared.View.{View}
+use Rattle.views.specs.declared.refusal.Refusal.{Refusal}
+use Rattle.views.specs.declared.refusal.Refusal.the-variants.{EndsEarly, UnknownKind, SectionCount, BytesLeftOver}
+use Rattle.views.specs.declared.refusal.Verdict.{Verdict}
+use Rattle.views.specs.declared.refusal.Verdict.the-variants.{Accepted, Refused}
+use Rattle.views.specs.Refusals.{need}
+use Rattle.views.specs.Lists.{placed}
+use Rattle.wire.specs.declared.Message.{Message}
+use Rattle.wire.specs.declared.Message.the-variants.{Client, Info, Registered, Told}
+use Rattle.wire.specs.declared.Frame.{Frame}
+use Rattle.wire.specs.declared.Reading.{Reading}
+use Rattle.wire.specs.Format.{isKnown, viewsAllowed, numbersAllowed, contentOf}
+
+-- ---- where the parts stand
+
+abbrev pub kindIn : List ℕ → ℕ
+kindIn b = getD b 0 0
+
+abbrev pub viewCount : List ℕ → ℕ
+viewCount b = getD b 5 0
+
+-- the count of numbers stands behind the views
+abbrev pub numbersPlace : List ℕ → ℕ
+numbersPlace b = 6 + 5 * viewCount b
+
+abbrev pub numberCount : List ℕ → ℕ
+numberCount b = getD b (numbersPlace b) 0
+
+-- the message ends here
+abbrev pub endOf : List ℕ → ℕ
+endOf b = numbersPlace b + 1 + 8 * numberCount b
+
+-- the view at a place
+abbrev pub viewIn : List ℕ → ℕ → View
+viewIn b at = record { id = record { 0 = get b at 4 }; set = getD b (at + 4) 0 }
+
+-- n views from a place on
+unfoldable pub viewsIn : List ℕ → ℕ → ℕ → List View
+viewsIn b at zero = []
+viewsIn b at (suc n) = viewIn b at ∷ viewsIn b (at + 5) n
+
+-- the number that the message carries, 0 for none
+unfoldable pub numberIn : List ℕ → ℕ
+numberIn b = get b (numbersPlace b + 1) (8 * numberCount b)
+
+-- the message of a kind with a number
+unfoldable pub messageOf : ℕ → ℕ → Message
+messageOf kind x = cond (eqb kind 1) (Client x) (cond (eqb kind 2) Info (cond (eqb kind 3) Registered (Told (x % 256))))
+
+-- ---- the verdicts
+
+-- as the bytes come
+unfoldable pub scanOf : List ℕ → Verdict
+scanOf b =
+    need (leb 1 (length b)) EndsEarly (
+    need (isKnown (kindIn b)) UnknownKind (
+    need (leb 6 (length b)) EndsEarly (
+    need (viewsAllowed (kindIn b) (viewCount b)) SectionCount (
+    need (leb (numbersPlace b + 1) (length b)) EndsEarly (
+    need (numbersAllowed (kindIn b) (numberCount b)) SectionCount (
+    need (leb (endOf b) (length b)) EndsEarly Accepted))))))
+
+-- over the whole message
+abbrev pub wholeOf : List ℕ → Verdict
+wholeOf b = contentOf (kindIn b) (viewsIn b 6 (viewCount b)) (numberIn b)
+
+-- ---- what is read
+
+-- a refusal gives its number only
+abbrev pub noFrame : Frame
+noFrame = record { view = record { 0 = 0 }; message = Registered; views = placed [] }
+
+abbrev pub refused : Refusal → Reading
+refused r = record { verdict = Refused r; taken = 0; frame = noFrame }
+
+abbrev pub frameIn : List ℕ → Frame
+frameIn b = record {
+  view = record { 0 = get b 1 4 };
+  message = messageOf (kindIn b) (numberIn b);
+  views = placed (viewsIn b 6 (viewCount b));
+}
+
+-- r if accepted, else the refusal
+unfoldable pub given : Verdict → Reading → Reading
+given Accepted r = r
+given (Refused x) r = refused x
+
+-- the message at the front of the bytes, and how many bytes it took
+unfoldable pub readFront : List ℕ → Reading
+readFront b = given (scanOf b) (given (wholeOf b) (record { verdict = Accepted; taken = endOf b; frame = frameIn b }))
+
+-- the bytes as one message
+unfoldable pub readOf : List ℕ → Reading
+readOf b = given (readFront b .verdict) (given (need (leb (length b) (readFront b .taken)) BytesLeftOver Accepted) (readFront b))

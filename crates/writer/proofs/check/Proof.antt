@@ -1,0 +1,46 @@
+-- The count of views is tested first; then the content decides.
+use mathlib.Core.Path.{sym, ap, _∙_}
+use Prim.Native.Nat.{ℕ}
+use borrow.Author.Tests.{not-true, not-false}
+use borrow.Author.Needs.{needs}
+use Rattle.wire.specs.Format.{viewsAllowed}
+use Rattle.wire.specs.Writer.{frameVerdict}
+use Rattle.wire.proofs.VerdictLaws.{need-met, need-unmet}
+use Rattle.writer.proofs.check.Statement.{statement}
+use Rattle.writer.proofs.check.Tie as tie
+
+kind-requires : tie.Need-kind-requires
+kind-requires c κs = search needs
+
+views-allowed-requires : tie.Need-views-allowed-requires
+views-allowed-requires c κs = search needs
+
+returns : tie.Need-returns
+unfolding frameVerdict
+returns c =
+    let a = c .before .before .before .before .args in
+    sym (need-unmet _ _ (ap (λ (k : ℕ). viewsAllowed k (a .f .views .count)) (sym (c .before .before .kind .ensures)) ∙ sym (c .before .views-allowed .ensures) ∙ not-true _ (c .if1 .taken)))
+
+number-requires : tie.Need-number-requires
+number-requires c κs = search needs
+
+content-requires : tie.Need-content-requires
+content-requires c κs = search needs
+
+returns-2 : tie.Need-returns-2
+unfolding frameVerdict
+returns-2 c =
+    let a = c .before .before .before .before .before .before .args in
+    let kind = c .before .before .before .before .kind in
+    rw (kind .ensures, c .before .number .ensures) at (c .content .ensures) ∙ sym (need-met _ _ (ap (λ (k : ℕ). viewsAllowed k (a .f .views .count)) (sym (kind .ensures)) ∙ sym (c .before .before .before .views-allowed .ensures) ∙ not-false _ (c .before .before .if1 .left)))
+
+pub check-spec : {M : Type 1} → statement M
+check-spec =
+    tie.close
+    (tie.spec
+    kind-requires
+    views-allowed-requires
+    returns
+    number-requires
+    content-requires
+    returns-2)
