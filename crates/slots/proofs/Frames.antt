@@ -1,0 +1,105 @@
+-- The frame of a slot is its entry's message: the same wire message, the same views, and so the same bytes.
+use mathlib.Core.Path.{_≡_, refl, ap₂, _∙_}
+use mathlib.Core.Bool.{true, cond}
+use mathlib.Core.List.{List, [], _∷_}
+use Prim.Native.Nat.{ℕ, _+_, _%_, _≤_, _<_, min}
+use native.Mathlib.Omega.{arith}
+use borrow.Author.Tests.{leb-true}
+use lib.Dec.{eqb, leb}
+use lib.ListN.{length}
+use Rattle.views.specs.declared.View.{View}
+use Rattle.views.specs.Limits.{maxViews}
+use Rattle.views.specs.Sets.{both}
+use Rattle.views.specs.Lists.{listOf}
+use Rattle.wire.specs.declared.Message.{Message as Carried}
+use Rattle.wire.specs.declared.Message.the-variants.{Info}
+use Rattle.wire.specs.Format.{isKnown, bytesOf}
+use Rattle.wire.specs.Reader.{viewsIn, messageOf}
+use Rattle.wire.specs.Writer.{frameBytes}
+use Rattle.wire.proofs.ReaderLaws.{list-viewsIn, length-viewsIn}
+use Rattle.wire.proofs.TripMessages.{both-first, both-second, Kind, kind-of-known}
+use Rattle.rules.specs.Data.{Message, client, registered, told}
+use Rattle.rules.specs.Alone.{viewsOf, carriedOf, messageBytes, infoOf}
+use Rattle.slots.specs.Slots.{kindIn, numberIn, countIn, infoIn, messageIn, slotFits}
+use Rattle.slots.specs.Frames.{framed, frameAt}
+
+-- the slot at a place can be sent as it stands: it fits, and a told's number is a byte, as the frame's is
+pub record EntryOk (b : List ℕ) (at : ℕ) : Type 0 where
+  pub fits : slotFits b at ≡ true
+  pub told : kindIn b at ≡ 4 → numberIn b at < 256
+
+-- ---- the message of a kind, over plain numbers and lists
+
+-- as a slot holds it
+abbrev held : ℕ → ℕ → List View → Message
+held k x l = cond (eqb k 1) (client x) (cond (eqb k 2) (infoOf l) (cond (eqb k 3) registered (told x)))
+
+info-carried : (l : List View) → Info ≡ carriedOf (infoOf l)
+info-carried [] = refl
+info-carried (v ∷ l) = refl
+
+info-views : (l : List View) → 1 ≤ length l → l ≡ viewsOf (infoOf l)
+info-views [] h = absurd (omega arith)
+info-views (v ∷ l) h = refl
+
+held-carried : (k x : ℕ) (l : List View) → Kind k → (k ≡ 4 → x < 256) → messageOf k x ≡ carriedOf (held k x l)
+unfolding messageOf
+held-carried k x l Kind.client t = refl
+held-carried k x l Kind.info t = info-carried l
+held-carried k x l Kind.registered t = refl
+held-carried k x l Kind.told t = let h = t refl in let e : x % 256 ≡ x = omega arith in rw e
+
+-- n views of an info, none of any other kind
+held-views : (b : List ℕ) (at k x n : ℕ) → Kind k → (k ≡ 2 → 1 ≤ n) → (k ≡ 2 → n ≤ maxViews)
+    → viewsIn b at (cond (eqb k 2) n 0) ≡ viewsOf (held k x (viewsIn b at (min n maxViews)))
+unfolding viewsIn
+held-views b at k x n Kind.client l h = refl
+held-views b at k x n Kind.info l h =
+    let p = l refl in
+    let q = h refl in
+    let e : min n maxViews ≡ n = omega arith in
+    rw e (info-views (viewsIn b at n) (omega (arith, length-viewsIn b at n)))
+held-views b at k x n Kind.registered l h = refl
+held-views b at k x n Kind.told l h = refl
+
+-- ---- what a slot that fits says
+
+slot-kind : (b : List ℕ) (at : ℕ) → slotFits b at ≡ true → Kind (kindIn b at)
+unfolding slotFits
+slot-kind b at e = kind-of-known (kindIn b at) (both-first (isKnown (kindIn b at)) _ e)
+
+info-counted : (k n : ℕ) → cond (eqb k 2) (both (leb 1 n) (leb n maxViews)) true ≡ true → k ≡ 2 → both (leb 1 n) (leb n maxViews) ≡ true
+info-counted k n e i = rw i at e
+
+slot-count : (b : List ℕ) (at : ℕ) → slotFits b at ≡ true → kindIn b at ≡ 2 → (1 ≤ countIn b at) × (countIn b at ≤ maxViews)
+unfolding slotFits
+slot-count b at e i =
+    let n = countIn b at in
+    let c = info-counted (kindIn b at) n (both-second (isKnown (kindIn b at)) _ e) i in
+    (leb-true 1 n (both-first (leb 1 n) (leb n maxViews) c), leb-true n maxViews (both-second (leb 1 n) (leb n maxViews) c))
+
+few-framed : (k n : ℕ) → (k ≡ 2 → n ≤ maxViews) → Kind k → cond (eqb k 2) n 0 ≤ maxViews
+few-framed k n h Kind.client = omega arith
+few-framed k n h Kind.info = h refl
+few-framed k n h Kind.registered = omega arith
+few-framed k n h Kind.told = omega arith
+
+-- ---- the frame
+
+module _ (b : List ℕ) (at g : ℕ) (ok : EntryOk b at) where
+  kind : Kind (kindIn b at)
+  kind = slot-kind b at (ok .fits)
+
+  pub frame-carried : frameAt b at g .message ≡ carriedOf (messageIn b at)
+  unfolding frameAt messageIn
+  frame-carried = held-carried (kindIn b at) (numberIn b at) (infoIn b at) kind (ok .told)
+
+  pub frame-views : listOf (frameAt b at g .views) ≡ viewsOf (messageIn b at)
+  unfolding frameAt messageIn infoIn
+  frame-views =
+      list-viewsIn b (at + 11) (framed b at) (few-framed (kindIn b at) (countIn b at) (λ i. slot-count b at (ok .fits) i .1) kind)
+      ∙ held-views b (at + 11) (kindIn b at) (numberIn b at) (countIn b at) kind (λ i. slot-count b at (ok .fits) i .0) (λ i. slot-count b at (ok .fits) i .1)
+
+  pub frame-message : frameBytes (frameAt b at g) ≡ messageBytes g (messageIn b at)
+  unfolding frameAt
+  frame-message = ap₂ (λ (m : Carried) (l : List View). bytesOf g m l) frame-carried frame-views

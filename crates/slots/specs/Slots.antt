@@ -1,0 +1,72 @@
+-- Queue entries and inward items as bytes: what stands at a place. A queue is a count byte and slots of one size; only the first slots, as many as
+-- the count says, are used.
+use mathlib.Core.Bool.{Bool, true, false, cond}
+use mathlib.Core.List.{List, [], _∷_}
+use Prim.Native.Nat.{ℕ, zero, suc, _+_, _*_, min}
+use lib.Dec.{eqb, leb}
+use lib.ListN.{getD}
+use Rattle.numbers.specs.Number.{get}
+use Rattle.views.specs.declared.View.{View}
+use Rattle.views.specs.Limits.{maxViews}
+use Rattle.views.specs.Sets.{both}
+use Rattle.wire.specs.Format.{isKnown}
+use Rattle.wire.specs.Reader.{viewsIn}
+use Rattle.rules.specs.Data.{Message, client, registered, told, Entry, entry, Item, item}
+use Rattle.rules.specs.Alone.{infoOf}
+
+-- ---- an entry: sender 1 byte, kind 1, number 8, count of views 1, 32 places for views of 5
+
+abbrev pub slotSize : ℕ
+slotSize = 171
+
+abbrev pub kindIn : List ℕ → ℕ → ℕ
+kindIn b at = getD b (at + 1) 0
+
+abbrev pub numberIn : List ℕ → ℕ → ℕ
+numberIn b at = get b (at + 2) 8
+
+abbrev pub countIn : List ℕ → ℕ → ℕ
+countIn b at = getD b (at + 10) 0
+
+unfoldable pub infoIn : List ℕ → ℕ → List View
+infoIn b at = viewsIn b (at + 11) (min (countIn b at) maxViews)
+
+-- 1 client, 2 info, 3 registered, 4 told
+unfoldable pub messageIn : List ℕ → ℕ → Message
+messageIn b at =
+    cond (eqb (kindIn b at) 1) (client (numberIn b at))
+    (cond (eqb (kindIn b at) 2) (infoOf (infoIn b at))
+    (cond (eqb (kindIn b at) 3) registered (told (numberIn b at))))
+
+abbrev pub entryIn : List ℕ → ℕ → Entry
+entryIn b at = entry (getD b at 0) (messageIn b at)
+
+-- n entries from a place on
+unfoldable pub entriesIn : List ℕ → ℕ → ℕ → List Entry
+entriesIn b at zero = []
+entriesIn b at (suc n) = entryIn b at ∷ entriesIn b (at + slotSize) n
+
+-- the queue with its count at c and its slots from s on
+abbrev pub queueIn : List ℕ → ℕ → ℕ → List Entry
+queueIn b c s = entriesIn b s (getD b c 0)
+
+-- ---- an inward item: sender 1 byte, entry number 8
+
+abbrev pub itemSize : ℕ
+itemSize = 9
+
+abbrev pub itemIn : List ℕ → ℕ → Item ℕ
+itemIn b at = item (getD b at 0) (get b (at + 1) 8)
+
+unfoldable pub itemsIn : List ℕ → ℕ → ℕ → List (Item ℕ)
+itemsIn b at zero = []
+itemsIn b at (suc n) = itemIn b at ∷ itemsIn b (at + itemSize) n
+
+-- ---- what only bytes can hold: an entry of unknown kind, an info's count beyond its places
+
+unfoldable pub slotFits : List ℕ → ℕ → Bool
+slotFits b at = both (isKnown (kindIn b at)) (cond (eqb (kindIn b at) 2) (both (leb 1 (countIn b at)) (leb (countIn b at) maxViews)) true)
+
+unfoldable pub slotsFit : List ℕ → ℕ → ℕ → Bool
+slotsFit b at zero = true
+slotsFit b at (suc n) = both (slotFits b at) (slotsFit b (at + slotSize) n)
