@@ -1,6 +1,7 @@
 // The reader, over any bytes of any length.
 use views::View;
 use views::ViewId;
+use views::limits;
 use views::list::Views;
 use views::refusal::Refusal;
 use views::refusal::Verdict;
@@ -69,7 +70,7 @@ pub fn load_views(b: &[u8], from: usize, n: usize) -> Views
         id: ViewId(0),
         set: 0,
     };
-    let mut at = [none; 32];
+    let mut at = [none; limits::VIEWS];
     let mut i = 0;
     while i < n {
         let v = load_view(b, from + 5 * i);
@@ -95,7 +96,7 @@ pub fn refuse(r: Refusal) -> Reading
             message: Message::Registered,
             views: Views {
                 count: 0,
-                at: [none; 32],
+                at: [none; limits::VIEWS],
             },
         },
     }

@@ -1,20 +1,25 @@
 -- What the code works in steps, put together: bytes that go down one at a time, an info stored part by part, a frame loaded part by part.
 use mathlib.Core.Path.{_≡_, sym, ap, _∙_}
+use mathlib.Core.Bool.{Bool, true, false, cond}
 use mathlib.Core.List.{List, _++_}
 use Prim.Native.Nat.{ℕ, _+_, _-_, _*_, _%_, _<_, _≤_}
 use native.Mathlib.Numerals.{add-one}
 use native.Mathlib.Omega.{arith}
-use borrow.Author.Tests.{eq-eqb, ne-eqb}
+use borrow.Author.Tests.{eq-eqb, ne-eqb, leb-true}
+use lib.Dec.{eqb, leb}
+use Rattle.views.specs.Sets.{both}
+use Rattle.wire.specs.Format.{isKnown}
 use lib.ListN.{length, getD, set, take, drop, length-drop}
 use lib.Seq.{paste-suc, drop-paste, getD-drop}
 use Rattle.views.specs.declared.View.{View}
+use Rattle.views.proofs.SetLaws.{both-true}
 use Rattle.views.specs.declared.list.Views.{Views}
 use Rattle.views.specs.Limits.{maxViews}
 use Rattle.views.specs.Lists.{placed}
 use Rattle.wire.specs.declared.Message.{Message}
 use Rattle.wire.specs.Format.{viewsBytes}
 use Rattle.wire.specs.Reader.{viewsIn, messageOf}
-use Rattle.slots.specs.Slots.{kindIn, numberIn, countIn}
+use Rattle.slots.specs.Slots.{kindIn, numberIn, countIn, slotFits}
 use Rattle.slots.specs.Changes.{moved, storeViews, storeInfo}
 use Rattle.slots.specs.Frames.{framed, frameAt}
 
@@ -60,3 +65,11 @@ pub frame-loaded : (b : List ℕ) (at g n x : ℕ) (m : Message) (l : Views) →
     → record { view = record { 0 = g }; message = m; views = l } ≡ frameAt b at g
 unfolding frameAt
 frame-loaded b at g n x m l p q r s = rw (r, s, p, q)
+
+few-framed : (info : Bool) (n : ℕ) → cond info (both (leb 1 n) (leb n maxViews)) true ≡ true → cond info n 0 ≤ maxViews
+few-framed false n e = omega arith
+few-framed true n e = leb-true n maxViews (both-true (leb 1 n) (leb n maxViews) e .1)
+
+pub fits-framed : (b : List ℕ) (at : ℕ) → slotFits b at ≡ true → framed b at ≤ maxViews
+unfolding slotFits
+fits-framed b at e = few-framed (eqb (kindIn b at) 2) (countIn b at) (both-true (isKnown (kindIn b at)) _ e .1)

@@ -5,16 +5,14 @@ use views::View;
 use views::ViewId;
 use views::list::Views;
 use wire::Frame;
-use wire::Message;
 ghost use mathlib.Core.Path.{_≡_};
-ghost use mathlib.Core.List.{_∷_};
-ghost use Prim.Native.Nat.{ℕ, _+_, _*_, _≤_, _<_};
+ghost use Prim.Native.Nat.{_+_, _*_, _≤_, _<_};
 ghost use lib.ListN.{length, getD};
 ghost use Rattle.views.specs.Limits.{maxViews};
 ghost use Rattle.views.specs.Lists.{listOf};
-ghost use Rattle.slots.specs.Slots.{slotSize, itemSize, slotFits, slotsFit, itemIn};
+ghost use Rattle.slots.specs.Slots.{slotSize, itemSize, slotFits};
 ghost use Rattle.slots.specs.Changes.{moved, storeView, storeShort, storeInfo, popped, gained};
-ghost use Rattle.slots.specs.Frames.{frameAt};
+ghost use Rattle.slots.specs.Frames.{framed, frameAt};
 
 // Bytes of an entry's slot, and of an inward item.
 pub const SLOT: usize = 171;
@@ -104,7 +102,7 @@ pub fn slot_fits(b: &[u8], at: usize) -> bool
 
 // The message in the slot at a place, sent in a view, as the writer takes it.
 pub fn load_frame(b: &[u8], at: usize, view: ViewId) -> Frame
-    requires { ⌜ (at + slotSize ≤ length (now b)) × (getD (now b) (at + 10) 0 ≤ maxViews) ⌝ }
+    requires { ⌜ (at + slotSize ≤ length (now b)) × (framed (now b) at ≤ maxViews) ⌝ }
     ensures { λ r. ⌜ r ≡ frameAt (now (b .entry)) at (view .0) ⌝ }
 {
     let kind = b[at + 1];

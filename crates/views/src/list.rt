@@ -14,7 +14,7 @@ ghost use Rattle.views.specs.Choice.{choiceOf};
 
 pub struct Views {
     pub count: usize,
-    pub at: [View; 32],
+    pub at: [View; limits::VIEWS],
 }
 
 pub enum Lookup {
@@ -62,7 +62,7 @@ pub fn single(v: View) -> Views
         id: ViewId(0),
         set: 0,
     };
-    let mut at = [none; 32];
+    let mut at = [none; limits::VIEWS];
     at[0] = v;
     Views { count: 1, at }
 }
@@ -149,7 +149,7 @@ pub fn union(a: Views, b: Views) -> Views
         id: ViewId(0),
         set: 0,
     };
-    let mut at = [none; 32];
+    let mut at = [none; limits::VIEWS];
     let mut k = 0;
     let mut i = 0;
     let mut j = 0;
@@ -184,7 +184,7 @@ pub fn prune(list: Views, floor: ViewId) -> Views
         id: ViewId(0),
         set: 0,
     };
-    let mut at = [none; 32];
+    let mut at = [none; limits::VIEWS];
     let mut k = 0;
     let mut i = 0;
     while i < n {

@@ -1,5 +1,5 @@
 -- The writer: a frame's bytes put together from their parts, and what each verdict says of the call.
-use mathlib.Core.Path.{_≡_, refl, sym, ap, _∙_}
+use mathlib.Core.Path.{_≡_, refl, sym, ap, ap₂, _∙_}
 use mathlib.Core.List.{List, [], _∷_, _++_, append-assoc, append-nil}
 use Prim.Native.Nat.{ℕ, _+_, _*_, _<_, _≤_}
 use native.Mathlib.Omega.{arith}
@@ -66,13 +66,13 @@ length-frame f z h =
 -- ---- the parts stored
 
 -- kind, identifier and count, stored one behind the other
-pub front-stored : (kind g n : ℕ) (b c : List ℕ) → 6 ≤ length b → c ≡ put (set b 0 kind) 1 4 g → set c 5 n ≡ overwritten (frontBytes kind g n) b
-front-stored kind g n b c h e =
+pub front-stored : (kind g n k : ℕ) (b c : List ℕ) → 6 ≤ length b → c ≡ put (set b 0 kind) 1 4 g → k ≡ n → set c 5 k ≡ overwritten (frontBytes kind g n) b
+front-stored kind g n k b c h e p =
     let one : set b 0 kind ≡ overwritten (kind ∷ []) b = byte-seam [] b 0 kind refl (omega arith) in
     let two : put (set b 0 kind) 1 4 g ≡ overwritten (kind ∷ digits 4 g) b =
     ap (λ (x : List ℕ). put x 1 4 g) one ∙ number-seam (kind ∷ []) b 1 4 g refl (omega arith)
     in
-    ap (λ (x : List ℕ). set x 5 n) (e ∙ two) ∙ byte-seam (kind ∷ digits 4 g) b 5 n (omega (arith, length-digits 4 g)) (omega arith)
+    ap₂ (λ (x : List ℕ) (y : ℕ). set x 5 y) (e ∙ two) p ∙ byte-seam (kind ∷ digits 4 g) b 5 n (omega (arith, length-digits 4 g)) (omega arith)
 
 -- the count k of numbers and the number x, if there is one, stored from a place on
 pub numbers-stored : (m : Message) (at k x : ℕ) (b c : List ℕ) → k ≡ length (numbersOf m) → x ≡ numberOf m → at + 1 + 8 * k ≤ length b

@@ -3,6 +3,8 @@ use mathlib.Core.Path.{_≡_}
 use mathlib.Core.Logic.{⊎-elim}
 use native.Mathlib.Omega.{arith}
 use borrow.Author.Needs.{needs}
+use Prim.Native.Nat.{_+_, _≤_}
+use Rattle.views.specs.Limits.{maxViews}
 use Rattle.slots.specs.Frames.{framed}
 use Rattle.slots.proofs.CodeLaws.{framed-info, framed-other, frame-loaded}
 use Rattle.slots.proofs.load_frame.Statement.{statement}
@@ -35,13 +37,16 @@ shared-slice-read-n : tie.Need-shared-slice-read-n
 shared-slice-read-n c = search needs
 
 cast-n : tie.Need-cast-n
-cast-n c = search needs
+cast-n c = omega (arith, c .shared-slice-known3 .given (c .before .before .before .before .before .args .at + 10))
 
 add-load-views : tie.Need-add-load-views
 add-load-views c = search needs
 
 load-views-requires : tie.Need-load-views-requires
-load-views-requires c κs = ⊎-elim (λ w. omega arith) (λ w. omega arith) (c .if1 .came)
+load-views-requires c κs =
+    let pre = c .before .before .before .before .pre in
+    let few : c .if1 .n ≤ maxViews = rw (used c) (pre .1) in
+    omega arith
 
 message-requires : tie.Need-message-requires
 message-requires c κs = search needs

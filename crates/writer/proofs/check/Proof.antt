@@ -1,9 +1,10 @@
 -- The count of views is tested first; then the content decides.
-use mathlib.Core.Path.{sym, ap, _∙_}
+use mathlib.Core.Path.{sym, ap, ap₂, _∙_}
 use Prim.Native.Nat.{ℕ}
 use borrow.Author.Tests.{not-true, not-false}
 use borrow.Author.Needs.{needs}
-use Rattle.wire.specs.Format.{viewsAllowed}
+use Rattle.views.specs.Lists.{listOf}
+use Rattle.wire.specs.Format.{viewsAllowed, contentOf}
 use Rattle.wire.specs.Writer.{frameVerdict}
 use Rattle.wire.proofs.VerdictLaws.{need-met, need-unmet}
 use Rattle.writer.proofs.check.Statement.{statement}
@@ -32,7 +33,7 @@ unfolding frameVerdict
 returns-2 c =
     let a = c .before .before .before .before .before .before .args in
     let kind = c .before .before .before .before .kind in
-    rw (kind .ensures, c .before .number .ensures) at (c .content .ensures) ∙ sym (need-met _ _ (ap (λ (k : ℕ). viewsAllowed k (a .f .views .count)) (sym (kind .ensures)) ∙ sym (c .before .before .before .views-allowed .ensures) ∙ not-false _ (c .before .before .if1 .left)))
+    c .content .ensures ∙ ap₂ (λ (k x : ℕ). contentOf k (listOf (a .f .views)) x) (kind .ensures) (c .before .number .ensures) ∙ sym (need-met _ _ (ap (λ (k : ℕ). viewsAllowed k (a .f .views .count)) (sym (kind .ensures)) ∙ sym (c .before .before .before .views-allowed .ensures) ∙ not-false _ (c .before .before .if1 .left)))
 
 pub check-spec : {M : Type 1} → statement M
 check-spec =

@@ -1,6 +1,4 @@
 -- Each store stands just behind the bytes so far.
-use mathlib.Core.Path.{_≡_}
-use Prim.Native.Nat.{_%_}
 use native.Mathlib.Omega.{arith}
 use borrow.Author.Needs.{needs}
 use lib.ListN.{length-set}
@@ -29,8 +27,7 @@ same-length c = simp length-set (omega (arith, simp length-set at (c .before .be
 returns : tie.Need-returns
 returns c =
     let a = c .before .before .before .before .before .before .args in
-    let e : a .n % 256 ≡ a .n = omega arith in
-    rw e (front-stored (a .kind) (a .view .0) (a .n) (a .b .now) _ (omega arith) (c .before .before .put-number .ensures))
+    front-stored (a .kind) (a .view .0) (a .n) _ (a .b .now) _ (omega arith) (c .before .before .put-number .ensures) (omega arith)
 
 pub store-front-spec : {M : Type 1} → statement M
 store-front-spec =

@@ -3,8 +3,8 @@ use mathlib.Core.Path.{_≡_, refl, sym, _∙_}
 use Prim.Native.Nat.{_-_, _≤_, min}
 use native.Mathlib.Omega.{arith}
 use borrow.Author.Tests.{eq-eqb, ne-eqb}
-use lib.ListN.{length, drop, length-take, length-map, drop-of-length-le}
-use Rattle.views.specs.Lists.{listOf}
+use lib.ListN.{length, getD, drop, length-take, length-map, drop-of-length-le}
+use Rattle.views.specs.Lists.{noView, listOf}
 use Rattle.wire.specs.Format.{someEmpty}
 use Rattle.wire.proofs.FormatLaws.{empty-turn}
 use Rattle.wire.proofs.format.some_empty.Statement.{statement}
@@ -37,7 +37,7 @@ returns : tie.Need-returns Inv-loop μ-loop
 returns c =
     let a = c .before .before .before .before .before .before .args in
     let l = c .before .before .before .before .loop in
-    sym (l .inv .2 ∙ rw (empty-turn (a .t1 .count) (l .i) (a .t1 .at) (omega (arith, length-take (a .t1 .count) (a .t1 .at))) (omega arith), eq-eqb _ _ (c .if1 .taken)))
+    sym (l .inv .2 ∙ rw (empty-turn (a .t1 .count) (l .i) (a .t1 .at) (omega (arith, length-take (a .t1 .count) (a .t1 .at))) (omega arith), eq-eqb (getD (a .t1 .at) (l .i) noView .set) 0 (c .if1 .taken)))
 
 add-i : tie.Need-add-i Inv-loop μ-loop
 add-i c = omega arith
@@ -49,7 +49,7 @@ loop-again : tie.Need-loop-again Inv-loop μ-loop
 loop-again c =
     let a = c .before .before .before .before .before .before .args in
     let l = c .before .before .before .before .loop in
-    (l .inv .0, l .inv .1, l .inv .2 ∙ rw (empty-turn (a .t1 .count) (l .i) (a .t1 .at) (omega (arith, length-take (a .t1 .count) (a .t1 .at))) (omega arith), ne-eqb _ _ (c .if1 .left)))
+    (l .inv .0, l .inv .1, l .inv .2 ∙ rw (empty-turn (a .t1 .count) (l .i) (a .t1 .at) (omega (arith, length-take (a .t1 .count) (a .t1 .at))) (omega arith), ne-eqb (getD (a .t1 .at) (l .i) noView .set) 0 (c .if1 .left)))
 
 returns-2 : tie.Need-returns-2 Inv-loop μ-loop
 unfolding someEmpty
