@@ -1,0 +1,6 @@
+-- Laws of books in bytes.
+pub mod CodeLaws
+pub mod LayoutLaws
+pub mod Fits
+pub mod Parts
+pub mod RecordLaws
