@@ -12,3 +12,9 @@ run:
 
 clean:
 	rm -rf target
+
+# The plain reference of the group and the message vectors' answers, each against its own cases.
+.PHONY: reference
+reference:
+	python3 tests/reference_cases.py
+	python3 tests/wire_vectors.py check

@@ -73,9 +73,10 @@ pub fn all_noted(n: u8, members: u8, noted: u8) -> bool
 }
 
 // The told count of a member, 0 beyond the last.
-pub fn told_by(tolds: [u8; 8], q: u8) -> u8
-    ensures { λ r. ⌜ r ≡ getD tolds q 0 ⌝ }
+pub fn told_by(tolds: [u8; 8], member: Member) -> u8
+    ensures { λ r. ⌜ r ≡ getD tolds (member .0) 0 ⌝ }
 {
+    let q = member.0;
     if q < limits::MEMBERS {
         let i = q as usize;
         return tolds[i];
@@ -90,7 +91,7 @@ pub fn all_told(n: u8, members: u8, tolds: [u8; 8], count: Position) -> bool
     let mut q = 0;
     while q < n {
         if set::contains(members, Member(q)) {
-            if told_by(tolds, q) <= count.0 {
+            if told_by(tolds, Member(q)) <= count.0 {
                 return false;
             }
         }

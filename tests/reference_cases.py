@@ -1,0 +1,228 @@
+"""The cases that the specification gives, asked of the reference.
+
+    python3 tests/reference_cases.py
+"""
+
+from reference import Group, Refused, bench, read_message, start
+
+KIND = {
+    "create": 1, "join": 2, "pass": 3, "order": 4, "deliver": 5, "attempt": 6,
+    "register": 7, "send": 8, "hand": 9, "tell": 10, "safe": 11, "collect": 12,
+}
+
+
+def bench_replies(script):
+    replies = []
+    bench(script.encode().splitlines(keepends=True), replies.append)
+    return "".join(replies)
+
+
+def do(group, name, *operands):
+    return group.step(KIND[name], *operands)
+
+
+def all_ok(group, *steps):
+    for step in steps:
+        assert do(group, *step) == ("ok",), step
+
+
+def exchange_infos(group, identifier, members):
+    """The members join the view and each takes the info of each."""
+    for m in members:
+        all_ok(group, ("join", m, identifier), ("pass", m), ("order", m, identifier))
+    for m in members:
+        for _ in members:
+            all_ok(group, ("deliver", m))
+
+
+def made_and_joined(first_set, identifier, members_set):
+    """A group of five whose new view has every info."""
+    group = Group(5, first_set, 32)
+    all_ok(group, ("create", identifier, members_set))
+    members = [m for m in range(5) if members_set >> m & 1]
+    exchange_infos(group, identifier, members)
+    return group
+
+
+def reads(hexadecimal):
+    try:
+        return read_message(bytes.fromhex(hexadecimal))
+    except Refused as refusal:
+        return refusal.number
+
+
+def whole_case():
+    script = (
+        "group 2 3\nsend 0 5\npass 0\norder 0 0\ndeliver 1\nhand 1\nattempt 1\n"
+    )
+    replies = (
+        "ok\nsend 0 0 5\nok\nok\nok\nhand 1 0 0 5\nrefused 19\n"
+    )
+    assert bench_replies(script) == replies
+    assert bench_replies(script[:-1]) == replies
+
+
+def three_of_five_pass():
+    group = made_and_joined(0b11111, 1, 0b11100)
+    assert do(group, "attempt", 2) == ("attempt", 2, 1, 0b11100)
+
+
+def two_of_five_fail():
+    group = made_and_joined(0b11111, 1, 0b00011)
+    assert do(group, "attempt", 0) == ("refused", 21)
+
+
+def an_open_view_fails():
+    group = made_and_joined(0b11111, 1, 0b00111)
+    assert do(group, "attempt", 2) == ("attempt", 2, 1, 0b00111)
+    all_ok(group, ("create", 2, 0b11100))
+    exchange_infos(group, 2, [2, 3, 4])
+    # Server 2 has start settled and {0,1,2} open; its info told 3 and 4 so.
+    for m in [2, 3, 4]:
+        assert group.member[m]["settled"] == (0, 0b11111)
+        assert group.member[m]["open"] == [(1, 0b00111)]
+        assert do(group, "attempt", m) == ("refused", 21)
+
+
+def settled_by_all(members_set):
+    """A group of five in which all of the view collected it."""
+    group = made_and_joined(0b11111, 1, members_set)
+    members = [m for m in range(5) if members_set >> m & 1]
+    for m in members:
+        assert do(group, "attempt", m)[0] == "attempt"
+        assert do(group, "register", m) == ("register", m, 1)
+        all_ok(group, ("pass", m), ("order", m, 1))
+    for m in members:
+        for _ in members:
+            all_ok(group, ("deliver", m))
+        all_ok(group, ("collect", m))
+    return group
+
+
+def two_of_three_pass():
+    group = settled_by_all(0b00111)
+    all_ok(group, ("create", 2, 0b00011))
+    exchange_infos(group, 2, [0, 1])
+    assert do(group, "attempt", 0) == ("attempt", 0, 2, 0b00011)
+    # The same test, asked of a group that starts with {0,1,2}.
+    group = made_and_joined(0b00111, 1, 0b00011)
+    assert do(group, "attempt", 1) == ("attempt", 1, 1, 0b00011)
+
+
+def two_of_four_fail():
+    group = settled_by_all(0b01111)
+    all_ok(group, ("create", 2, 0b00011))
+    exchange_infos(group, 2, [0, 1])
+    assert do(group, "attempt", 0) == ("refused", 21)
+    group = made_and_joined(0b01111, 1, 0b00011)
+    assert do(group, "attempt", 1) == ("refused", 21)
+
+
+def collect_in_the_first_view():
+    group = Group(5, 0b11111, 32)
+    assert do(group, "collect", 0) == ("refused", 30)
+
+
+def same_identifier_twice():
+    group = Group(5, 0b11111, 32)
+    all_ok(group, ("create", 1, 0b00111))
+    assert do(group, "create", 1, 0b00111) == ("refused", 8)
+    assert do(group, "create", 0, 0b00111) == ("refused", 8)
+
+
+def registered_reads():
+    assert reads("03 00000000 00 00") == (0, ("registered",))
+
+
+def info_reads():
+    assert reads("02 00000001 01 00000000 07 00") == (1, ("info", (0, 0b111), []))
+
+
+def cut_and_lengthened():
+    assert reads("02 00000001 01 00000000 07") == 32
+    assert reads("02 00000001 01 00000000 07 00 00") == 38
+
+
+def ordered_128_then_16():
+    group = Group(1, 0b1, 32)
+    for entry in range(128):
+        assert do(group, "send", 0, entry) == ("send", 0, 0, entry)
+        all_ok(group, ("pass", 0), ("order", 0, 0))
+    assert do(group, "send", 0, 128) == ("send", 0, 0, 128)
+    all_ok(group, ("pass", 0))
+    assert do(group, "order", 0, 0) == ("refused", 16)
+    for entry in range(128):
+        all_ok(group, ("deliver", 0))
+    assert do(group, "deliver", 0) == ("refused", 18)
+
+
+def list_of_length_1():
+    group = Group(5, 0b11111, 1)
+    assert do(group, "create", 0, 0b1) == ("refused", 8)
+    assert do(group, "create", 1, 0b1) == ("refused", 9)
+
+
+def start_refusals():
+    assert start(0, 1, 8) == ("refused", 1)
+    assert start(9, 0, 0) == ("refused", 1)
+    assert start(2, 0, 0) == ("refused", 2)
+    assert start(2, 4, 0) == ("refused", 2)
+    assert start(2, 3, 0) == ("refused", 3)
+    assert start(2, 3, 33) == ("refused", 3)
+
+
+def bench_lines():
+    """What is unreadable, and what is only refused."""
+    assert bench_replies("") == ""
+    assert bench_replies("\n") == "refused 40\n"
+    before = "pass 0\ngroup 9 1\ngroup 256 1\ngroup 2 4\ngroup 2 3\n"
+    assert bench_replies(before) == (
+        "refused 40\nrefused 1\nrefused 40\nrefused 2\nok\n"
+    )
+    running = "group 2 3\n"
+    for line, reply in [
+        ("pass 255", "refused 6"), ("pass 256", "refused 40"),
+        ("pass 2", "refused 6"), ("join 9 99", "refused 6"),
+        ("create 1 255", "refused 7"), ("create 1 256", "refused 40"),
+        ("create 4294967295 1", "ok"), ("create 4294967296 1", "refused 40"),
+        ("send 0 18446744073709551615", "send 0 0 18446744073709551615"),
+        ("send 0 18446744073709551616", "refused 40"),
+        ("send 0 05", "refused 40"), ("send 0 0", "send 0 0 0"),
+        ("send 0 +5", "refused 40"), ("send  0 5", "refused 40"),
+        (" pass 0", "refused 40"), ("pass 0 ", "refused 40"),
+        ("pass", "refused 40"), ("pass 0 0", "refused 40"),
+        ("PASS 0", "refused 40"), ("3 0", "refused 40"), ("pass\t0", "refused 40"),
+        ("pass 0\r", "refused 40"), ("x" * 64, "refused 40"), ("x" * 200, "refused 40"),
+        ("group 3 8", "refused 2"), ("group 3 7", "ok"),
+    ]:
+        replies = []
+        bench([running.encode(), line.encode()], replies.append)
+        assert replies == ["ok\n", reply + "\n"], (line, replies)
+    # A refused later group leaves the running one; an accepted one starts afresh.
+    assert bench_replies("group 2 3\nsend 0 5\ngroup 0 1\npass 0\ngroup 2 3\npass 0\n") == (
+        "ok\nsend 0 0 5\nrefused 1\nok\nok\nrefused 14\n"
+    )
+
+
+CASES = [
+    whole_case,
+    three_of_five_pass,
+    two_of_five_fail,
+    an_open_view_fails,
+    two_of_three_pass,
+    two_of_four_fail,
+    collect_in_the_first_view,
+    same_identifier_twice,
+    registered_reads,
+    info_reads,
+    cut_and_lengthened,
+    ordered_128_then_16,
+    list_of_length_1,
+    start_refusals,
+    bench_lines,
+]
+
+if __name__ == "__main__":
+    for case in CASES:
+        case()
+    print(len(CASES), "cases hold")
