@@ -1,26 +1,26 @@
--- Each step's verdict as its row of tests in the record's own terms, from left to right.
+-- Each step's verdict as its row of tests in the record's own terms, from left to right: of the queues it asks no more than their lengths.
 use mathlib.Core.Path.{_≡_, refl, ap, _∙_}
-use mathlib.Core.Bool.{Bool, true, false, cond, not}
+use mathlib.Core.Bool.{Bool, true, false, cond, not, _||_}
 use mathlib.Core.Option.{none, some}
-use mathlib.Core.List.{List, _∷_}
+use mathlib.Core.List.{List, [], _∷_}
 use Prim.Native.Nat.{ℕ, zero, suc, min}
-use native.Mathlib.Nat.{zero-min, min-zero, suc-min-suc}
 use lib.Dec.{eqb, ltb, leb·zero, leb·suc-zero, leb·suc-suc}
-use lib.ListN.{take, drop, replicate, getD}
+use lib.ListN.{length, take, drop, getD, length-take, length-replicate}
 use Rattle.views.specs.declared.View.{View}
 use Rattle.views.specs.declared.refusal.Refusal.{Refusal}
 use Rattle.views.specs.declared.refusal.Refusal.the-variants.{NotInSet, NotAboveCarrier, NoCarrierView, NotAboveClient, InfoMissing, TestFailed, NoClientView, AlreadyRegistered, OutgoingFull, NoneToHand, ClientNotCarrier, NothingNewToTell, NoneToReport, ToldTooLow, NotAboveSettled, RegistrationMissing}
 use Rattle.views.specs.declared.refusal.Verdict.{Verdict}
 use Rattle.views.specs.declared.refusal.Verdict.the-variants.{Accepted, Refused}
+use Rattle.views.specs.Limits.{maxOutgoing}
 use Rattle.views.specs.Refusals.{need}
-use Rattle.views.specs.Sets.{both, has, one}
+use Rattle.views.specs.Sets.{both, has}
 use Rattle.views.specs.Lists.{idOf, listOf}
-use Rattle.rules.specs.Data.{Item, item, Result, need as needed, withView, withFirst, rank}
+use Rattle.rules.specs.Data.{Entry, Item, item, Result, need as needed, withView, withFirst, rank}
 use Rattle.rules.specs.Member.{everyOf, all, isAbove, passes, joins, attempts, registers, sends, hands, tells, reports, collects}
 use Rattle.books.specs.declared.Seat.{Seat}
 use Rattle.books.specs.declared.Book.{Book}
-use Rattle.books.specs.Records.{seated}
-use Rattle.steps.specs.Turns.{verdictOf, bookOf, stepped, roomFor}
+use Rattle.books.specs.Records.{seated, meaning}
+use Rattle.steps.specs.Turns.{verdictOf, itemsOf, stepped}
 
 -- ---- a row and a step by its verdict
 
@@ -57,73 +57,73 @@ module _ {A : Type 0} where
   at-view : (s : Seat) (r : Refusal) (f : View → Result A) → verdictOf (withView (seated s) r f) ≡ need (s .there) r (verdictOf (f (s .view)))
   at-view s r f = at-seat (s .there) (s .view) r f
 
-  -- of n that are all x, the first behind k
-  at-first : {B : Type 0} (n k : ℕ) (x : B) (r : Refusal) (f : B → List B → Result A)
-      → verdictOf (withFirst (drop k (replicate n x)) r f) ≡ need (ltb k n) r (verdictOf (f x (drop (suc k) (replicate n x))))
+  -- the first of a list behind k, where the verdict is the same whatever it is
+  at-first : {B : Type 0} (l : List B) (k : ℕ) (r : Refusal) (f : B → List B → Result A) (v : Verdict) → ((x : B) (rest : List B) → verdictOf (f x rest) ≡ v)
+      → verdictOf (withFirst (drop k l) r f) ≡ need (ltb k (length l)) r v
   unfolding withFirst need
-  at-first zero zero x r f = refl
-  at-first zero (suc k) x r f = rw (leb·suc-zero (suc k))
-  at-first (suc n) zero x r f = rw (leb·suc-suc zero n, leb·zero n)
-  at-first (suc n) (suc k) x r f = rw (leb·suc-suc (suc k) n) (at-first n k x r f)
-
-take-same : {B : Type 0} (k n : ℕ) (x : B) → take k (replicate n x) ≡ replicate (min k n) x
-take-same zero n x = rw (zero-min n)
-take-same (suc k) zero x = rw (min-zero (suc k))
-take-same (suc k) (suc n) x = rw (suc-min-suc k n, take-same k n x)
+  at-first [] zero r f v e = refl
+  at-first [] (suc k) r f v e = rw (leb·suc-zero (suc k))
+  at-first (x ∷ l) zero r f v e = rw (leb·suc-suc zero (length l), leb·zero (length l)) (e x l)
+  at-first (x ∷ l) (suc k) r f v e = rw (leb·suc-suc (suc k) (length l)) (at-first l k r f v e)
 
 -- ---- the rows
-
-pub join-row : (p : ℕ) (v : View) (h : Book)
-    → verdictOf (joins p v (bookOf h 0 0)) ≡ need (has (v .set) p) NotInSet (need (isAbove (idOf v) (seated (h .carrier))) NotAboveCarrier Accepted)
-unfolding joins
-join-row p v h = at-need _ _ _ ∙ ap (need _ _) (at-need _ _ _)
-
-pub attempt-row : (n : ℕ) (h : Book)
-    → verdictOf (attempts one n 0 (bookOf h 0 0)) ≡ need (h .carrier .there) NoCarrierView (
-    need (isAbove (idOf (h .carrier .view)) (seated (h .client))) NotAboveClient (
-    need (everyOf n (h .carrier .view) (has (h .infos))) InfoMissing (
-    need (all (passes one (h .carrier .view)) (h .settled ∷ listOf (h .opens))) TestFailed Accepted)))
-unfolding attempts
-attempt-row n h = at-view (h .carrier) _ _ ∙ ap (need _ _) (at-need _ _ _ ∙ ap (need _ _) (at-need _ _ _ ∙ ap (need _ _) (at-need _ _ _)))
-
-pub register-row : (h : Book) (out : ℕ)
-    → verdictOf (registers 0 (bookOf h out 0)) ≡ need (h .client .there) NoClientView (
-    need (not (h .registered)) AlreadyRegistered (need (roomFor h out) OutgoingFull Accepted))
-unfolding registers roomFor
-register-row h out = at-view (h .client) _ _ ∙ ap (need _ _) (at-need _ _ _ ∙ ap (need _ _) (at-need _ _ _))
-
-pub send-row : (h : Book) (out : ℕ) → verdictOf (sends 0 0 (bookOf h out 0)) ≡ need (h .client .there) NoClientView (need (roomFor h out) OutgoingFull Accepted)
-unfolding sends roomFor
-send-row h out = at-view (h .client) _ _ ∙ ap (need _ _) (at-need _ _ _)
-
-pub hand-row : (h : Book) (own : ℕ) → verdictOf (hands 0 (bookOf h 0 own)) ≡ need (h .client .there) NoClientView (need (ltb (h .handed .0) own) NoneToHand Accepted)
-unfolding hands
-hand-row h own = at-view (h .client) _ _ ∙ ap (need _ _) (at-first own (h .handed .0) (item 0 0) _ _)
 
 -- the client view is the carrier view
 abbrev pub together : Book → Bool
 together h = eqb (rank (seated (h .client))) (rank (seated (h .carrier)))
 
-pub tell-row : (h : Book) (out : ℕ)
-    → verdictOf (tells 0 (bookOf h out 0)) ≡ need (h .client .there) NoClientView (
-    need (together h) ClientNotCarrier (
-    need (both (not (eqb (h .handed .0) (h .told .0))) (not (eqb (h .handed .0) 0))) NothingNewToTell (need (roomFor h out) OutgoingFull Accepted)))
-unfolding tells roomFor
-tell-row h out = at-view (h .client) _ _ ∙ ap (need _ _) (at-need _ _ _ ∙ ap (need _ _) (at-need _ _ _ ∙ ap (need _ _) (at-need _ _ _)))
+-- the inward list that the turns ask of the rules is as long as they say
+pub items-length : (n : ℕ) → length (itemsOf n) ≡ n
+items-length n = length-replicate n (item 0 0)
 
-pub safe-row : (n : ℕ) (h : Book) (own : ℕ)
-    → verdictOf (reports n 0 (bookOf h 0 own)) ≡ need (h .client .there) NoClientView (
-    need (together h) ClientNotCarrier (
-    need (ltb (h .reported .0) (min (h .handed .0) own)) NoneToReport (
-    need (everyOf n (h .client .view) (λ q. ltb (h .reported .0) (getD (h .tolds) q 0))) ToldTooLow Accepted)))
-unfolding reports
-safe-row n h own =
-    rw (take-same {B = Item ℕ} (h .handed .0) own (item 0 0))
-    (at-view (h .client) _ _ ∙ ap (need _ _) (at-need _ _ _ ∙ ap (need _ _) (at-first (min (h .handed .0) own) (h .reported .0) (item 0 0) _ _ ∙ ap (need _ _) (at-need _ _ _))))
+-- there are n outgoing, and one more can be queued or would not be
+abbrev pub room : Book → ℕ → Bool
+room h n = not (together h) || ltb n maxOutgoing
 
-pub collect-row : (n : ℕ) (h : Book)
-    → verdictOf (collects n (bookOf h 0 0)) ≡ need (h .carrier .there) NoCarrierView (
-    need (ltb (idOf (h .settled)) (idOf (h .carrier .view))) NotAboveSettled (
-    need (everyOf n (h .carrier .view) (has (h .registrations))) RegistrationMissing Accepted))
-unfolding collects
-collect-row n h = at-view (h .carrier) _ _ ∙ ap (need _ _) (at-need _ _ _ ∙ ap (need _ _) (at-need _ _ _))
+module _ (p : ℕ) (h : Book) (out : List Entry) (own new : List (Item ℕ)) where
+  pub join-row : (v : View)
+      → verdictOf (joins p v (meaning h out own new)) ≡ need (has (v .set) p) NotInSet (need (isAbove (idOf v) (seated (h .carrier))) NotAboveCarrier Accepted)
+  unfolding joins
+  join-row v = at-need _ _ _ ∙ ap (need _ _) (at-need _ _ _)
+
+  pub attempt-row : (weight : ℕ → ℕ) (n : ℕ)
+      → verdictOf (attempts weight n p (meaning h out own new)) ≡ need (h .carrier .there) NoCarrierView (
+      need (isAbove (idOf (h .carrier .view)) (seated (h .client))) NotAboveClient (
+      need (everyOf n (h .carrier .view) (has (h .infos))) InfoMissing (
+      need (all (passes weight (h .carrier .view)) (h .settled ∷ listOf (h .opens))) TestFailed Accepted)))
+  unfolding attempts
+  attempt-row weight n = at-view (h .carrier) _ _ ∙ ap (need _ _) (at-need _ _ _ ∙ ap (need _ _) (at-need _ _ _ ∙ ap (need _ _) (at-need _ _ _)))
+
+  pub register-row : verdictOf (registers p (meaning h out own new)) ≡ need (h .client .there) NoClientView (
+      need (not (h .registered)) AlreadyRegistered (need (room h (length out)) OutgoingFull Accepted))
+  unfolding registers
+  register-row = at-view (h .client) _ _ ∙ ap (need _ _) (at-need _ _ _ ∙ ap (need _ _) (at-need _ _ _))
+
+  pub send-row : (x : ℕ) → verdictOf (sends p x (meaning h out own new)) ≡ need (h .client .there) NoClientView (need (room h (length out)) OutgoingFull Accepted)
+  unfolding sends
+  send-row x = at-view (h .client) _ _ ∙ ap (need _ _) (at-need _ _ _)
+
+  pub hand-row : verdictOf (hands p (meaning h out own new)) ≡ need (h .client .there) NoClientView (need (ltb (h .handed .0) (length own)) NoneToHand Accepted)
+  unfolding hands
+  hand-row = at-view (h .client) _ _ ∙ ap (need _ _) (at-first own (h .handed .0) _ _ _ (λ x rest. refl))
+
+  pub tell-row : verdictOf (tells p (meaning h out own new)) ≡ need (h .client .there) NoClientView (
+      need (together h) ClientNotCarrier (
+      need (both (not (eqb (h .handed .0) (h .told .0))) (not (eqb (h .handed .0) 0))) NothingNewToTell (need (room h (length out)) OutgoingFull Accepted)))
+  unfolding tells
+  tell-row = at-view (h .client) _ _ ∙ ap (need _ _) (at-need _ _ _ ∙ ap (need _ _) (at-need _ _ _ ∙ ap (need _ _) (at-need _ _ _)))
+
+  pub safe-row : (n : ℕ) → verdictOf (reports n p (meaning h out own new)) ≡ need (h .client .there) NoClientView (
+      need (together h) ClientNotCarrier (
+      need (ltb (h .reported .0) (min (h .handed .0) (length own))) NoneToReport (
+      need (everyOf n (h .client .view) (λ q. ltb (h .reported .0) (getD (h .tolds) q 0))) ToldTooLow Accepted)))
+  unfolding reports
+  safe-row n =
+      rw (← length-take (h .handed .0) own)
+      (at-view (h .client) _ _ ∙ ap (need _ _) (at-need _ _ _ ∙ ap (need _ _) (at-first (take (h .handed .0) own) (h .reported .0) _ _ _ (λ x rest. at-need _ _ _))))
+
+  pub collect-row : (n : ℕ) → verdictOf (collects n (meaning h out own new)) ≡ need (h .carrier .there) NoCarrierView (
+      need (ltb (idOf (h .settled)) (idOf (h .carrier .view))) NotAboveSettled (
+      need (everyOf n (h .carrier .view) (has (h .registrations))) RegistrationMissing Accepted))
+  unfolding collects
+  collect-row n = at-view (h .carrier) _ _ ∙ ap (need _ _) (at-need _ _ _ ∙ ap (need _ _) (at-need _ _ _))
