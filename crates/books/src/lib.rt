@@ -37,31 +37,39 @@ pub struct Book {
 // Where each thing stands: docs/LAYOUT.md has the table.
 pub const SIZE: usize = 5234;
 
-const SETTLED: usize = 2;
+pub const SETTLED: usize = 2;
 
-const CARRIER: usize = 7;
+pub const CARRIER: usize = 7;
 
-const CLIENT: usize = 13;
+pub const CLIENT: usize = 13;
 
-const REGISTERED: usize = 19;
+pub const REGISTERED: usize = 19;
 
-const HANDED: usize = 20;
+pub const HANDED: usize = 20;
 
-const TOLD: usize = 21;
+pub const TOLD: usize = 21;
 
-const REPORTED: usize = 22;
+pub const REPORTED: usize = 22;
 
-const TAKEN: usize = 23;
+pub const TAKEN: usize = 23;
 
-const INFOS: usize = 24;
+pub const INFOS: usize = 24;
 
-const REGISTRATIONS: usize = 25;
+pub const REGISTRATIONS: usize = 25;
 
-const TOLDS: usize = 26;
+pub const TOLDS: usize = 26;
 
-const SIDE: usize = 34;
+pub const SIDE: usize = 34;
 
-const OPENS: usize = 35;
+pub const OPENS: usize = 35;
+
+pub const MEMBERS: usize = 0;
+
+pub const OUTGOING: usize = 191;
+
+pub const INWARD: usize = 2928;
+
+pub const APART: usize = 1153;
 
 // A view or none at a place.
 pub fn load_seat(b: &[u8], at: usize) -> Seat
