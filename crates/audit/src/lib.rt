@@ -6,7 +6,6 @@ use views::ViewId;
 use views::limits;
 use views::list;
 use views::list::Views;
-use views::set;
 use wire::format;
 ghost use mathlib.Core.Bool.{true};
 ghost use mathlib.Core.Path.{_≡_};
@@ -30,10 +29,10 @@ ghost use Rattle.audit.specs.Parts.{recordSound, takenFits, positionsFit
 pub fn set_fits(n: u8, v: View) -> bool
     ensures { λ r. ⌜ r ≡ setFits n v ⌝ }
 {
-    if set::empty(v.set) {
+    if sets::empty(v.set) {
         return false;
     }
-    !set::beyond(v.set, n)
+    !sets::beyond(v.set, n)
 }
 
 // The same of a view or none.

@@ -7,7 +7,6 @@ use views::ViewId;
 use views::limits;
 use views::list;
 use views::list::Views;
-use views::set;
 ghost use mathlib.Core.Path.{_≡_};
 ghost use mathlib.Core.Bool.{not, _||_};
 ghost use mathlib.Core.List.{_∷_};
@@ -49,8 +48,8 @@ pub fn all_noted(n: u8, members: u8, noted: u8) -> bool
 {
     let mut q = 0;
     while q < n {
-        if set::contains(members, Member(q)) {
-            if !set::contains(noted, Member(q)) {
+        if sets::contains(members, Member(q)) {
+            if !sets::contains(noted, Member(q)) {
                 return false;
             }
         }
@@ -77,7 +76,7 @@ pub fn all_told(n: u8, members: u8, tolds: [u8; 8], count: Position) -> bool
 {
     let mut q = 0;
     while q < n {
-        if set::contains(members, Member(q)) {
+        if sets::contains(members, Member(q)) {
             if told_by(tolds, Member(q)) <= count.0 {
                 return false;
             }
@@ -91,14 +90,14 @@ pub fn all_told(n: u8, members: u8, tolds: [u8; 8], count: Position) -> bool
 pub fn passes_all(v: View, settled: View, opens: Views) -> bool
     ensures { λ r. ⌜ r ≡ all (passes one v) (settled ∷ listOf opens) ⌝ }
 {
-    if !set::majority(v.set, settled.set) {
+    if !sets::majority(v.set, settled.set) {
         return false;
     }
     let n = list::used(opens.count);
     let mut i = 0;
     while i < n {
         let w = opens.at[i];
-        if !set::majority(v.set, w.set) {
+        if !sets::majority(v.set, w.set) {
             return false;
         }
         i += 1;

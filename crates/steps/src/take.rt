@@ -6,7 +6,6 @@ use views::View;
 use views::list;
 use views::list::Lookup;
 use views::list::Views;
-use views::set;
 ghost use mathlib.Core.Path.{_≡_};
 ghost use Prim.Native.Nat.{_<_, _≤_};
 ghost use Rattle.views.specs.Limits.{maxMembers, maxOpen};

@@ -12,7 +12,6 @@ use views::list;
 use views::list::Views;
 use views::refusal::Refusal;
 use views::refusal::Verdict;
-use views::set;
 ghost use mathlib.Core.Path.{_≡_};
 ghost use Prim.Native.Nat.{_≤_};
 ghost use Rattle.steps.specs.Turns.{joinTurn, attemptTurn, registerTurn, sendTurn, handTurn, tellTurn, safeTurn, collectTurn, openedTo, attemptedAt, roomFor};
@@ -21,7 +20,7 @@ ghost use Rattle.steps.specs.Turns.{joinTurn, attemptTurn, registerTurn,
 pub fn join(p: Member, v: View, h: Book) -> Stepped
     ensures { λ r. ⌜ r ≡ joinTurn (p .0) v h ⌝ }
 {
-    if !set::contains(v.set, p) {
+    if !sets::contains(v.set, p) {
         return refuse(Refusal::NotInSet, h);
     }
     let at = h.carrier;

@@ -1,8 +1,7 @@
-// The three sorts, the view, and what every layer above says of them: limits, refusals, sets of members, lists of views.
+// The three sorts, the view, and what every layer above says of them: limits, refusals, lists of views.
 pub mod limits;
 pub mod list;
 pub mod refusal;
-pub mod set;
 
 // A view identifier, of the report's set G.
 pub struct ViewId(pub u32);

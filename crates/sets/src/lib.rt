@@ -1,8 +1,8 @@
 // Sets of members as bytes, bit 0 for member 0, and the majority test.
-use crate::Member;
-use crate::limits;
+use views::Member;
+use views::limits;
 ghost use mathlib.Core.Path.{_≡_};
 ghost use Rattle.views.specs.Sets.{has, isEmpty, isBeyond, inCommon, majorityOf};
 
 // The member is in the set.
 pub fn contains(set: u8, member: Member) -> bool

@@ -1,11 +1,11 @@
--- `views::set::contains` meets its contract: a byte has no digit past its eight, and the others are read by a shift.
+-- `sets::contains` meets its contract: a byte has no digit past its eight, and the others are read by a shift.
 use mathlib.Core.Path.{refl, sym}
 use borrow.Author.Needs.{needs}
 use Rattle.views.specs.Limits.{maxMembers}
 use Rattle.views.specs.Sets.{has}
 use Rattle.views.proofs.SetLaws.{has-past}
-use Rattle.views.proofs.set.contains.Statement.{statement}
-use Rattle.views.proofs.set.contains.Tie as tie
+use Rattle.sets.proofs.contains.Statement.{statement}
+use Rattle.sets.proofs.contains.Tie as tie
 
 returns : tie.Need-returns
 returns c = sym (has-past (c .before .args .set) maxMembers (c .before .args .member .0) (c .before .fits .set .fits) (c .if1 .taken))

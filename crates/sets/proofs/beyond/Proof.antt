@@ -1,10 +1,10 @@
--- `views::set::beyond` meets its contract: a byte is beyond no bound of eight or more, and below that a shift leaves what is beyond.
+-- `sets::beyond` meets its contract: a byte is beyond no bound of eight or more, and below that a shift leaves what is beyond.
 use mathlib.Core.Path.{sym}
 use borrow.Author.Needs.{needs}
 use Rattle.views.specs.Limits.{maxMembers}
 use Rattle.views.proofs.SetLaws.{beyond-past, beyond-shift}
-use Rattle.views.proofs.set.beyond.Statement.{statement}
-use Rattle.views.proofs.set.beyond.Tie as tie
+use Rattle.sets.proofs.beyond.Statement.{statement}
+use Rattle.sets.proofs.beyond.Tie as tie
 
 returns : tie.Need-returns
 returns c = sym (beyond-past (c .before .args .set) maxMembers (c .before .args .members) (c .before .fits .set .fits) (c .if1 .taken))

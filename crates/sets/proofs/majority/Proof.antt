@@ -1,14 +1,14 @@
--- `views::set::majority` meets its contract: the ones counted in a byte are its members, and twice eight of them fit.
+-- `sets::majority` meets its contract: the ones counted in a byte are its members, and twice eight of them fit.
 use Prim.Native.Nat.{ℕ, _*_, _<_, _^_}
 use native.Mathlib.Omega.{arith}
 use lib.Bits.{and-lt}
 use lib.Count.{ones, ones-le}
 use mir.Syntax.{w32}
 use mir.Val.{Fits}
 use Rattle.views.specs.Limits.{maxMembers}
 use Rattle.views.proofs.SetLaws.{majority-ones}
-use Rattle.views.proofs.set.majority.Statement.{statement}
-use Rattle.views.proofs.set.majority.Tie as tie
+use Rattle.sets.proofs.majority.Statement.{statement}
+use Rattle.sets.proofs.majority.Tie as tie
 
 -- of any byte
 twice : (x : ℕ) → x < 2 ^ maxMembers → Fits w32 (2 * ones x)
