@@ -4,3 +4,5 @@ pub mod LayoutLaws
 pub mod Fits
 pub mod Parts
 pub mod RecordLaws
+pub mod Behind
+pub mod QueueBooks

@@ -26,7 +26,7 @@ abbrev pub recordSize : ℕ
 recordSize = outgoingAt - settledAt
 
 -- the bytes at a place are a list, read one by one
-bytes-are : (b l : List ℕ) (at n : ℕ) → at + n ≤ length b → length l ≡ n → ((j : ℕ) → j < n → getD b (at + j) 0 ≡ getD l j 0)
+pub bytes-are : (b l : List ℕ) (at n : ℕ) → at + n ≤ length b → length l ≡ n → ((j : ℕ) → j < n → getD b (at + j) 0 ≡ getD l j 0)
     → take n (drop at b) ≡ l
 bytes-are b l at n h e s =
     let size : length (take n (drop at b)) ≡ n = length-take-le n (drop at b) (omega (arith, length-drop at b)) in
