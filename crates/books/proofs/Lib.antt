@@ -6,3 +6,4 @@ pub mod Parts
 pub mod RecordLaws
 pub mod Behind
 pub mod QueueBooks
+pub mod InwardBooks
