@@ -5,3 +5,4 @@ pub mod Lists
 pub mod Queues
 pub mod Frames
 pub mod CodeLaws
+pub mod BytesKept
