@@ -7,3 +7,4 @@ pub mod RecordLaws
 pub mod Behind
 pub mod QueueBooks
 pub mod InwardBooks
+pub mod RecordBytes
