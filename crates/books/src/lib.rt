@@ -65,6 +65,8 @@ pub const OPENS: usize = 35;
 
 pub const MEMBERS: usize = 0;
 
+pub const SELF: usize = 1;
+
 pub const OUTGOING: usize = 191;
 
 pub const INWARD: usize = 2928;

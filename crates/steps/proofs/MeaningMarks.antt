@@ -21,7 +21,7 @@ use Rattle.steps.proofs.MeaningLeft.{Leaves, queued, unqueued, joins-le
 use Rattle.steps.proofs.MeaningBooks.{join-book, attempt-book, collect-book}
 
 -- the view of a seat that has one
-seated-view : (s : Seat) (v : View) → seated s ≡ some v → v ≡ s .view
+pub seated-view : (s : Seat) (v : View) → seated s ≡ some v → v ≡ s .view
 seated-view s v e =
     ⊎-elim (λ (t : s .there ≡ true). let k : some (s .view) ≡ some v = rw t at e in cc)
     (λ (t : s .there ≡ false). let k : none ≡ some v = rw t at e in let z : _≡_ {A = ℕ} 0 1 = cc in absurd (omega arith))

@@ -1,0 +1,122 @@
+-- A step that was accepted leaves the new record stored; a refused one leaves the bytes. What a sound book's bytes are.
+use mathlib.Core.Path.{_≡_, refl, ap, _∙_}
+use mathlib.Core.Bool.{true, not, _||_}
+use mathlib.Core.List.{List}
+use Prim.Native.Nat.{ℕ, _+_, _≤_, _<_, min}
+use native.Mathlib.Omega.{arith}
+use borrow.Author.Tests.{ltb-true}
+use lib.Dec.{ltb}
+use lib.ListN.{length, getD}
+use Rattle.views.specs.declared.refusal.Refusal.{Refusal}
+use Rattle.views.specs.declared.refusal.Verdict.{Verdict}
+use Rattle.views.specs.declared.refusal.Verdict.the-variants.{Accepted, Refused}
+use Rattle.views.specs.Limits.{maxOpen, maxOutgoing}
+use Rattle.wire.proofs.ReaderLaws.{length-viewsIn}
+use Rattle.rules.specs.Data.{Result, refused, accepted, Book as Ruled}
+use Rattle.rules.specs.Member.{Done, clientIsCarrier, hasRoom}
+use Rattle.rules.proofs.TestLaws.{conditions-say}
+use Rattle.rules.proofs.Holding.{Holds, refuses, given}
+use Rattle.books.specs.declared.Book.{Book}
+use Rattle.books.specs.Places.{opensAt, bookSize}
+use Rattle.books.specs.Records.{recordIn, storeRecord}
+use Rattle.books.specs.Books.{bytesSound}
+use Rattle.books.proofs.LayoutLaws.{Layout, layout-says}
+use Rattle.steps.specs.declared.Stepped.{Stepped}
+use Rattle.steps.specs.Turns.{verdictOf, stepped}
+use Rattle.acts.specs.declared.Event.{Event}
+use Rattle.acts.specs.declared.Reply.{Reply}
+use Rattle.acts.specs.declared.Said.{Said}
+use Rattle.acts.specs.Replies.{noEvent, eventOf, replied, replyOf, left}
+use Rattle.acts.specs.Acts.{saidBytes}
+
+-- ---- a sound book's bytes
+
+pub sound-layout : (b : List ℕ) → bytesSound b ≡ true → Layout b
+unfolding bytesSound
+sound-layout b h = let (fits, _) = conditions-say _ h in layout-says b fits
+
+pub sound-size : (b : List ℕ) → bytesSound b ≡ true → length b ≡ bookSize
+sound-size b h = sound-layout b h .size
+
+-- a record read from bytes has its open views within their limit
+pub record-few : (b : List ℕ) → recordIn b .opens .count ≤ maxOpen
+unfolding recordIn
+record-few b = omega (arith, length-viewsIn b (opensAt + 1) (min (getD b opensAt 0) maxOpen))
+
+-- ---- a step and its verdict
+
+pub accepted-holds : {A : Type 0} {P : A → Type 0} (r : Result A) → Holds P r → verdictOf r ≡ Accepted → (x : A) × P x
+accepted-holds (refused r) h e = let z : _≡_ {A = ℕ} 0 1 = cc in absurd (omega arith)
+accepted-holds (accepted x) h e = (x, given h)
+
+pub stepped-verdict : (v : Verdict) (new old : Book) → stepped v new old .verdict ≡ v
+unfolding stepped
+stepped-verdict Accepted new old = refl
+stepped-verdict (Refused r) new old = refl
+
+-- what both records have, the record after the step has
+pub stepped-few : (v : Verdict) (new old : Book) → new .opens .count ≤ maxOpen → old .opens .count ≤ maxOpen → stepped v new old .book .opens .count ≤ maxOpen
+unfolding stepped
+stepped-few Accepted new old f g = f
+stepped-few (Refused r) new old f g = g
+
+-- the reply and the bytes of a commit, refused and accepted
+pub commit-refused : (v : Verdict) (x : Refusal) (e : Event) (r : Reply) (d b : List ℕ) → v ≡ Refused x → r ≡ replied (Refused x) noEvent → (r ≡ replied v e) × (b ≡ left v d b)
+unfolding replied left
+commit-refused v x e r d b t h = rw t (h, refl)
+
+pub commit-accepted : (v : Verdict) (e : Event) (h : Book) (m : Said) (c y b : List ℕ) → v ≡ Accepted → c ≡ saidBytes m b → y ≡ storeRecord c h
+    → (record { verdict = Accepted; event = e } ≡ replied v e) × (y ≡ left v (storeRecord (saidBytes m b) h) b)
+unfolding replied left
+commit-accepted v e h m c y b t f g = rw t (refl, g ∙ ap (λ (x : List ℕ). storeRecord x h) f)
+
+-- the reply and the bytes of a step whose verdict is the rule's
+pub answered : (r : Result Done) (e : Event) → Holds (λ (x : Done). eventOf (x .answer) ≡ e) r → replied (verdictOf r) e ≡ replyOf r
+unfolding replied
+answered (refused x) e h = refl
+answered (accepted x) e h = rw (given h)
+
+-- a step that the rule refuses, and one that it accepts, by the code's own arms
+pub refused-by : (r : Result Done) (x : Refusal) (d b : List ℕ) (y : Reply) → verdictOf r ≡ Refused x → y ≡ replied (Refused x) noEvent
+    → (y ≡ replyOf r) × (b ≡ left (verdictOf r) d b)
+unfolding replied left
+refused-by (refused z) x d b y e h = let k : z ≡ x = cc in rw k (h, refl)
+refused-by (accepted z) x d b y e h = let k : _≡_ {A = ℕ} 0 1 = cc in absurd (omega arith)
+
+pub accepted-by : (r : Result Done) (d b : List ℕ) (e : Event) (y : List ℕ) → verdictOf r ≡ Accepted → Holds (λ (x : Done). eventOf (x .answer) ≡ e) r → y ≡ d
+    → (record { verdict = Accepted; event = e } ≡ replyOf r) × (y ≡ left (verdictOf r) d b)
+unfolding left
+accepted-by (refused z) d b e y v h k = let i : _≡_ {A = ℕ} 0 1 = cc in absurd (omega arith)
+accepted-by (accepted z) d b e y v h k = (rw (given h), k)
+
+stored-by : (r : Result Done) (new old : Book) (c b d : List ℕ) → storeRecord c new ≡ d
+    → left (stepped (verdictOf r) new old .verdict) (storeRecord c (stepped (verdictOf r) new old .book)) b ≡ left (verdictOf r) d b
+unfolding stepped left
+stored-by (refused x) new old c b d p = refl
+stored-by (accepted x) new old c b d p = p
+
+-- a step of the record h by the rule r: its reply x and the bytes y, where d is what an accepted step leaves
+module _ (b : List ℕ) (h : Book) (loaded : h ≡ recordIn b) (r : Result Done) (new : Book → Book) (says : Book → Said) (event : Book → Event) (d : List ℕ) where
+  pub turned-verdict : (s : Stepped) → s ≡ stepped (verdictOf r) (new (recordIn b)) (recordIn b) → s .verdict ≡ verdictOf r
+  turned-verdict s t = ap (λ (z : Stepped). z .verdict) t ∙ stepped-verdict (verdictOf r) (new (recordIn b)) (recordIn b)
+
+  pub committed : (s : Stepped) → s ≡ stepped (verdictOf r) (new (recordIn b)) (recordIn b)
+      → (m : Said) → m ≡ says h → (e : Event) → e ≡ event h
+      → Holds (λ (x : Done). eventOf (x .answer) ≡ event (recordIn b)) r
+      → storeRecord (saidBytes (says (recordIn b)) b) (new (recordIn b)) ≡ d
+      → (x : Reply) (y : List ℕ) → (x ≡ replied (s .verdict) e) × (y ≡ left (s .verdict) (storeRecord (saidBytes m b) (s .book)) b)
+      → (x ≡ replyOf r) × (y ≡ left (verdictOf r) d b)
+  committed s t m f e g k p x y (i, j) =
+      let f' : m ≡ says (recordIn b) = f ∙ ap says loaded in
+      let g' : e ≡ event (recordIn b) = g ∙ ap event loaded in (
+        i ∙ ap (λ (v : Verdict). replied v e) (turned-verdict s t) ∙ ap (replied (verdictOf r)) g' ∙ answered r (event (recordIn b)) k,
+        j ∙ ap (λ (z : Stepped). left (z .verdict) (storeRecord (saidBytes m b) (z .book)) b) t
+            ∙ stored-by r (new (recordIn b)) (recordIn b) (saidBytes m b) b d (ap (λ (z : Said). storeRecord (saidBytes z b) (new (recordIn b))) f' ∙ p),
+      )
+
+-- ---- room for a message
+
+pub room-for : (b : Ruled) → hasRoom b ≡ true → clientIsCarrier b ≡ true → length (b .outgoing) < maxOutgoing
+room-for b h t =
+    let k : (not true || ltb (length (b .outgoing)) maxOutgoing) ≡ true = rw t at h in
+    ltb-true _ _ k
