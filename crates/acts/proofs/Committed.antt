@@ -1,6 +1,6 @@
 -- A step that was accepted leaves the new record stored; a refused one leaves the bytes. What a sound book's bytes are.
 use mathlib.Core.Path.{_≡_, refl, ap, _∙_}
-use mathlib.Core.Bool.{true, not, _||_}
+use mathlib.Core.Bool.{true, false, not, _||_}
 use mathlib.Core.List.{List}
 use Prim.Native.Nat.{ℕ, _+_, _≤_, _<_, min}
 use native.Mathlib.Omega.{arith}
@@ -27,7 +27,7 @@ use Rattle.acts.specs.declared.Event.{Event}
 use Rattle.acts.specs.declared.Reply.{Reply}
 use Rattle.acts.specs.declared.Said.{Said}
 use Rattle.acts.specs.Replies.{noEvent, eventOf, replied, replyOf, left}
-use Rattle.acts.specs.Acts.{saidBytes}
+use Rattle.acts.specs.Parts.{saidBytes}
 
 -- ---- a sound book's bytes
 
@@ -37,6 +37,11 @@ sound-layout b h = let (fits, _) = conditions-say _ h in layout-says b fits
 
 pub sound-size : (b : List ℕ) → bytesSound b ≡ true → length b ≡ bookSize
 sound-size b h = sound-layout b h .size
+
+-- nothing said changes nothing
+pub said-nothing : (b : List ℕ) → saidBytes (record { there = false; kind = 0; number = 0 }) b ≡ b
+unfolding saidBytes
+said-nothing b = refl
 
 -- a record read from bytes has its open views within their limit
 pub record-few : (b : List ℕ) → recordIn b .opens .count ≤ maxOpen
@@ -95,23 +100,18 @@ unfolding stepped left
 stored-by (refused x) new old c b d p = refl
 stored-by (accepted x) new old c b d p = p
 
--- a step of the record h by the rule r: its reply x and the bytes y, where d is what an accepted step leaves
-module _ (b : List ℕ) (h : Book) (loaded : h ≡ recordIn b) (r : Result Done) (new : Book → Book) (says : Book → Said) (event : Book → Event) (d : List ℕ) where
-  pub turned-verdict : (s : Stepped) → s ≡ stepped (verdictOf r) (new (recordIn b)) (recordIn b) → s .verdict ≡ verdictOf r
-  turned-verdict s t = ap (λ (z : Stepped). z .verdict) t ∙ stepped-verdict (verdictOf r) (new (recordIn b)) (recordIn b)
-
+-- a step of the record h by the rule r, stored in the bytes c: its reply x and the bytes y, where d is what an accepted step leaves
+module _ (b : List ℕ) (h : Book) (loaded : h ≡ recordIn b) (r : Result Done) (new : Book → Book) (event : Book → Event) (c d : List ℕ) where
   pub committed : (s : Stepped) → s ≡ stepped (verdictOf r) (new (recordIn b)) (recordIn b)
-      → (m : Said) → m ≡ says h → (e : Event) → e ≡ event h
+      → (e : Event) → e ≡ event h
       → Holds (λ (x : Done). eventOf (x .answer) ≡ event (recordIn b)) r
-      → storeRecord (saidBytes (says (recordIn b)) b) (new (recordIn b)) ≡ d
-      → (x : Reply) (y : List ℕ) → (x ≡ replied (s .verdict) e) × (y ≡ left (s .verdict) (storeRecord (saidBytes m b) (s .book)) b)
+      → storeRecord c (new (recordIn b)) ≡ d
+      → (x : Reply) (y : List ℕ) → (x ≡ replied (s .verdict) e) × (y ≡ left (s .verdict) (storeRecord c (s .book)) b)
       → (x ≡ replyOf r) × (y ≡ left (verdictOf r) d b)
-  committed s t m f e g k p x y (i, j) =
-      let f' : m ≡ says (recordIn b) = f ∙ ap says loaded in
-      let g' : e ≡ event (recordIn b) = g ∙ ap event loaded in (
-        i ∙ ap (λ (v : Verdict). replied v e) (turned-verdict s t) ∙ ap (replied (verdictOf r)) g' ∙ answered r (event (recordIn b)) k,
-        j ∙ ap (λ (z : Stepped). left (z .verdict) (storeRecord (saidBytes m b) (z .book)) b) t
-            ∙ stored-by r (new (recordIn b)) (recordIn b) (saidBytes m b) b d (ap (λ (z : Said). storeRecord (saidBytes z b) (new (recordIn b))) f' ∙ p),
+  committed s t e g k p x y (i, j) =
+      let v : s .verdict ≡ verdictOf r = ap (λ (z : Stepped). z .verdict) t ∙ stepped-verdict (verdictOf r) (new (recordIn b)) (recordIn b) in (
+        i ∙ ap (λ (w : Verdict). replied w e) v ∙ ap (replied (verdictOf r)) (g ∙ ap event loaded) ∙ answered r (event (recordIn b)) k,
+        j ∙ ap (λ (z : Stepped). left (z .verdict) (storeRecord c (z .book)) b) t ∙ stored-by r (new (recordIn b)) (recordIn b) c b d p,
       )
 
 -- ---- room for a message

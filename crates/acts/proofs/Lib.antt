@@ -1,2 +1,4 @@
 pub mod Committed
 pub mod SpeakLaws
+pub mod MarkLaws
+pub mod AttemptLaws

@@ -28,7 +28,8 @@ use Rattle.acts.specs.declared.Event.{Event}
 use Rattle.acts.specs.declared.Reply.{Reply}
 use Rattle.acts.specs.declared.Said.{Said}
 use Rattle.acts.specs.Replies.{noEvent, eventOf, happened, named, replied, replyOf, left}
-use Rattle.acts.specs.Acts.{selfIn, queued, queuedIf, spoken, saidBytes, registerBytes, sendBytes, tellBytes}
+use Rattle.acts.specs.Acts.{selfIn, queued, queuedIf, registerBytes, sendBytes, tellBytes}
+use Rattle.acts.specs.Parts.{spoken, saidBytes}
 use Rattle.acts.proofs.Committed.{record-few, accepted-holds, stepped-verdict, stepped-few, refused-by, accepted-by, committed, room-for}
 
 -- ---- what is said is what is queued
@@ -145,9 +146,10 @@ module _ (b : List ℕ) (h : Book) (loaded : h ≡ recordIn b) (s : Stepped) whe
         → (x ≡ replyOf (registers p (bookIn b))) × (y ≡ left (verdictOf (registers p (bookIn b))) (registerBytes b) b)
     unfolding registerBytes bookIn
     register-done m f ev g =
-        committed b h loaded (registers p (bookIn b)) registeredNow (λ (z : Book). spoken z 3 0) (λ (z : Book). happened 7 p (named (idOf (z .client .view))) 0 0) (registerBytes b)
-        s register-turned m f ev g (register-event b p)
-        (ap (λ (z : List ℕ). storeRecord z (registeredNow (recordIn b))) (said-registered (recordIn b) b))
+        committed b h loaded (registers p (bookIn b)) registeredNow (λ (z : Book). happened 7 p (named (idOf (z .client .view))) 0 0) (saidBytes m b) (registerBytes b)
+        s register-turned ev g (register-event b p)
+        (ap (λ (z : List ℕ). storeRecord z (registeredNow (recordIn b)))
+        (ap (λ (z : Said). saidBytes z b) (f ∙ ap (λ (z : Book). spoken z 3 0) loaded) ∙ said-registered (recordIn b) b))
 
   -- ---- tell
 
@@ -171,9 +173,10 @@ module _ (b : List ℕ) (h : Book) (loaded : h ≡ recordIn b) (s : Stepped) whe
         → (x ≡ replyOf (tells p (bookIn b))) × (y ≡ left (verdictOf (tells p (bookIn b))) (tellBytes b) b)
     unfolding tellBytes bookIn
     tell-done m f ev g =
-        committed b h loaded (tells p (bookIn b)) toldNow (λ (z : Book). spoken z 4 (z .handed .0)) (λ (z : Book). noEvent) (tellBytes b)
-        s tell-turned m f ev g (tell-event b p)
-        (ap (λ (z : List ℕ). storeRecord z (toldNow (recordIn b))) (said-told (recordIn b) b (recordIn b .handed .0)))
+        committed b h loaded (tells p (bookIn b)) toldNow (λ (z : Book). noEvent) (saidBytes m b) (tellBytes b)
+        s tell-turned ev g (tell-event b p)
+        (ap (λ (z : List ℕ). storeRecord z (toldNow (recordIn b)))
+        (ap (λ (z : Said). saidBytes z b) (f ∙ ap (λ (z : Book). spoken z 4 (z .handed .0)) loaded) ∙ said-told (recordIn b) b (recordIn b .handed .0)))
 
   -- ---- send: the record stays
 

@@ -1,7 +1,7 @@
 -- What each step of the member leaves in its book's bytes, where it is accepted.
 use mathlib.Core.Bool.{Bool, true, cond}
 use mathlib.Core.List.{List}
-use Prim.Native.Nat.{ℕ, _+_, _-_, _*_}
+use Prim.Native.Nat.{ℕ, _+_, _-_}
 use lib.Dec.{leb}
 use lib.ListN.{length, getD, set}
 use Rattle.views.specs.declared.View.{View}
@@ -11,14 +11,12 @@ use Rattle.views.specs.Lists.{listOf, placed}
 use Rattle.rules.specs.Data as R
 use Rattle.rules.specs.Data.{Member, Message, client, info, registered, told, ok, Result, accepted, need, after}
 use Rattle.rules.specs.Member.{Done, does, clientIsCarrier, took}
-use Rattle.slots.specs.Slots.{slotSize}
-use Rattle.slots.specs.Changes.{storeShort, storeMessage, pushed, popped, gained}
+use Rattle.slots.specs.Changes.{storeMessage, pushed, popped, gained}
 use Rattle.books.specs.declared.Book.{Book}
 use Rattle.books.specs.Places.{membersAt, selfAt, sideAt, outgoingAt, inwardAt}
 use Rattle.books.specs.Records.{recordIn, storeRecord}
 use Rattle.books.specs.Books.{bookIn}
-use Rattle.steps.specs.Turns.{bookOf, marked, joinedTo, attemptedAt, settledAs, clientTurn, infoTurn, registeredTurn, toldTurn}
-use Rattle.acts.specs.declared.Said.{Said}
+use Rattle.steps.specs.Turns.{marked, joinedTo, attemptedAt, settledAs, clientTurn, infoTurn, registeredTurn, toldTurn}
 
 -- the number of members, and the member's own number
 abbrev pub membersIn : List ℕ → ℕ
@@ -44,15 +42,6 @@ queued m b = pushed b outgoingAt (outgoingAt + 1) (selfIn b) m
 -- where the client view is the carrier view; elsewhere no message is queued
 unfoldable pub queuedIf : Bool → Message → List ℕ → List ℕ
 queuedIf t m b = cond t (queued m b) b
-
--- the same of a message without views, in numbers
-abbrev pub spoken : Book → ℕ → ℕ → Said
-spoken h kind x = record { there = clientIsCarrier (bookOf h 0 0); kind = kind; number = x }
-
-unfoldable pub saidBytes : Said → List ℕ → List ℕ
-saidBytes m b =
-    let n = getD b outgoingAt 0 in
-    cond (m .there) (set (storeShort b (outgoingAt + 1 + slotSize * n) (selfIn b) (m .kind) (m .number)) outgoingAt (n + 1)) b
 
 -- ---- 2. join: no inward list of the carrier view, one info outgoing, the record
 

@@ -5,7 +5,7 @@ use Rattle.views.specs.declared.View.{View}
 use Rattle.views.specs.declared.refusal.Verdict.{Verdict}
 use Rattle.views.specs.declared.refusal.Verdict.the-variants.{Accepted, Refused}
 use Rattle.views.specs.Lists.{noView}
-use Rattle.rules.specs.Data.{Identifier, Member, Item, item, Event as Outward, attempt, register, send, hand, safe, Answer, ok, event, refusal, Result, refused, accepted}
+use Rattle.rules.specs.Data.{Identifier, Member, item, Event as Outward, attempt, register, send, hand, safe, Answer, ok, event, refusal, Result, refused, accepted}
 use Rattle.rules.specs.Member.{Done}
 use Rattle.acts.specs.declared.Event.{Event}
 use Rattle.acts.specs.declared.Reply.{Reply}

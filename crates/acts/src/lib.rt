@@ -1,5 +1,6 @@
 // The member's steps in its book's bytes, where the book is sound. Each loads the small record, turns it by value, and writes only where the
 // step is accepted.
+pub mod mark;
 pub mod speak;
 
 use views::Member;

@@ -23,7 +23,8 @@ ghost use Rattle.books.specs.Records.{storeRecord};
 ghost use Rattle.books.specs.Books.{bookIn, bytesSound};
 ghost use Rattle.steps.specs.Turns.{verdictOf, marked};
 ghost use Rattle.acts.specs.Replies.{replied, replyOf, left, happened, named};
-ghost use Rattle.acts.specs.Acts.{selfIn, saidBytes, registerBytes, sendBytes, tellBytes, spoken};
+ghost use Rattle.acts.specs.Acts.{selfIn, registerBytes, sendBytes, tellBytes};
+ghost use Rattle.acts.specs.Parts.{saidBytes, spoken};
 
 // The message goes to the end of outgoing, if there is one.
 fn say(b: &mut [u8], m: Said)
@@ -62,6 +63,19 @@ fn commit(b: &mut [u8], s: Stepped, m: Said, e: Event) -> Reply
             }
         }
     }
+}
+
+// The same of a step that says nothing.
+pub fn keep(b: &mut [u8], s: Stepped, e: Event) -> Reply
+    requires { ⌜ (bookSize ≤ length (now b)) × (s .book .opens .count ≤ maxOpen) ⌝ }
+    ensures { λ r. ⌜ (r ≡ replied (s .verdict) e) × (now (b .exit) ≡ left (s .verdict) (storeRecord (now (b .entry)) (s .book)) (now (b .entry))) ⌝ }
+{
+    let m = Said {
+        there: false,
+        kind: 0,
+        number: 0,
+    };
+    commit(b, s, m, e)
 }
 
 // What the member says of a kind and a number: only where the client view is the carrier view.

@@ -1,7 +1,7 @@
 use Prim.Native.Nat.{_-_}
 use native.Mathlib.Omega.{arith}
 use Rattle.books.specs.Places.{outgoingAt}
-use Rattle.acts.specs.Acts.{saidBytes}
+use Rattle.acts.specs.Parts.{saidBytes}
 use borrow.Author.Needs.{needs}
 use Rattle.acts.proofs.speak.say.Statement.{statement}
 use Rattle.acts.proofs.speak.say.Tie as tie
