@@ -3,6 +3,7 @@ pub mod Flat
 pub mod Flatten
 pub mod Changes
 pub mod TestLaws
+pub mod SoundBooks
 pub mod Soundness
 pub mod Holding
 pub mod Moves
@@ -25,6 +26,7 @@ pub mod Demand3
 pub mod ListsWithin
 pub mod HeldLaws
 pub mod QueueLaws
+pub mod BookParts
 pub mod Kept
 pub mod SoundMembers
 pub mod SoundDeliver

@@ -180,10 +180,10 @@ module _ (weight : Member → ℕ) where
           → (u : View) × In u (s .views) × (idOf u ≡ w) × Most weight maxMembers (has (v .set)) (has (u .set))
       tests t w (inl e) =
           let u = b .held .settled in
-          (u, i .book p lt .held-listed u top, sym e, test-says u (all-at (passes weight v) (u ∷ b .held .opens) t u top))
+          (u, i .book p lt .held-known u top, sym e, test-says u (all-at (passes weight v) (u ∷ b .held .opens) t u top))
       tests t w (inr h) =
           let r = map-in idOf (b .held .opens) h in
-          (r .0, i .book p lt .held-listed (r .0) (pop (r .1)), r .2, test-says (r .0) (all-at (passes weight v) (b .held .settled ∷ b .held .opens) t (r .0) (pop (r .1))))
+          (r .0, i .book p lt .held-known (r .0) (pop (r .1)), r .2, test-says (r .0) (all-at (passes weight v) (b .held .settled ∷ b .held .opens) t (r .0) (pop (r .1))))
 
       still-open : (c : Bool) (l : List View) (w : ℕ) → In w (map idOf l) → In w (map idOf (cond c (insertOf v l) l))
       still-open true l w h = let r = map-in idOf l h in subst (λ (w : ℕ). In w (map idOf (insertOf v l))) (r .2) (in-map idOf (insert-keep v l (r .0) (r .1)))
@@ -199,7 +199,7 @@ module _ (weight : Member → ℕ) where
     unfolding attempts opened attempted shown
     attempt-well =
         view-well _ _ _ (λ v e. need-well _ _ _ (λ a. need-well _ _ _ (λ f. need-well _ _ _ (λ t.
-        let h = i .book p lt .carrier-listed v e in
+        let h = i .book p lt .carrier-known v e in
         well _ _ (moved (attempted v b) (event (D.attempt p v)) _ _
         (F.attempts p v (map idOf (opened v (b .held) .opens)) (ap rank e) h (leb-true (rank (b .client .view)) (idOf v) a)
         (λ q m. true-T (asked v h (b .carrier .infos) f q m)) (tests v t)
@@ -264,7 +264,7 @@ module _ (weight : Member → ℕ) where
     unfolding reports shown
     safe-well =
         view-well _ _ _ (λ v e. need-well _ _ _ (λ c. first-well _ _ _ (λ x r k. need-well _ _ _ (λ t.
-        let h = i .book p lt .client-listed v e in
+        let h = i .book p lt .client-known v e in
         well _ _ (moved (moves (b .client .handed) (b .client .told) (b .client .reported + 1) b) (event (D.safe p (idOf v) x)) _ _
         (F.reports p v x (ap rank e) (same-view v e c) h (r, k)
         (λ q m. ltb-true (b .client .reported) (b .carrier .tolds q) (asked v h (λ q. ltb (b .client .reported) (b .carrier .tolds q)) t q m)))
@@ -275,7 +275,7 @@ module _ (weight : Member → ℕ) where
     unfolding collects collected shown
     collect-well =
         view-well _ _ _ (λ v e. need-well _ _ _ (λ a. need-well _ _ _ (λ f.
-        let h = i .book p lt .carrier-listed v e in
+        let h = i .book p lt .carrier-known v e in
         well _ _ (moved (collected v b) ok _ _
         (F.collects p v (map idOf (aboveOf (idOf v) (b .held .opens))) (ap rank e) h (ltb-true _ _ a)
         (λ q m. true-T (asked v h (b .carrier .registrations) f q m)) (kept v))

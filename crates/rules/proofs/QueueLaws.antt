@@ -22,15 +22,15 @@ in-snoc l x y i =
 pub length-snoc : {A : Type 0} (l : List A) (x : A) → length (l ++ (x ∷ [])) ≡ length l + 1
 length-snoc l x = length-append l (x ∷ [])
 
-pub queue-snoc : (n : ℕ) (views : List View) (limit : ℕ) (l : List Entry) (e : Entry) → length l < limit → EntryOf n views e → QueueOf n views limit l
-    → QueueOf n views limit (l ++ (e ∷ []))
-queue-snoc n views limit l e h k q = record {
+pub queue-snoc : (n : ℕ) (Known : View → Type 0) (limit : ℕ) (l : List Entry) (e : Entry) → length l < limit → EntryOf n Known e → QueueOf n Known limit l
+    → QueueOf n Known limit (l ++ (e ∷ []))
+queue-snoc n Known limit l e h k q = record {
   short = omega (arith, length-snoc l e);
   entries = λ x i. ⊎-elim (λ (j : In x l). q .entries x j) (λ (j : x ≡ e). rw j k) (in-snoc l e x i);
 }
 
-pub queue-one : (n : ℕ) (views : List View) (limit : ℕ) (e : Entry) → 1 ≤ limit → EntryOf n views e → QueueOf n views limit (e ∷ [])
-queue-one n views limit e h k = record {
+pub queue-one : (n : ℕ) (Known : View → Type 0) (limit : ℕ) (e : Entry) → 1 ≤ limit → EntryOf n Known e → QueueOf n Known limit (e ∷ [])
+queue-one n Known limit e h k = record {
   short = h;
   entries = λ x i. ⊎-elim (λ (j : x ≡ e). rw j k) (λ (j : In x []). absurd (in-nil j)) (in-cons i);
 }
@@ -41,10 +41,10 @@ items-snoc n l q x h f r y i =
 
 -- ---- the first one
 
-pub queue-first : (n : ℕ) (views : List View) (limit : ℕ) (l : List Entry) (e : Entry) (rest : List Entry) → l ≡ e ∷ rest → QueueOf n views limit l
-    → EntryOf n views e × QueueOf n views limit rest
-queue-first n views limit l e rest d q =
-    let t : QueueOf n views limit (e ∷ rest) = rw d at q in
+pub queue-first : (n : ℕ) (Known : View → Type 0) (limit : ℕ) (l : List Entry) (e : Entry) (rest : List Entry) → l ≡ e ∷ rest → QueueOf n Known limit l
+    → EntryOf n Known e × QueueOf n Known limit rest
+queue-first n Known limit l e rest d q =
+    let t : QueueOf n Known limit (e ∷ rest) = rw d at q in
     (t .entries e top, record { short = omega (arith, t .short); entries = λ x i. t .entries x (pop i) })
 
 -- ---- the next one past a position

@@ -1,5 +1,5 @@
 -- A member that takes a message of its carrier view's order keeps its book sound: the inward list has room because it is no longer than what was taken.
-use mathlib.Core.Path.{_≡_}
+use mathlib.Core.Path.{_≡_, refl}
 use mathlib.Core.Logic.{⊎-elim}
 use mathlib.Core.Bool.{Bool, true, false}
 use mathlib.Core.Option.{some}
@@ -8,32 +8,31 @@ use Prim.Native.Nat.{ℕ, _+_, _≤_, _<_}
 use native.Mathlib.Omega.{arith}
 use lib.ListN.{length}
 use Rattle.views.specs.declared.View.{View}
-use Rattle.views.specs.Limits.{maxOrdered}
+use Rattle.views.specs.Limits.{maxOpen, maxOrdered}
 use Rattle.views.specs.Points.{at}
-use Rattle.views.specs.Lists.{idOf}
 use Rattle.views.proofs.SetLaws.{known}
 use Rattle.membership.proofs.Updates.{upd-ind}
-use Rattle.rules.specs.Data.{Member, Message, client, info, registered, told, entry, Item, item, Book, Group}
-use Rattle.rules.specs.Member.{clientIsCarrier, takes, received, took}
-use Rattle.rules.specs.Sound.{limitAt, orderAt}
-use Rattle.rules.proofs.Soundness.{EntrySound, entry-from, info-sound, told-sound, ItemsFrom}
-use Rattle.rules.proofs.HeldLaws.{Made, learned-sound}
+use Rattle.rules.specs.Data.{Member, Message, client, info, registered, told, entry, Item, item, Book}
+use Rattle.rules.specs.Member.{clientIsCarrier, takes, received, learned, took}
+use Rattle.rules.specs.Sound.{limitAt}
+use Rattle.rules.proofs.SoundBooks.{Setting, EntryOf, entry-from, info-sound, told-sound, ItemsFrom}
+use Rattle.rules.proofs.HeldLaws.{held-sound, learned-well}
 use Rattle.rules.proofs.QueueLaws.{length-snoc, items-snoc, limit-le, limit-at, limit-snoc}
-use Rattle.rules.proofs.Kept.{CarrierSound, ClientSound, BookKept}
+use Rattle.rules.proofs.BookParts.{CarrierSound, ClientSound, BookKept}
 
 -- v is the carrier view of b, in whose order a message is left
-pub record Left (s : Group) (b : Book) (v : View) : Type 0 where
+pub record Left (s : Setting) (b : Book) (v : View) : Type 0 where
   pub carries : b .carrier .view ≡ some v
-  pub left : b .carrier .taken < length (s .order (idOf v))
-  pub short : length (s .order (idOf v)) ≤ maxOrdered
+  pub left : b .carrier .taken < s .limit (some v)
+  pub short : s .limit (some v) ≤ maxOrdered
 
-module _ (s : Group) (b : Book) (v : View) (f : Left s b v) (k : BookKept s b) where
-  left-at : b .carrier .taken + 1 ≤ length (orderAt s (b .carrier .view))
+module _ (s : Setting) (b : Book) (v : View) (f : Left s b v) (k : BookKept s b) where
+  left-at : b .carrier .taken + 1 ≤ s .limit (b .carrier .view)
   left-at = rw (f .carries) (omega (arith, f .left))
 
   takes-sound : (i r : Member → Bool) (t : Member → ℕ) (l : List (Item ℕ)) → ((q : Member) → q < s .members → t q ≤ maxOrdered)
       → length l ≤ maxOrdered → ItemsFrom (s .members) l → CarrierSound s (takes i r t l (b .carrier))
-  takes-sound i r t l h n o = record { short = n; tolds-short = h; taken-in = left-at; listed = k .carrier .listed; from = o }
+  takes-sound i r t l h n o = record { short = n; tolds-short = h; taken-in = left-at; known = k .carrier .known; from = o }
 
   -- a message other than a client's
   plain-sound : (i r : Member → Bool) (t : Member → ℕ) → ((q : Member) → q < s .members → t q ≤ maxOrdered) → CarrierSound s (takes i r t (b .carrier .inward) (b .carrier))
@@ -52,7 +51,7 @@ module _ (s : Group) (b : Book) (v : View) (f : Left s b v) (k : BookKept s b) w
         handed-in = omega (arith, c .handed-in);
         told-in = omega (arith, c .told-in);
         reported-in = omega (arith, c .reported-in);
-        listed = c .listed;
+        known = c .known;
         from = items-snoc _ _ q x i (c .from);
       }
 
@@ -89,18 +88,20 @@ module _ (s : Group) (b : Book) (v : View) (f : Left s b v) (k : BookKept s b) w
       }))
       (known (clientIsCarrier b))
 
-  pub took-kept : Made (s .views) → (q : Member) (m : Message) → EntrySound s (entry q m) → BookKept s (took q m b)
+  -- if an info leaves at most 31 views open
+  pub took-kept : (q : Member) (m : Message) → EntryOf (s .members) (s .known) (entry q m)
+      → ((x : View) (l : List View) → m ≡ info x l → length (learned x l (b .held) .opens) ≤ maxOpen) → BookKept s (took q m b)
   unfolding took
-  took-kept m q (client x) e = took-client q x (entry-from e)
-  took-kept m q (info x l) e = record {
-    held = learned-sound (s .views) m x l (b .held) (info-sound e) (k .held);
+  took-kept q (client x) e o = took-client q x (entry-from e)
+  took-kept q (info x l) e o = record {
+    held = held-sound (s .known) _ (learned-well (s .known) x l (b .held) (info-sound e) (k .held)) (o x l refl);
     carrier = plain-sound _ _ _ (k .carrier .tolds-short);
     client = k .client;
     inward-taken = omega (arith, k .inward-taken);
     outgoing = k .outgoing;
     below = k .below;
   }
-  took-kept m q registered e = record {
+  took-kept q registered e o = record {
     held = k .held;
     carrier = plain-sound _ _ _ (k .carrier .tolds-short);
     client = k .client;
@@ -108,7 +109,7 @@ module _ (s : Group) (b : Book) (v : View) (f : Left s b v) (k : BookKept s b) w
     outgoing = k .outgoing;
     below = k .below;
   }
-  took-kept m q (told n) e = record {
+  took-kept q (told n) e o = record {
     held = k .held;
     carrier = plain-sound _ _ _ (upd-ind q n (b .carrier .tolds) (λ r x. r < s .members → x ≤ maxOrdered) (λ _. told-sound e .1) (λ r _. k .carrier .tolds-short r));
     client = k .client;

@@ -1,36 +1,68 @@
--- A member's steps keep its book sound. One law for each step that is accepted, on its refusal row; the deliver step's law is SoundDeliver's.
-use mathlib.Core.Path.{_≡_, sym}
+-- A member's steps keep its book sound, in any setting. One law for each step that is accepted, on its refusal row; the deliver step's law is
+-- SoundDeliver's.
+use mathlib.Core.Path.{_≡_, refl, sym}
 use mathlib.Core.Logic.{⊎-elim}
-use mathlib.Core.Bool.{true, false, not}
-use mathlib.Core.Option.{some}
-use mathlib.Core.List.{List}
+use mathlib.Core.Bool.{Bool, true, false, cond, not}
+use mathlib.Core.Option.{none, some}
+use mathlib.Core.List.{List, []}
 use Prim.Native.Nat.{ℕ, suc, _≤_, _<_}
 use native.Mathlib.Omega.{arith}
 use lib.Dec.{eqb, ltb}
 use lib.ListN.{length, take, drop}
 use borrow.Author.Tests.{ltb-true, leb-true, eqb-false, eq-eqb, ne-eqb, not-true}
 use Rattle.views.specs.declared.View.{View}
-use Rattle.views.specs.Limits.{maxOutgoing}
-use Rattle.views.specs.Sets.{both}
-use Rattle.views.specs.Lists.{idOf}
+use Rattle.views.specs.Limits.{maxOpen, maxOutgoing}
+use Rattle.views.specs.Sets.{both, has}
+use Rattle.views.specs.Lists.{idOf, risesAbove}
 use Rattle.views.proofs.SetLaws.{known, both-true}
-use Rattle.views.proofs.Members.{In, in-nil}
-use Rattle.rules.specs.Data.{Member, Message, client, registered, told, Entry, entry, Book, Group, rank}
-use Rattle.rules.specs.Member.{clientIsCarrier, isAbove, outgoes, queues, hasRoom, joined, joins, Passing, passing, attempted, attempts, noted, registers, sends, moves, hands, tells, reports, collected, collects}
+use Rattle.views.proofs.Members.{In, in-nil, in-cons}
+use Rattle.rules.specs.Data.{Member, Message, client, registered, told, Entry, entry, Book, attempt, event, rank}
+use Rattle.rules.specs.Member.{Done, clientIsCarrier, isAbove, outgoes, queues, hasRoom, joined, joins, Passing, passing, opened, attempted, attempts, noted, registers, sends, moves, hands, tells, reports, collected, collects}
 use Rattle.rules.specs.Sound.{limitAt}
-use Rattle.rules.proofs.Soundness.{EntrySound, clientEntry, infoEntry, registeredEntry, toldEntry, QueueSound}
+use Rattle.rules.specs.Group.{firstView, fresh}
+use Rattle.rules.proofs.SoundBooks.{Setting, EntryOf, clientEntry, infoEntry, registeredEntry, toldEntry, QueueOf}
 use Rattle.rules.proofs.Holding.{Holds, gives, need-holds, view-holds, first-holds}
-use Rattle.rules.proofs.HeldLaws.{Made, opened-sound, collected-sound}
+use Rattle.rules.proofs.HeldLaws.{held-sound, opened-well, collected-sound}
 use Rattle.rules.proofs.QueueLaws.{queue-snoc, queue-one, queue-first, next-below, next-taken, limit-le, limit-at}
-use Rattle.rules.proofs.Kept.{BookKept, Keeps}
+use Rattle.rules.proofs.BookParts.{BookKept, Keeps}
 
-module _ (s : Group) where
+first-view : (S : ℕ) (c : Bool) (v : View) → cond c (some (firstView S)) none ≡ some v → firstView S ≡ v
+first-view S true v e = cc
+first-view S false v e = let z : _≡_ {A = ℕ} 0 1 = cc in absurd (omega arith)
+
+module _ (s : Setting) where
+  -- ---- start
+
+  pub fresh-kept : (S : ℕ) (p : Member) → s .known (firstView S) → BookKept s (fresh S p)
+  unfolding fresh risesAbove
+  fresh-kept S p f =
+      let first : (v : View) → cond (has S p) (some (firstView S)) none ≡ some v → s .known v = λ v e. rw (← (first-view S (has S p) v e)) f in
+      record {
+        held = record {
+          short = omega arith;
+          rises = refl;
+          known = λ w i. ⊎-elim (λ (e : w ≡ firstView S). rw e f) (λ (j : In w []). absurd (in-nil j)) (in-cons i);
+        };
+        carrier = record { short = omega arith; tolds-short = λ q i. omega arith; taken-in = omega arith; known = first; from = λ q x i. absurd (in-nil i) };
+        client = record {
+          short = omega arith;
+          handed-in = omega arith;
+          told-in = omega arith;
+          reported-in = omega arith;
+          known = first;
+          from = λ q x i. absurd (in-nil i);
+        };
+        inward-taken = ⊎-elim (λ (t : has S p ≡ true). rw t (omega arith)) (λ (t : has S p ≡ false). rw t (omega arith)) (known (has S p));
+        outgoing = record { short = omega arith; entries = λ e i. absurd (in-nil i) };
+        below = omega arith;
+      }
+
   -- ---- outgoing
 
-  pub outgoes-kept : (l : List Entry) (b : Book) → QueueSound s maxOutgoing l → BookKept s b → BookKept s (outgoes l b)
+  pub outgoes-kept : (l : List Entry) (b : Book) → QueueOf (s .members) (s .known) maxOutgoing l → BookKept s b → BookKept s (outgoes l b)
   outgoes-kept l b q k = record { held = k .held; carrier = k .carrier; client = k .client; inward-taken = k .inward-taken; outgoing = q; below = k .below }
 
-  queues-kept : (p : Member) (m : Message) (b : Book) → EntrySound s (entry p m) → hasRoom b ≡ true → BookKept s b → BookKept s (queues p m b)
+  queues-kept : (p : Member) (m : Message) (b : Book) → EntryOf (s .members) (s .known) (entry p m) → hasRoom b ≡ true → BookKept s b → BookKept s (queues p m b)
   unfolding queues
   queues-kept p m b e h k =
       ⊎-elim
@@ -42,7 +74,7 @@ module _ (s : Group) where
 
   -- ---- join
 
-  joined-kept : (p : Member) (v : View) (b : Book) → p < s .members → In v (s .views) → rank (b .carrier .view) ≤ idOf v → BookKept s b → BookKept s (joined p v b)
+  joined-kept : (p : Member) (v : View) (b : Book) → p < s .members → s .known v → rank (b .carrier .view) ≤ idOf v → BookKept s b → BookKept s (joined p v b)
   unfolding joined
   joined-kept p v b i j l k =
       let apart : eqb (rank (b .client .view)) (suc (idOf v)) ≡ false = ne-eqb _ _ (λ (e : rank (b .client .view) ≡ suc (idOf v)). omega (arith, k .below)) in
@@ -52,17 +84,17 @@ module _ (s : Group) where
           short = omega arith;
           tolds-short = λ q n. omega arith;
           taken-in = omega arith;
-          listed = λ w e. let d : v ≡ w = cc in rw (← d) j;
+          known = λ w e. let d : v ≡ w = cc in rw (← d) j;
           from = λ q x n. absurd (in-nil n);
         };
         client = k .client;
         inward-taken = rw apart (omega arith);
         outgoing = queue-one _ _ _ _ (omega arith)
-            (infoEntry i (record { short = omega (arith, k .held .short); rises = k .held .rises; listed = k .held .listed }));
+            (infoEntry i (record { short = omega (arith, k .held .short); rises = k .held .rises; known = k .held .known }));
         below = omega (arith, k .below);
       }
 
-  pub joins-keep : (p : Member) (v : View) (b : Book) → p < s .members → In v (s .views) → BookKept s b → Keeps s (joins p v b)
+  pub joins-keep : (p : Member) (v : View) (b : Book) → p < s .members → s .known v → BookKept s b → Keeps s (joins p v b)
   unfolding joins
   joins-keep p v b i j k =
       need-holds _ _ _ (λ _.
@@ -72,7 +104,7 @@ module _ (s : Group) where
   -- ---- pass: the message that goes out, the view that it goes to, the book without it
 
   abbrev pub Passes : Passing → Type 0
-  Passes x = In (x .to) (s .views) × EntrySound s (x .first) × BookKept s (x .book)
+  Passes x = s .known (x .to) × EntryOf (s .members) (s .known) (x .first) × BookKept s (x .book)
 
   pub passing-keeps : (b : Book) → BookKept s b → Holds Passes (passing b)
   unfolding passing
@@ -80,27 +112,29 @@ module _ (s : Group) where
       view-holds (b .carrier .view) _ _ (λ v h.
       first-holds (b .outgoing) _ _ (λ e rest d.
       let q = queue-first _ _ _ (b .outgoing) e rest d (k .outgoing) in
-      gives (k .carrier .listed v h, q .0, outgoes-kept rest b (q .1) k)))
+      gives (k .carrier .known v h, q .0, outgoes-kept rest b (q .1) k)))
 
   -- ---- attempt
 
-  attempted-kept : Made (s .views) → (v : View) (b : Book) → b .carrier .view ≡ some v → rank (b .client .view) ≤ idOf v → BookKept s b → BookKept s (attempted v b)
+  -- if it leaves at most 31 views open
+  pub attempted-kept : (v : View) (b : Book) → b .carrier .view ≡ some v → rank (b .client .view) ≤ idOf v → length (opened v (b .held) .opens) ≤ maxOpen
+      → BookKept s b → BookKept s (attempted v b)
   unfolding attempted
-  attempted-kept m v b c l k =
-      let j : In v (s .views) = k .carrier .listed v c in
+  attempted-kept v b c l o k =
+      let j : s .known v = k .carrier .known v c in
       let above : rank (b .carrier .view) ≡ suc (idOf v) = rw c in
       let apart : clientIsCarrier b ≡ false = ne-eqb _ _ (λ (e : rank (b .client .view) ≡ rank (b .carrier .view)). omega arith) in
       let same : eqb (suc (idOf v)) (rank (b .carrier .view)) ≡ true = eq-eqb _ _ (sym above) in
       let arrived : limitAt (b .carrier .view) (b .carrier .inward) ≤ b .carrier .taken = rw apart at (k .inward-taken) in
       record {
-        held = opened-sound (s .views) m v (b .held) j (k .held);
-        carrier = record { short = omega arith; tolds-short = k .carrier .tolds-short; taken-in = k .carrier .taken-in; listed = k .carrier .listed; from = λ q x n. absurd (in-nil n) };
+        held = held-sound (s .known) _ (opened-well (s .known) v (b .held) j (k .held)) o;
+        carrier = record { short = omega arith; tolds-short = k .carrier .tolds-short; taken-in = k .carrier .taken-in; known = k .carrier .known; from = λ q x n. absurd (in-nil n) };
         client = record {
           short = k .carrier .short;
           handed-in = omega arith;
           told-in = omega arith;
           reported-in = omega arith;
-          listed = λ w e. let d : v ≡ w = cc in rw (← d) j;
+          known = λ w e. let d : v ≡ w = cc in rw (← d) j;
           from = k .carrier .from;
         };
         inward-taken = rw same arrived;
@@ -108,14 +142,17 @@ module _ (s : Group) where
         below = omega arith;
       }
 
-  pub attempts-keep : Made (s .views) → (weight : Member → ℕ) (n : ℕ) (p : Member) (b : Book) → BookKept s b → Keeps s (attempts weight n p b)
+  -- what holds of each book that an attempt can leave
+  pub attempts-hold : {P : Done → Type 0} (weight : Member → ℕ) (n : ℕ) (p : Member) (b : Book)
+      → ((v : View) → b .carrier .view ≡ some v → rank (b .client .view) ≤ idOf v → P (record { book = attempted v b; answer = event (attempt p v) }))
+      → Holds P (attempts weight n p b)
   unfolding attempts
-  attempts-keep m weight n p b k =
+  attempts-hold weight n p b f =
       view-holds (b .carrier .view) _ _ (λ v c.
       need-holds (isAbove (idOf v) (b .client .view)) _ _ (λ h.
       need-holds _ _ _ (λ _.
       need-holds _ _ _ (λ _.
-      gives (attempted-kept m v b c (leb-true _ _ h) k)))))
+      gives (f v c (leb-true _ _ h))))))
 
   -- ---- register and send
 
@@ -123,7 +160,7 @@ module _ (s : Group) where
   noted-kept b k = let c = k .client in record {
     held = k .held;
     carrier = k .carrier;
-    client = record { short = c .short; handed-in = c .handed-in; told-in = c .told-in; reported-in = c .reported-in; listed = c .listed; from = c .from };
+    client = record { short = c .short; handed-in = c .handed-in; told-in = c .told-in; reported-in = c .reported-in; known = c .known; from = c .from };
     inward-taken = k .inward-taken;
     outgoing = k .outgoing;
     below = k .below;
@@ -151,7 +188,7 @@ module _ (s : Group) where
   moves-kept h t r b i j l k = let c = k .client in record {
     held = k .held;
     carrier = k .carrier;
-    client = record { short = c .short; handed-in = i; told-in = j; reported-in = l; listed = c .listed; from = c .from };
+    client = record { short = c .short; handed-in = i; told-in = j; reported-in = l; known = c .known; from = c .from };
     inward-taken = k .inward-taken;
     outgoing = k .outgoing;
     below = k .below;
@@ -188,10 +225,10 @@ module _ (s : Group) where
 
   -- ---- collect
 
-  collected-kept : Made (s .views) → (v : View) (b : Book) → In v (s .views) → BookKept s b → BookKept s (collected v b)
+  collected-kept : (v : View) (b : Book) → s .known v → BookKept s b → BookKept s (collected v b)
   unfolding collected
-  collected-kept m v b j k = record {
-    held = collected-sound (s .views) m v (b .held) j (k .held);
+  collected-kept v b j k = record {
+    held = collected-sound (s .known) v (b .held) j (k .held);
     carrier = k .carrier;
     client = k .client;
     inward-taken = k .inward-taken;
@@ -199,10 +236,10 @@ module _ (s : Group) where
     below = k .below;
   }
 
-  pub collects-keep : Made (s .views) → (n : ℕ) (b : Book) → BookKept s b → Keeps s (collects n b)
+  pub collects-keep : (n : ℕ) (b : Book) → BookKept s b → Keeps s (collects n b)
   unfolding collects
-  collects-keep m n b k =
+  collects-keep n b k =
       view-holds (b .carrier .view) _ _ (λ v c.
       need-holds _ _ _ (λ _.
       need-holds _ _ _ (λ _.
-      gives (collected-kept m v b (k .carrier .listed v c) k))))
+      gives (collected-kept v b (k .carrier .known v c) k))))

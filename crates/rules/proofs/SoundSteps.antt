@@ -15,14 +15,16 @@ use Rattle.views.proofs.Members.{In}
 use Rattle.views.proofs.ListLaws.{find-in}
 use Rattle.membership.proofs.Updates.{upd-ind, upd2-ind}
 use Rattle.rules.specs.Data.{Identifier, Member, Entry, entry, Book, Group, Step, Result, refused, accepted, need}
-use Rattle.rules.specs.Member.{passing}
+use Rattle.rules.specs.Member.{passing, attempts}
 use Rattle.rules.specs.Sound.{sound}
 use Rattle.rules.specs.Group.{Next, joinStep, passStep, orderStep, takeFrom, deliverStep, stepOf, settles, step}
-use Rattle.rules.proofs.Soundness.{EntrySound, QueueSound, _and_}
+use Rattle.rules.proofs.Soundness.{EntrySound, info-sound, QueueSound, inGroup, _and_}
 use Rattle.rules.proofs.Holding.{gives, given, need-holds, view-holds, first-holds, after-holds, listed-holds, pick-holds}
 use Rattle.rules.proofs.QueueLaws.{length-snoc, queue-snoc, queue-first, next-in, next-below}
-use Rattle.rules.proofs.Kept.{BookKept, Unmade, Kept, KeepsGroup, made, book-kept, kept-changed, books-kept, kept-booked, own-kept}
-use Rattle.rules.proofs.SoundMembers.{Passes, joins-keep, passing-keeps, attempts-keep, registers-keep, sends-keep, hands-keep, tells-keep, reports-keep, collects-keep}
+use Rattle.rules.proofs.HeldLaws.{learned-short, opened-short}
+use Rattle.rules.proofs.BookParts.{BookKept, Keeps}
+use Rattle.rules.proofs.Kept.{Unmade, Kept, KeepsGroup, made, book-kept, kept-changed, books-kept, kept-booked, own-kept}
+use Rattle.rules.proofs.SoundMembers.{Passes, joins-keep, passing-keeps, attempted-kept, attempts-hold, registers-keep, sends-keep, hands-keep, tells-keep, reports-keep, collects-keep}
 use Rattle.rules.proofs.SoundDeliver.{Left, took-kept}
 use Rattle.rules.proofs.SoundViews.{creates-keep}
 
@@ -60,14 +62,14 @@ module _ (s : Group) (h : Kept s) where
   unfolding joinStep
   join-keeps p g i =
       listed-holds (findOf g (s .views)) _ (λ v e.
-      own-kept s p _ h (joins-keep s p v (s .books p) i (find-in g (s .views) v e .0) (book-kept s h p i)))
+      own-kept s p _ h (joins-keep (inGroup s) p v (s .books p) i (find-in g (s .views) v e .0) (book-kept s h p i)))
 
   -- ---- pass
 
   pass-keeps : (p : Member) → p < s .members → KeepsGroup (passStep s p)
   unfolding passStep
   pass-keeps p i =
-      after-holds (Passes s) (passing (s .books p)) _ (passing-keeps s (s .books p) (book-kept s h p i)) (λ x k.
+      after-holds (Passes (inGroup s)) (passing (s .books p)) _ (passing-keeps (inGroup s) (s .books p) (book-kept s h p i)) (λ x k.
       need-holds (ltb (length (s .waiting p (idOf (x .to)))) maxWaiting) _ _ (λ r.
       gives (kept-changed s _ _ (s .order) h (books-kept s p (x .book) h (k .2))
       (waiting-kept p _ _ (queue-snoc _ _ _ (s .waiting p (idOf (x .to))) (x .first) (ltb-true _ _ r) (k .1) (h .sound .waiting p i (x .to) (k .0))))
@@ -92,8 +94,9 @@ module _ (s : Group) (h : Kept s) where
 
   -- ---- deliver
 
-  take-kept : (b : Book) (v : View) (e : Entry) → Left s b v → BookKept s b → EntrySound s e → BookKept s (takeFrom e b)
-  take-kept b v (entry q m) f k i = took-kept s b v f k (made s (h .sound)) q m i
+  take-kept : (b : Book) (v : View) (e : Entry) → Left (inGroup s) b v → BookKept (inGroup s) b → EntrySound s e → BookKept (inGroup s) (takeFrom e b)
+  take-kept b v (entry q m) f k i =
+      took-kept (inGroup s) b v f k q m i (λ x l e. learned-short (s .views) (made s (h .sound)) x l (b .held) (info-sound (rw e at i)) (k .held))
 
   deliver-keeps : (p : Member) → p < s .members → KeepsGroup (deliverStep s p)
   unfolding deliverStep
@@ -101,10 +104,17 @@ module _ (s : Group) (h : Kept s) where
       let k = book-kept s h p i in
       view-holds (s .books p .carrier .view) _ _ (λ v c.
       first-holds (drop (s .books p .carrier .taken) (s .order (idOf v))) _ _ (λ e rest d.
-      let o = h .sound .ordered v (k .carrier .listed v c) in
+      let o = h .sound .ordered v (k .carrier .known v c) in
       gives (kept-booked s p _ h (take-kept (s .books p) v e
       (record { carries = c; left = next-below (s .books p .carrier .taken) (s .order (idOf v)) e rest d; short = o .short }) k
       (o .entries e (next-in (s .books p .carrier .taken) (s .order (idOf v)) e rest d))))))
+
+  -- ---- attempt
+
+  attempt-kept : (weight : Member → ℕ) (p : Member) (b : Book) → BookKept (inGroup s) b → Keeps (inGroup s) (attempts weight (s .members) p b)
+  attempt-kept weight p b k =
+      attempts-hold (inGroup s) weight (s .members) p b (λ v c l.
+      attempted-kept (inGroup s) v b c l (opened-short (s .views) (made s (h .sound)) v (b .held) (k .carrier .known v c) (k .held)) k)
 
   -- ---- one step
 
@@ -113,8 +123,7 @@ module _ (s : Group) (h : Kept s) where
   stepOf-keeps weight c =
       let p = c .first in
       let b = s .books p in
-      let m = made s (h .sound) in
-      let by : (r : Result Next) → (p < s .members → BookKept s b → KeepsGroup r) → KeepsGroup (need (ltb p (s .members)) NoSuchMember r)
+      let by : (r : Result Next) → (p < s .members → BookKept (inGroup s) b → KeepsGroup r) → KeepsGroup (need (ltb p (s .members)) NoSuchMember r)
       = λ r f. need-holds _ _ r (λ i. let j = ltb-true p (s .members) i in f j (book-kept s h p j)) in
       pick-holds (c .kind) _ (
       creates-keep s (c .first) (c .second) h
@@ -122,13 +131,13 @@ module _ (s : Group) (h : Kept s) where
       and by _ (λ i _. pass-keeps p i)
       and by _ (λ i _. order-keeps p (c .second) i)
       and by _ (λ i _. deliver-keeps p i)
-      and by _ (λ i k. own-kept s p _ h (attempts-keep s m weight (s .members) p b k))
-      and by _ (λ i k. own-kept s p _ h (registers-keep s p b i k))
-      and by _ (λ i k. own-kept s p _ h (sends-keep s p (c .second) b i k))
-      and by _ (λ i k. own-kept s p _ h (hands-keep s p b k))
-      and by _ (λ i k. own-kept s p _ h (tells-keep s p b i k))
-      and by _ (λ i k. own-kept s p _ h (reports-keep s (s .members) p b k))
-      and by _ (λ i k. own-kept s p _ h (collects-keep s m (s .members) b k))
+      and by _ (λ i k. own-kept s p _ h (attempt-kept weight p b k))
+      and by _ (λ i k. own-kept s p _ h (registers-keep (inGroup s) p b i k))
+      and by _ (λ i k. own-kept s p _ h (sends-keep (inGroup s) p (c .second) b i k))
+      and by _ (λ i k. own-kept s p _ h (hands-keep (inGroup s) p b k))
+      and by _ (λ i k. own-kept s p _ h (tells-keep (inGroup s) p b i k))
+      and by _ (λ i k. own-kept s p _ h (reports-keep (inGroup s) (s .members) p b k))
+      and by _ (λ i k. own-kept s p _ h (collects-keep (inGroup s) (s .members) b k))
       and tt)
 
 settles-kept : (s : Group) (r : Result Next) → Kept s → KeepsGroup r → Kept (settles s r .state)

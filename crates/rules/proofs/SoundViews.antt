@@ -1,8 +1,7 @@
 -- A fresh group is kept, and so is one in which a view is made: what was sound of fewer views is sound of more, and the new view's queues are empty.
 use mathlib.Core.Path.{_≡_, refl}
 use mathlib.Core.Logic.{⊎-elim}
-use mathlib.Core.Bool.{Bool, true, false, cond, not}
-use mathlib.Core.Option.{none, some}
+use mathlib.Core.Bool.{true, false, not}
 use mathlib.Core.List.{List, [], _∷_, _++_}
 use Prim.Native.Nat.{ℕ, _+_, _≤_, _<_}
 use native.Mathlib.Omega.{arith}
@@ -11,7 +10,7 @@ use lib.ListN.{length}
 use borrow.Author.Tests.{ltb-true, not-true}
 use Rattle.views.specs.declared.View.{View}
 use Rattle.views.specs.Limits.{maxMembers, maxViews}
-use Rattle.views.specs.Sets.{has, isEmpty, isBeyond}
+use Rattle.views.specs.Sets.{isEmpty, isBeyond}
 use Rattle.views.specs.Lists.{idOf, isRising, risesAbove}
 use Rattle.views.proofs.SetLaws.{known, both-true}
 use Rattle.views.proofs.Members.{In, top, in-nil, in-cons, in-left}
@@ -19,24 +18,26 @@ use Rattle.rules.specs.Data.{Identifier, Member, Entry, Group, accepted}
 use Rattle.rules.specs.Member.{all}
 use Rattle.rules.specs.Sound.{within}
 use Rattle.rules.specs.Group.{fits, firstView, fresh, started, start, creates}
-use Rattle.rules.proofs.Soundness.{EntryOf, clientEntry, infoEntry, registeredEntry, toldEntry, QueueOf, BookSound, all-at, within-says}
+use Rattle.rules.proofs.Soundness.{EntryOf, clientEntry, infoEntry, registeredEntry, toldEntry, QueueOf, Listed, inGroup, all-at, within-says}
 use Rattle.rules.proofs.Holding.{Holds, gives, given, need-holds}
 use Rattle.rules.proofs.ListsWithin.{Within, rising-snoc}
 use Rattle.rules.proofs.QueueLaws.{in-snoc, length-snoc}
+use Rattle.rules.proofs.BookParts.{BookKept, sound-of}
+use Rattle.rules.proofs.SoundMembers.{fresh-kept}
 use Rattle.rules.proofs.Kept.{Kept, KeepsGroup, book-kept, book-moves}
 
 -- ---- more views
 
-entry-moves : {n : ℕ} {k l : List View} {e : Entry} → Within k l → EntryOf n k e → EntryOf n l e
+entry-moves : {n : ℕ} {k l : List View} {e : Entry} → Within k l → EntryOf n (Listed k) e → EntryOf n (Listed l) e
 entry-moves w (clientEntry h) = clientEntry h
-entry-moves w (infoEntry h i) = infoEntry h (record { short = i .short; rises = i .rises; listed = λ v j. w v (i .listed v j) })
+entry-moves w (infoEntry h i) = infoEntry h (record { short = i .short; rises = i .rises; known = λ v j. w v (i .known v j) })
 entry-moves w (registeredEntry h) = registeredEntry h
 entry-moves w (toldEntry h i j) = toldEntry h i j
 
-queue-moves : (n : ℕ) (k l : List View) (limit : ℕ) (q : List Entry) → Within k l → QueueOf n k limit q → QueueOf n l limit q
+queue-moves : (n : ℕ) (k l : List View) (limit : ℕ) (q : List Entry) → Within k l → QueueOf n (Listed k) limit q → QueueOf n (Listed l) limit q
 queue-moves n k l limit q w h = record { short = h .short; entries = λ e i. entry-moves w (h .entries e i) }
 
-queue-empty : (n : ℕ) (l : List View) (limit : ℕ) (q : List Entry) → q ≡ [] → QueueOf n l limit q
+queue-empty : (n : ℕ) (l : List View) (limit : ℕ) (q : List Entry) → q ≡ [] → QueueOf n (Listed l) limit q
 queue-empty n l limit q e = rw e (record { short = omega arith; entries = λ x i. absurd (in-nil i) })
 
 fits-say : (n S : ℕ) → fits n S ≡ true → (isEmpty S ≡ false) × (isBeyond S n ≡ false)
@@ -88,51 +89,28 @@ creates-keep s g S h =
 
 -- ---- start
 
--- the first view or none is the first view
-first-in : (S : ℕ) (c : Bool) (v : View) → cond c (some (firstView S)) none ≡ some v → In v (firstView S ∷ [])
-first-in S true v e = let d : firstView S ≡ v = cc in rw (← d) top
-first-in S false v e = let z : _≡_ {A = ℕ} 0 1 = cc in absurd (omega arith)
-
-fresh-sound : (n S room : ℕ) (p : Member) → BookSound (started n S room) (fresh S p)
-unfolding fresh started risesAbove
-fresh-sound n S room p = record {
-  opens-short = omega arith;
-  inward-short = omega arith;
-  arrived-short = omega arith;
-  tolds-short = λ q i. omega arith;
-  taken-in = omega arith;
-  inward-taken = ⊎-elim (λ (t : has S p ≡ true). rw t (omega arith)) (λ (t : has S p ≡ false). rw t (omega arith)) (known (has S p));
-  handed-in = omega arith;
-  told-in = omega arith;
-  reported-in = omega arith;
-  opens-rise = refl;
-  held-listed = λ w i. i;
-  carrier-listed = λ v e. first-in S (has S p) v e;
-  client-listed = λ v e. first-in S (has S p) v e;
-  inward-from = λ q x i. absurd (in-nil i);
-  arrived-from = λ q x i. absurd (in-nil i);
-}
-
 started-kept : (n S room : ℕ) → (1 ≤ n) × (n ≤ maxMembers) → (isEmpty S ≡ false) × (isBeyond S n ≡ false) → (1 ≤ room) × (room ≤ maxViews) → Kept (started n S room)
-unfolding started fresh isRising risesAbove
-started-kept n S room m f r = record {
-  sound = record {
-    members-low = m .0;
-    members-high = m .1;
-    room-low = r .0;
-    room-high = r .1;
-    made-low = omega arith;
-    made-high = omega arith;
-    rising = refl;
-    fits = λ v i. ⊎-elim (λ (e : v ≡ firstView S). rw e f) (λ (j : In v []). absurd (in-nil j)) (in-cons i);
-    book = λ p i. fresh-sound n S room p;
-    outgoing = λ p i. queue-empty _ _ _ _ refl;
-    waiting = λ p i v j. queue-empty _ _ _ _ refl;
-    ordered = λ v j. queue-empty _ _ _ _ refl;
-  };
-  below = λ p i. omega arith;
-  unmade = λ g n. (λ p. refl, refl);
-}
+unfolding started isRising risesAbove
+started-kept n S room m f r =
+    let fresh : (p : Member) → BookKept (inGroup (started n S room)) (fresh S p) = λ p. fresh-kept (inGroup (started n S room)) S p top in
+    record {
+      sound = record {
+        members-low = m .0;
+        members-high = m .1;
+        room-low = r .0;
+        room-high = r .1;
+        made-low = omega arith;
+        made-high = omega arith;
+        rising = refl;
+        fits = λ v i. ⊎-elim (λ (e : v ≡ firstView S). rw e f) (λ (j : In v []). absurd (in-nil j)) (in-cons i);
+        book = λ p i. sound-of _ _ (fresh p);
+        outgoing = λ p i. fresh p .outgoing;
+        waiting = λ p i v j. queue-empty _ _ _ _ refl;
+        ordered = λ v j. queue-empty _ _ _ _ refl;
+      };
+      below = λ p i. fresh p .below;
+      unmade = λ g n. (λ p. refl, refl);
+    }
 
 pub kept-start : (n S room : ℕ) (s : Group) → start n S room ≡ accepted s → Kept s
 unfolding start
