@@ -33,6 +33,10 @@ pub mod SoundDeliver
 pub mod SoundViews
 pub mod SoundSteps
 pub mod NeverWedged
+pub mod AloneSound
+pub mod AloneKept
+pub mod AloneTaken
+pub mod Readable
 pub mod Refused
 pub mod Peculiar
 pub mod Cases
