@@ -2,3 +2,9 @@ pub mod Committed
 pub mod SpeakLaws
 pub mod MarkLaws
 pub mod AttemptLaws
+pub mod Means
+pub mod TurnFits
+pub mod MeansSpeak
+pub mod MeansMarks
+pub mod MeansJoin
+pub mod MeansTake
