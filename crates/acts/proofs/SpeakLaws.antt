@@ -94,15 +94,15 @@ module _ (b : List ℕ) (p : Member) where
 
   -- ---- room
 
-  register-room : Holds (λ (d : Done). hasRoom (bookIn b) ≡ true) (registers p (bookIn b))
+  pub register-room : Holds (λ (d : Done). hasRoom (bookIn b) ≡ true) (registers p (bookIn b))
   unfolding registers
   register-room = view-holds _ _ _ (λ v e. need-holds _ _ _ (λ t. need-holds _ _ _ (λ u. gives u)))
 
-  send-room : (x : ℕ) → Holds (λ (d : Done). hasRoom (bookIn b) ≡ true) (sends p x (bookIn b))
+  pub send-room : (x : ℕ) → Holds (λ (d : Done). hasRoom (bookIn b) ≡ true) (sends p x (bookIn b))
   unfolding sends
   send-room x = view-holds _ _ _ (λ v e. need-holds _ _ _ (λ u. gives u))
 
-  tell-room : Holds (λ (d : Done). hasRoom (bookIn b) ≡ true) (tells p (bookIn b))
+  pub tell-room : Holds (λ (d : Done). hasRoom (bookIn b) ≡ true) (tells p (bookIn b))
   unfolding tells
   tell-room = view-holds _ _ _ (λ v e. need-holds _ _ _ (λ t. need-holds _ _ _ (λ w. need-holds _ _ _ (λ u. gives u))))
 
