@@ -13,8 +13,10 @@ run:
 clean:
 	rm -rf target
 
-# The plain reference of the group and the message vectors' answers, each against its own cases.
+# The plain references of the group and of the member by itself and the message vectors' answers, each against its own cases.
 .PHONY: reference
 reference:
 	python3 tests/reference_cases.py
+	python3 tests/references_agree.py 1 20000
+	python3 tests/member_reference.py check crates/stories/stdin
 	python3 tests/wire_vectors.py check

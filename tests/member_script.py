@@ -1,0 +1,163 @@
+"""Scripts for the member by itself, and the answers to them by the reference.
+
+A script is lines, each answered by one line. There are four books, 0 to 3, each a range
+of 5,234 bytes of value 0 at first. K and J are books; numbers are decimal.
+
+    start K N S P     members, first set, own number      join K I S        the view
+    attempt K    register K    send K V    hand K    tell K    safe K    collect K
+    pass K ROOM       into a buffer of ROOM bytes, at most 200
+    deliver K Q HEX   the bytes HEX, at most 200 and perhaps none, from the sender Q
+    relay K J         what J last passed, delivered to K with J's own number as sender: the
+                      number of its last accepted start, 0 before
+    poke K AT X       byte AT of the book becomes X
+    lend K N          from now on the first N bytes of the book are lent, at most 5,240: what
+                      lies behind the 5,234 is 0
+    # words           a comment, answered by itself
+"""
+
+import os
+import sys
+
+from member_layout import SIZE, Reading, to_bytes
+from member_reference import BOOK_FAULTY, OK, Member, Refused, line, refuse_if
+
+BOOKS = 4
+MOST_LENT = 5240
+MOST_BYTES = 200
+
+# The widths of the operands behind the book, in bytes.
+WIDTHS = {
+    "start": [1, 1, 1],
+    "join": [4, 1],
+    "pass": [1],
+    "attempt": [],
+    "register": [],
+    "send": [8],
+    "hand": [],
+    "tell": [],
+    "safe": [],
+    "collect": [],
+    "relay": [1],
+    "poke": [2, 1],
+    "lend": [2],
+}
+
+
+class Unreadable(Exception):
+    pass
+
+
+def readable_if(fact, words):
+    if not fact:
+        raise Unreadable(words)
+
+
+class Lent:
+    """A book as the host lends it, with what the script remembers about it."""
+
+    def __init__(self):
+        self.data = bytearray(MOST_LENT)
+        self.length = SIZE
+        self.own = 0
+        self.passed = b""
+
+    def bytes_lent(self):
+        return bytes(self.data[: self.length])
+
+    def step(self, name, *operands):
+        """A call with these bytes lent: a refusal "changes nothing lent"."""
+        data = self.bytes_lent()
+        try:
+            if name == "start":
+                refuse_if(len(data) != SIZE, BOOK_FAULTY)
+                m, data = Member(), bytes(SIZE)
+            else:
+                m = Reading(data).member()
+            reply = getattr(m, "pass_" if name == "pass" else name)(*operands)
+        except Refused as refusal:
+            return line("refused", refusal.number)
+        self.data[:SIZE] = to_bytes(m, data)
+        return reply
+
+
+class Desk:
+    """The four books, and an answer to each line."""
+
+    def __init__(self):
+        self.books = [Lent() for _ in range(BOOKS)]
+
+    def read(self, words):
+        """The word, the book and the operands of a line."""
+        word = words[0]
+        readable_if(word in WIDTHS and len(words) == 2 + len(WIDTHS[word]), words)
+        operands = [int(w) for w in words[2:]]
+        fits = all(0 <= x < 256**width for x, width in zip(operands, WIDTHS[word]))
+        readable_if(fits and 0 <= int(words[1]) < BOOKS, words)
+        return word, int(words[1]), operands
+
+    def deliver(self, words):
+        hexes = words[3] if len(words) == 4 else ""
+        data = bytes.fromhex(hexes)
+        readable_if(3 <= len(words) <= 4 and data.hex() == hexes, words)
+        readable_if(len(data) <= MOST_BYTES and 0 <= int(words[2]) < 256, words)
+        return self.books[int(words[1])].step("deliver", data, int(words[2]))
+
+    def answer(self, text):
+        if text.startswith("#"):
+            return text
+        words = text.split(" ")
+        if words[0] == "deliver":
+            return self.deliver(words)
+        word, k, operands = self.read(words)
+        book = self.books[k]
+        if word == "relay":
+            readable_if(operands[0] < BOOKS, words)
+            other = self.books[operands[0]]
+            return book.step("deliver", other.passed, other.own)
+        if word == "poke":
+            readable_if(operands[0] < SIZE, words)
+            book.data[operands[0]] = operands[1]
+            return OK
+        if word == "lend":
+            readable_if(operands[0] <= MOST_LENT, words)
+            book.length = operands[0]
+            return OK
+        readable_if(word != "pass" or operands[0] <= MOST_BYTES, words)
+        reply = book.step(word, *operands)
+        if word == "start" and reply == OK:
+            book.own = operands[2]
+        if reply.startswith("pass "):
+            book.passed = bytes.fromhex(reply[5:])
+        return reply
+
+
+def answers(script):
+    desk = Desk()
+    replies = []
+    for number, text in enumerate(script.splitlines(), 1):
+        try:
+            replies.append(desk.answer(text))
+        except (Unreadable, ValueError):
+            sys.exit(f"line {number} is unreadable: {text}")
+    return "".join(reply + "\n" for reply in replies)
+
+
+def read_file(path):
+    with open(path) as f:
+        return f.read()
+
+
+def main(words):
+    if len(words) == 1:
+        sys.stdout.write(answers(read_file(words[0])))
+    elif len(words) == 2 and words[0] == "check":
+        stdout = os.path.join(os.path.dirname(words[1]), "stdout")
+        if read_file(stdout) != answers(read_file(words[1])):
+            return f"{stdout} is not what the reference answers"
+    elif len(words) == 3 and words[0] == "random":
+        from member_hostile import script
+
+        sys.stdout.write(script(int(words[1]), int(words[2])))
+    else:
+        return __doc__
+    return 0
