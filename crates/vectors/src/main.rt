@@ -17,15 +17,15 @@ fn main() {
 fn run(s: &[u8]) {
     let mut at = 0;
     while at < s.len() {
-        let end = parse::line_end(s, at);
+        let end = script::parse::line_end(s, at);
         answer(&s[at..end]);
-        at = parse::line_after(s, end);
+        at = script::parse::line_after(s, end);
     }
 }
 
 // The first letter tells the word.
 fn answer(line: &[u8]) {
-    let letter = parse::byte(line, 0);
+    let letter = script::parse::byte(line, 0);
     if letter == b'r' {
         read_line(line);
     } else if letter == b'f' {
@@ -33,20 +33,20 @@ fn answer(line: &[u8]) {
     } else if letter == b'w' {
         write_line(line);
     } else {
-        show::unreadable();
+        script::show::unreadable();
     }
 }
 
 fn read_line(line: &[u8]) {
     let mut bytes = [0u8; 256];
-    let n = parse::unhex(line, 5, &mut bytes);
+    let n = script::parse::unhex(line, 5, &mut bytes);
     let r = reader::read(&bytes[..n]);
     show::reading(r);
 }
 
 fn front_line(line: &[u8]) {
     let mut bytes = [0u8; 256];
-    let n = parse::unhex(line, 6, &mut bytes);
+    let n = script::parse::unhex(line, 6, &mut bytes);
     let r = reader::read_front(&bytes[..n]);
     show::reading(r);
 }
@@ -56,7 +56,7 @@ fn write_line(line: &[u8]) {
     let n = parse::numbers(line, 6, &mut xs);
     let f = parse::frame(&xs, n);
     let mut buffer = [238u8; 200];
-    let room = parse::room(&xs, &buffer);
+    let room = script::parse::front(xs[0], &buffer);
     write_frame(&mut buffer[..room], f);
 }
 
@@ -64,6 +64,6 @@ fn write_line(line: &[u8]) {
 fn write_frame(b: &mut [u8], f: Frame) {
     let w = writer::write(b, f);
     show::written(w);
-    show::hex(b);
-    show::end();
+    script::show::hex(b);
+    script::show::end();
 }

@@ -1,99 +1,9 @@
-// Lines taken apart: bytes in hexadecimal, and decimal numbers with single spaces or colons between them.
+// The operands of a line to write: decimal numbers with single spaces or colons between them.
 use views::View;
 use views::ViewId;
 use views::list::Views;
 use wire::Frame;
-ghost use mathlib.Core.Path.{_≡_};
-ghost use Prim.Native.Nat.{ℕ, _+_, _<_, _≤_, min, max};
-ghost use Rattle.io.specs.Counts.{Counts};
-
-// The byte at a place, 0 past the end.
-pub fn byte(s: &[u8], at: usize) -> u8 {
-    if at < s.len() { s[at] } else { 0 }
-}
-
-// Where the line from `at` ends.
-pub fn line_end(s: &[u8], at: usize) -> usize
-    ensures { λ r. do ⌜ (at ≤ r) × (r ≤ max at (← ⟦s.len()⟧ .entry)) ⌝ }
-{
-    let mut i = at;
-    while i < s.len() {
-        if s[i] == b'\n' {
-            return i;
-        }
-        i += 1;
-    }
-    i
-}
-
-// Where the line after it starts.
-pub fn line_after(s: &[u8], end: usize) -> usize
-    ensures { λ r. do ⌜ r ≡ min (end + 1) (← ⟦s.len()⟧ .entry) ⌝ }
-{
-    if end < s.len() { end + 1 } else { s.len() }
-}
-
-// A hexadecimal digit's value.
-fn nibble(c: u8) -> u8
-    ensures { λ r. ⌜ r < 16 ⌝ }
-{
-    if c < b'0' {
-        return 0;
-    }
-    if c <= b'9' {
-        return c - b'0';
-    }
-    if c < b'a' {
-        return 0;
-    }
-    if c <= b'f' {
-        return c - b'a' + 10;
-    }
-    0
-}
-
-// The bytes whose digits stand from `from` on, and how many they are.
-pub fn unhex(line: &[u8], from: usize, bytes: &mut [u8]) -> usize
-    ensures { λ r. ⌜ Counts r (now (bytes .exit)) ⌝ }
-{
-    let mut n: usize = 0;
-    let mut i = from;
-    while n < bytes.len() {
-        if line.len() <= i {
-            return n;
-        }
-        if line.len() - i < 2 {
-            return n;
-        }
-        let high = nibble(line[i]);
-        let low = nibble(line[i + 1]);
-        bytes[n] = high * 16 + low;
-        n += 1;
-        i += 2;
-    }
-    n
-}
-
-// One more digit behind a number, as far as it fits 8 bytes.
-fn push(x: u64, c: u8) -> u64 {
-    if c < b'0' {
-        return x;
-    }
-    if c > b'9' {
-        return x;
-    }
-    let d = (c - b'0') as u64;
-    if x < 1844674407370955161 {
-        return x * 10 + d;
-    }
-    if x > 1844674407370955161 {
-        return x;
-    }
-    if d > 5 {
-        return x;
-    }
-    x * 10 + d
-}
+ghost use Prim.Native.Nat.{ℕ, _<_, _≤_};
 
 // How many numbers end at a byte: a space or a colon ends one.
 fn ends(c: u8) -> usize
@@ -120,23 +30,11 @@ pub fn numbers(line: &[u8], from: usize, xs: &mut [u64; 640]) -> usize
         }
         let c = line[i];
         let x = xs[n];
-        xs[n] = push(x, c);
+        xs[n] = script::parse::push(x, c);
         n += ends(c);
         i += 1;
     }
     n + 1
-}
-
-// How much of the buffer is lent.
-pub fn room(xs: &[u64; 640], b: &[u8]) -> usize
-    ensures { λ r. ⌜ Counts r (now (b .entry)) ⌝ }
-{
-    let x = xs[0];
-    if x < b.len() as u64 {
-        x as usize
-    } else {
-        b.len()
-    }
 }
 
 // The view at a place of the numbers: its identifier, then its set.

@@ -1,26 +1,17 @@
 // Answers: the verdict, or the message in words and decimal numbers.
+use script::show::also;
+use script::show::number;
+use script::show::refused;
 use views::View;
 use views::list::Views;
-use views::refusal::Refusal;
 use views::refusal::Verdict;
 use wire::Frame;
 use wire::Message;
 use wire::Reading;
 use wire::Written;
-ghost use Prim.Native.Nat.{ℕ, _<_};
-
-fn number(x: u64) {
-    io::print_decimal(1, x);
-}
-
-fn refused(r: Refusal) {
-    io::write_all(1, b"refused ");
-    number(views::refusal::number(r) as u64);
-}
 
 fn view(v: View) {
-    io::write_all(1, b" ");
-    number(v.id.0 as u64);
+    also(v.id.0 as u64);
     io::write_all(1, b":");
     number(v.set as u64);
 }
@@ -41,25 +32,23 @@ fn frame(f: Frame) {
     let m = f.message;
     match m {
         Message::Client(x) => {
-            io::write_all(1, b"client ");
-            number(g);
-            io::write_all(1, b" ");
-            number(x);
+            io::write_all(1, b"client");
+            also(g);
+            also(x);
         }
         Message::Info => {
-            io::write_all(1, b"info ");
-            number(g);
+            io::write_all(1, b"info");
+            also(g);
             all(list);
         }
         Message::Registered => {
-            io::write_all(1, b"registered ");
-            number(g);
+            io::write_all(1, b"registered");
+            also(g);
         }
         Message::Told(k) => {
-            io::write_all(1, b"told ");
-            number(g);
-            io::write_all(1, b" ");
-            number(k as u64);
+            io::write_all(1, b"told");
+            also(g);
+            also(k as u64);
         }
     }
 }
@@ -74,11 +63,11 @@ pub fn reading(r: Reading) {
         Verdict::Accepted => {
             let f = r.frame;
             frame(f);
-            io::write_all(1, b" taken ");
-            number(r.taken as u64);
+            io::write_all(1, b" taken");
+            also(r.taken as u64);
         }
     }
-    end();
+    script::show::end();
 }
 
 // What writing gave, before the buffer.
@@ -89,45 +78,9 @@ pub fn written(w: Written) {
             refused(x);
         }
         Verdict::Accepted => {
-            io::write_all(1, b"wrote ");
-            number(w.length as u64);
+            io::write_all(1, b"wrote");
+            also(w.length as u64);
         }
     }
     io::write_all(1, b" ");
-}
-
-// No word of the program's.
-pub fn unreadable() {
-    io::write_all(1, b"unreadable");
-    end();
-}
-
-// The line ends.
-pub fn end() {
-    io::write_all(1, b"\n");
-}
-
-fn digit(x: u8) -> u8
-    requires { ⌜ x < 16 ⌝ }
-{
-    if x < 10 { b'0' + x } else { b'a' + (x - 10) }
-}
-
-fn high(c: u8) -> u8 {
-    digit(c / 16)
-}
-
-fn low(c: u8) -> u8 {
-    digit(c % 16)
-}
-
-// Bytes in hexadecimal.
-pub fn hex(b: &[u8]) {
-    let mut i: usize = 0;
-    while i < b.len() {
-        let c = b[i];
-        let pair = [high(c), low(c)];
-        io::write_all(1, &pair);
-        i += 1;
-    }
 }

@@ -5,8 +5,8 @@ use borrow.Author.Needs.{needs}
 use native.Mathlib.Omega.{arith}
 use Rattle.io.proofs.Counting.{counts}
 use lib.ListN.{length, length-set}
-use Rattle.vectors.proofs.parse.unhex.Statement.{statement}
-use Rattle.vectors.proofs.parse.unhex.Tie as tie
+use Rattle.script.proofs.parse.unhex.Statement.{statement}
+use Rattle.script.proofs.parse.unhex.Tie as tie
 
 abbrev Inv-loop : tie.InvT-loop
 Inv-loop line from bytes₀ n₀ i₀ bytes n i = (n ≤ length bytes) × (length bytes ≡ length bytes₀)

@@ -2,8 +2,8 @@
 use Prim.Native.Nat.{_-_, _≤_, max}
 use borrow.Author.Needs.{needs}
 use lib.ListN.{length}
-use Rattle.vectors.proofs.parse.line_end.Statement.{statement}
-use Rattle.vectors.proofs.parse.line_end.Tie as tie
+use Rattle.script.proofs.parse.line_end.Statement.{statement}
+use Rattle.script.proofs.parse.line_end.Tie as tie
 
 abbrev Inv-loop : tie.InvT-loop
 Inv-loop s at i₀ i = (at ≤ i) × (i ≤ max at (length s))

@@ -2,8 +2,8 @@
 use Prim.Native.Nat.{_-_, _≤_}
 use borrow.Author.Needs.{needs}
 use lib.ListN.{length}
-use Rattle.vectors.proofs.show.hex.Statement.{statement}
-use Rattle.vectors.proofs.show.hex.Tie as tie
+use Rattle.script.proofs.show.hex.Statement.{statement}
+use Rattle.script.proofs.show.hex.Tie as tie
 
 abbrev Inv-loop : tie.InvT-loop
 Inv-loop b i₀ i = i ≤ length b

@@ -1,0 +1,3 @@
+// What the programs that run a script share: lines of standard input taken apart, answers written.
+pub mod parse;
+pub mod show;
