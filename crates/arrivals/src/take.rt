@@ -1,0 +1,98 @@
+// Deliver, the member's part: a message of its carrier view is taken.
+use acts::Reply;
+use books::Book;
+use steps::ask;
+use steps::take;
+use views::Member;
+use views::limits;
+use views::refusal::Refusal;
+use views::refusal::Verdict;
+use wire::Frame;
+use wire::Message;
+ghost use mathlib.Core.Bool.{true};
+ghost use mathlib.Core.Path.{_≡_};
+ghost use Prim.Native.Nat.{_≤_, _<_};
+ghost use lib.ListN.{length, getD};
+ghost use Rattle.views.specs.Limits.{maxMembers, maxOpen, maxOrdered};
+ghost use Rattle.views.specs.Lists.{listOf};
+ghost use Rattle.rules.specs.Alone.{messageOf};
+ghost use Rattle.books.specs.Places.{carrierAt, takenAt, bookSize};
+ghost use Rattle.books.specs.Records.{storeRecord};
+ghost use Rattle.books.specs.Books.{bookIn, bytesSound};
+ghost use Rattle.steps.specs.Turns.{verdictOf};
+ghost use Rattle.acts.specs.Replies.{noEvent, replied, replyOf, left};
+ghost use Rattle.acts.specs.Acts.{taking, takeBytes};
+ghost use Rattle.arrivals.specs.Arrivals.{turned, openVerdict, gainingOf, gainedBy};
+
+// The record after the message of the sender q. More than 31 views may be open then: that is for the caller to refuse.
+fn turned(q: Member, f: Frame, h: Book) -> Book
+    requires { ⌜ (q .0 < maxMembers) × (h .taken .0 < 255) × (h .opens .count ≤ maxOpen) ⌝ }
+    ensures { λ r. ⌜ r ≡ turned (q .0) (f .message) (listOf (f .views)) h ⌝ }
+{
+    let m = f.message;
+    match m {
+        Message::Client(_) => take::take_client(h),
+        Message::Info => {
+            let list = f.views;
+            let x = crate::info::settled(list);
+            let l = crate::info::opens(list);
+            take::take_info(q, x, l, h)
+        }
+        Message::Registered => take::take_registered(q, h),
+        Message::Told(k) => take::take_told(q, k, h),
+    }
+}
+
+// The inward list of the carrier view: the client view's where they are one view, else the other.
+fn gaining(h: Book) -> usize
+    requires { ⌜ h .side ≤ 1 ⌝ }
+    ensures { λ r. ⌜ r ≡ gainingOf h ⌝ }
+{
+    let client = h.client;
+    let carrier = h.carrier;
+    if ask::same_view(client, carrier) {
+        return crate::inward(h.side);
+    }
+    crate::inward(1 - h.side)
+}
+
+// A client message goes to the end of the carrier view's inward list.
+fn receive(b: &mut [u8], q: Member, m: Message, h: Book)
+    requires { ⌜ (bookSize ≤ length (now b)) × (h .side ≤ 1) × (getD (now b) (gainingOf h) 0 < maxOrdered) ⌝ }
+    ensures { λ _. ⌜ now (b .exit) ≡ gainedBy m (gainingOf h) (q .0) (now (b .entry)) ⌝ }
+{
+    if let Message::Client(x) = m {
+        let c = gaining(h);
+        slots::gain(b, c, q, x);
+    }
+}
+
+// The message goes where it belongs and the next record is stored, unless that has more than 31 views open.
+fn keep(b: &mut [u8], q: Member, m: Message, h: Book, next: Book) -> Reply
+    requires { ⌜ (bookSize ≤ length (now b)) × (h .side ≤ 1) × (getD (now b) (gainingOf h) 0 < maxOrdered) ⌝ }
+    ensures { λ r. ⌜ (r ≡ replied (openVerdict next) noEvent)
+        × (now (b .exit) ≡ left (openVerdict next) (storeRecord (gainedBy m (gainingOf h) (q .0) (now (b .entry))) next) (now (b .entry))) ⌝ }
+{
+    if limits::OPEN < next.opens.count {
+        return acts::refuse(Refusal::TooManyOpen);
+    }
+    receive(b, q, m, h);
+    books::store(b, next);
+    Reply {
+        verdict: Verdict::Accepted,
+        event: acts::no_event(),
+    }
+}
+
+// The message of the sender q is taken; 43 where more than 31 views would be open then.
+pub fn take(b: &mut [u8], q: Member, f: Frame) -> Reply
+    requires { ⌜ (bytesSound (now b) ≡ true) × (q .0 < maxMembers) × (getD (now b) takenAt 0 < maxOrdered) × (getD (now b) carrierAt 0 ≡ 1) ⌝ }
+    ensures { λ r. ⌜ (r ≡ replyOf (taking (q .0) (messageOf (f .message) (listOf (f .views))) (bookIn (now (b .entry)))))
+        × (now (b .exit) ≡ left (verdictOf (taking (q .0) (messageOf (f .message) (listOf (f .views))) (bookIn (now (b .entry)))))
+        (takeBytes (q .0) (messageOf (f .message) (listOf (f .views))) (now (b .entry))) (now (b .entry))) ⌝ }
+{
+    let h = books::load(b);
+    let next = turned(q, f, h);
+    let m = f.message;
+    keep(b, q, m, h, next)
+}
