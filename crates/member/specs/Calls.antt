@@ -1,0 +1,130 @@
+-- The member by itself, on a lent book of any length and content: what each call gives, and what it leaves in every lent byte.
+-- A call's result is that of rules/specs/Alone on the book that the bytes are; 4 comes first, for what only bytes can hold.
+use mathlib.Core.Path.{_≡_}
+use mathlib.Core.List.{List, []}
+use Prim.Native.Nat.{ℕ}
+use lib.Dec.{eqb}
+use lib.ListN.{length, set, replicate}
+use Rattle.views.specs.declared.View.{View}
+use Rattle.views.specs.declared.refusal.Refusal.the-variants.{RecordsUnsound}
+use Rattle.views.specs.declared.refusal.Verdict.the-variants.{Accepted, Refused}
+use Rattle.views.specs.Limits.{maxMembers}
+use Rattle.views.specs.Sets.{one, has}
+use Rattle.views.specs.Lists.{placed}
+use Rattle.wire.specs.Reader.{readOf}
+use Rattle.wire.specs.Writer.{overwritten}
+use Rattle.rules.specs.Data.{Identifier, Member, Book as Ruled, Result, refused, accepted, need}
+use Rattle.rules.specs.Member.{Done, Passing, registers, sends, hands, tells, reports, collects}
+use Rattle.rules.specs.Group.{firstView}
+use Rattle.rules.specs.Alone.{Sent, sentOf, alone, startAlone, joinAlone, passedBytes, passAlone, deliverAlone, attemptAlone}
+use Rattle.books.specs.declared.Seat.{Seat}
+use Rattle.books.specs.declared.Book.{Book}
+use Rattle.books.specs.Places.{membersAt, selfAt, bookSize}
+use Rattle.books.specs.Records.{storeRecord}
+use Rattle.books.specs.Books.{bookIn, layoutFits}
+use Rattle.steps.specs.Turns.{verdictOf}
+use Rattle.acts.specs.declared.Reply.{Reply}
+use Rattle.acts.specs.Replies.{noEvent, replyOf, left}
+use Rattle.acts.specs.Acts.{membersIn, selfIn, joinBytes, passBytes, takeBytes, attemptBytes, registerBytes, sendBytes, handBytes, tellBytes, safeBytes, collectBytes}
+use Rattle.member.specs.declared.Passed.{Passed}
+
+-- ---- the results
+
+-- 4 for bytes that are no book
+abbrev pub onBook : {A : Type 0} → List ℕ → Result A → Result A
+onBook b r = need (layoutFits b) RecordsUnsound r
+
+-- a call that is one of the member's rules
+abbrev pub call : List ℕ → (Ruled → Result Done) → Result Done
+call b rule = onBook b (alone (membersIn b) (selfIn b) (bookIn b) (rule (bookIn b)))
+
+unfoldable pub joinCall : View → List ℕ → Result Done
+joinCall v b = onBook b (joinAlone (membersIn b) (selfIn b) v (bookIn b))
+
+-- into a buffer with this room
+unfoldable pub passCall : ℕ → List ℕ → Result Passing
+passCall room b = onBook b (passAlone (membersIn b) (selfIn b) room (bookIn b))
+
+-- these bytes from the sender q
+unfoldable pub deliverCall : List ℕ → Member → List ℕ → Result Done
+deliverCall bytes q b = onBook b (deliverAlone (membersIn b) (selfIn b) (sentOf (readOf bytes)) q (bookIn b))
+
+unfoldable pub attemptCall : List ℕ → Result Done
+attemptCall b = onBook b (attemptAlone one (membersIn b) (selfIn b) (bookIn b))
+
+unfoldable pub registerCall : List ℕ → Result Done
+registerCall b = call b (registers (selfIn b))
+
+unfoldable pub sendCall : ℕ → List ℕ → Result Done
+sendCall x b = call b (sends (selfIn b) x)
+
+unfoldable pub handCall : List ℕ → Result Done
+handCall b = call b (hands (selfIn b))
+
+unfoldable pub tellCall : List ℕ → Result Done
+tellCall b = call b (tells (selfIn b))
+
+unfoldable pub safeCall : List ℕ → Result Done
+safeCall b = call b (reports (membersIn b) (selfIn b))
+
+unfoldable pub collectCall : List ℕ → Result Done
+collectCall b = call b (collects (membersIn b))
+
+-- ---- start: 4 for a book not of its length, then 1, 2, 6; every byte is determined
+
+unfoldable pub startCall : ℕ → ℕ → Member → List ℕ → Result Ruled
+startCall n S p b = need (eqb (length b) bookSize) RecordsUnsound (startAlone n S p)
+
+-- the first view is there for its members
+abbrev pub firstSeat : ℕ → Member → Seat
+firstSeat S p = record { there = has S p; view = firstView S }
+
+abbrev pub freshRecord : ℕ → Member → Book
+freshRecord S p = record {
+  settled = firstView S;
+  opens = placed [];
+  carrier = firstSeat S p;
+  client = firstSeat S p;
+  registered = has S p;
+  handed = record { 0 = 0 };
+  told = record { 0 = 0 };
+  reported = record { 0 = 0 };
+  taken = record { 0 = 0 };
+  infos = 0;
+  registrations = 0;
+  tolds = replicate maxMembers 0;
+  side = 0;
+}
+
+-- zero everywhere but for the members, the own number and the record
+unfoldable pub startBytes : ℕ → ℕ → Member → List ℕ → List ℕ
+startBytes n S p b = storeRecord (set (set (replicate (length b) 0) membersAt n) selfAt p) (freshRecord S p)
+
+abbrev pub startReply : Result Ruled → Reply
+startReply (refused r) = record { verdict = Refused r; event = noEvent }
+startReply (accepted x) = record { verdict = Accepted; event = noEvent }
+
+-- ---- pass: the number of bytes written, and the buffer; a refusal leaves it as it was
+
+abbrev pub passedOf : Result Passing → Passed
+passedOf (refused r) = record { verdict = Refused r; length = 0 }
+passedOf (accepted x) = record { verdict = Accepted; length = length (passedBytes x) }
+
+abbrev pub passBuffer : Result Passing → List ℕ → List ℕ
+passBuffer (refused r) out = out
+passBuffer (accepted x) out = overwritten (passedBytes x) out
+
+-- ---- deliver: the message that was read is taken
+
+abbrev pub takenBytes : Result Sent → Member → List ℕ → List ℕ
+takenBytes (refused r) q b = b
+takenBytes (accepted x) q b = takeBytes q (x .message) b
+
+unfoldable pub deliverBytes : List ℕ → Member → List ℕ → List ℕ
+deliverBytes bytes q b = takenBytes (sentOf (readOf bytes)) q b
+
+-- ---- what a call gives and leaves: the reply r, and the book's bytes at exit, where `new` is what it leaves if it is accepted
+
+pub record Gave (result : Result Done) (new entry exit : List ℕ) (r : Reply) : Type 0 where
+  pub reply : r ≡ replyOf result
+  pub book : exit ≡ left (verdictOf result) new entry
