@@ -1,1 +1,3 @@
 pub mod CallLaws
+pub mod StartLaws
+pub mod PassLaws

@@ -128,3 +128,9 @@ deliverBytes bytes q b = takenBytes (sentOf (readOf bytes)) q b
 pub record Gave (result : Result Done) (new entry exit : List ℕ) (r : Reply) : Type 0 where
   pub reply : r ≡ replyOf result
   pub book : exit ≡ left (verdictOf result) new entry
+
+-- the same of pass, with the buffer before and after it
+pub record GaveOut (result : Result Passing) (new entry exit before after : List ℕ) (r : Passed) : Type 0 where
+  pub reply : r ≡ passedOf result
+  pub book : exit ≡ left (verdictOf result) new entry
+  pub buffer : after ≡ passBuffer result before

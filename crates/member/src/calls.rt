@@ -1,8 +1,8 @@
 // The calls that are the member's steps as they stand, where 4 and 6 let them.
+use crate::admit;
 use acts::Reply;
 use acts::mark;
 use acts::speak;
-use crate::admit;
 use views::refusal::Verdict;
 ghost use Rattle.member.specs.Calls.{Gave, attemptCall, registerCall, sendCall, handCall, tellCall, safeCall, collectCall};
 ghost use Rattle.acts.specs.Acts.{attemptBytes, registerBytes, sendBytes, handBytes, tellBytes, safeBytes, collectBytes};

@@ -1,0 +1,108 @@
+-- Start: the bytes cleared a byte at a time, its refusals in order, and what it leaves.
+use mathlib.Core.Path.{_≡_, refl, _∙_}
+use mathlib.Core.Logic.{⊎-elim}
+use mathlib.Core.Bool.{Bool, true, false}
+use mathlib.Core.List.{List, [], _∷_, _++_, append-assoc, append-nil}
+use Prim.Native.Nat.{ℕ, suc, _+_, _≤_, _<_}
+use native.Mathlib.Omega.{arith}
+use native.Mathlib.Numerals.{add-one}
+use borrow.Author.Tests.{eqb-true, eq-eqb, ne-eqb, le-leb, lt-leb, lt-ltb, le-ltb}
+use lib.Dec.{eqb}
+use lib.ListN.{length, set, replicate, drop, length-replicate, drop-of-length-le, replicate-append-replicate}
+use lib.Seq.{set-at, drop-cons}
+use Rattle.views.specs.declared.refusal.Refusal.{Refusal}
+use Rattle.views.specs.declared.refusal.Refusal.the-variants.{MembersOutOfRange, FirstSetUnfit, RecordsUnsound, NoSuchMember}
+use Rattle.views.specs.declared.refusal.Verdict.{Verdict}
+use Rattle.views.specs.declared.refusal.Verdict.the-variants.{Accepted, Refused}
+use Rattle.views.specs.Limits.{maxMembers, maxOpen}
+use Rattle.views.proofs.SetLaws.{known}
+use Rattle.rules.specs.Data.{Book as Ruled, Result, refused, accepted, need}
+use Rattle.rules.specs.Sound.{within}
+use Rattle.rules.specs.Group.{fits}
+use Rattle.rules.specs.Alone.{startAlone}
+use Rattle.rules.proofs.TestLaws.{within-from}
+use Rattle.books.specs.declared.Book.{Book}
+use Rattle.books.specs.Places.{membersAt, selfAt, bookSize}
+use Rattle.books.specs.Records.{storeRecord}
+use Rattle.steps.specs.Turns.{verdictOf}
+use Rattle.acts.specs.declared.Event.{Event}
+use Rattle.acts.specs.declared.Reply.{Reply}
+use Rattle.acts.specs.Replies.{noEvent, replied, left}
+use Rattle.member.specs.Calls.{startCall, startBytes, startReply, freshRecord}
+
+-- ---- clear: i bytes are 0, the rest is as it was
+
+pub clear-turn : (b : List ℕ) (i : ℕ) → i < length b → set (replicate i 0 ++ drop i b) i 0 ≡ replicate (i + 1) 0 ++ drop (i + 1) b
+clear-turn b i h =
+    rw (drop-cons b i 0 h, set-at (replicate i 0) _ (drop (suc i) b) 0 i (length-replicate i 0), ← replicate-append-replicate {A = ℕ} i 1 0, append-assoc (replicate i 0) (replicate 1 0) (drop (i + 1) b), add-one i) refl
+
+pub cleared : (b : List ℕ) (i : ℕ) → length b ≤ i → i ≤ length b → replicate i 0 ++ drop i b ≡ replicate (length b) 0
+cleared b i h k =
+    let e : i ≡ length b = omega arith in
+    rw (drop-of-length-le b h, append-nil {A = ℕ} (replicate i 0), e) refl
+
+-- ---- 4, 1, 2, 6
+
+module _ (n S p : ℕ) (b : List ℕ) where
+  pub start-length : (length b ≡ bookSize → ⊥) → Refused RecordsUnsound ≡ verdictOf (startCall n S p b)
+  unfolding startCall need
+  start-length h = rw (ne-eqb (length b) bookSize h)
+
+  module _ (size : length b ≡ bookSize) where
+    pub start-none : n < 1 → Refused MembersOutOfRange ≡ verdictOf (startCall n S p b)
+    unfolding startCall startAlone need
+    start-none h = rw (eq-eqb (length b) bookSize size, lt-leb 1 n h)
+
+    module _ (some : 1 ≤ n) where
+      pub start-many : maxMembers < n → Refused MembersOutOfRange ≡ verdictOf (startCall n S p b)
+      unfolding startCall startAlone need
+      start-many h = rw (eq-eqb (length b) bookSize size, le-leb 1 n some, lt-leb n maxMembers h)
+
+      module _ (few : n ≤ maxMembers) where
+        pub start-unfit : fits n S ≡ false → Refused FirstSetUnfit ≡ verdictOf (startCall n S p b)
+        unfolding startCall startAlone need
+        start-unfit h = rw (eq-eqb (length b) bookSize size, within-from 1 n maxMembers some few, h)
+
+        pub start-beyond : fits n S ≡ true → n ≤ p → Refused NoSuchMember ≡ verdictOf (startCall n S p b)
+        unfolding startCall startAlone need
+        start-beyond h k = rw (eq-eqb (length b) bookSize size, within-from 1 n maxMembers some few, h, le-ltb p n k)
+
+        pub start-passes : fits n S ≡ true → p < n → Accepted ≡ verdictOf (startCall n S p b)
+        unfolding startCall startAlone need
+        start-passes h k = rw (eq-eqb (length b) bookSize size, within-from 1 n maxMembers some few, h, lt-ltb p n k)
+
+-- an accepted start has a book of its length
+pub start-size : (n S p : ℕ) (b : List ℕ) (v : Verdict) → v ≡ verdictOf (startCall n S p b) → v ≡ Accepted → length b ≡ bookSize
+unfolding startCall need
+start-size n S p b v e t =
+    ⊎-elim (λ (f : eqb (length b) bookSize ≡ true). eqb-true _ _ f)
+    (λ (f : eqb (length b) bookSize ≡ false). let k : v ≡ Refused RecordsUnsound = e ∙ rw f refl in let z : _≡_ {A = ℕ} 0 1 = cc in absurd (omega arith))
+    (known (eqb (length b) bookSize))
+
+-- ---- the bytes, and the reply
+
+refuses : (s : Result Ruled) (v : Verdict) (x : Refusal) (y : Reply) (new b : List ℕ) → v ≡ verdictOf s → v ≡ Refused x → y ≡ replied (Refused x) noEvent
+    → (y ≡ startReply s) × (b ≡ left (verdictOf s) new b)
+unfolding replied left
+refuses (refused z) v x y new b e t h = let k : z ≡ x = cc in rw k (h, refl)
+refuses (accepted z) v x y new b e t h = let k : _≡_ {A = ℕ} 0 1 = cc in absurd (omega arith)
+
+accepts : (s : Result Ruled) (v : Verdict) (e : Event) (new b d : List ℕ) → v ≡ verdictOf s → v ≡ Accepted → e ≡ noEvent → d ≡ new
+    → (record { verdict = Accepted; event = e } ≡ startReply s) × (d ≡ left (verdictOf s) new b)
+unfolding left
+accepts (refused z) v e new b d f t h g = let k : _≡_ {A = ℕ} 0 1 = cc in absurd (omega arith)
+accepts (accepted z) v e new b d f t h g = (rw h refl, g)
+
+pub begun : (n S p : ℕ) (b c d e : List ℕ) (h : Book) → c ≡ replicate (length b) 0 → d ≡ set (set c membersAt n) selfAt p → h ≡ freshRecord S p → e ≡ storeRecord d h
+    → e ≡ startBytes n S p b
+unfolding startBytes
+begun n S p b c d e h i j k l = l ∙ rw (j, i, k) refl
+
+module _ (n S p : ℕ) (b : List ℕ) (v : Verdict) (tested : v ≡ verdictOf (startCall n S p b)) where
+  pub start-refused : (x : Refusal) (y : Reply) → v ≡ Refused x → y ≡ replied (Refused x) noEvent
+      → (y ≡ startReply (startCall n S p b)) × (b ≡ left (verdictOf (startCall n S p b)) (startBytes n S p b) b)
+  start-refused x y t h = refuses (startCall n S p b) v x y (startBytes n S p b) b tested t h
+
+  pub start-accepted : (e : Event) (d : List ℕ) → v ≡ Accepted → e ≡ noEvent → d ≡ startBytes n S p b
+      → (record { verdict = Accepted; event = e } ≡ startReply (startCall n S p b)) × (d ≡ left (verdictOf (startCall n S p b)) (startBytes n S p b) b)
+  start-accepted e d t h g = accepts (startCall n S p b) v e (startBytes n S p b) b d tested t h g

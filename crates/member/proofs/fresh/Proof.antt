@@ -1,0 +1,16 @@
+-- `member::fresh` meets its contract: the first view is there for its members.
+use mathlib.Core.Path.{refl}
+use Rattle.views.specs.Lists.{places}
+use borrow.Author.Needs.{needs}
+use Rattle.member.proofs.fresh.Statement.{statement}
+use Rattle.member.proofs.fresh.Tie as tie
+
+contains-requires : tie.Need-contains-requires
+contains-requires c κs = search needs
+
+returns : tie.Need-returns
+unfolding places
+returns c = rw (c .contains .ensures) refl
+
+pub fresh-spec : {M : Type 1} → statement M
+fresh-spec = tie.close (tie.spec contains-requires returns)
