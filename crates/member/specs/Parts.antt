@@ -1,26 +1,38 @@
--- The parts in which the code does a call: 4 and 6, which come before all else; the first message written, then gone from outgoing.
+-- The parts in which the code does a call: 4 and 6, which come before all else; what follows them in join, pass and deliver.
 use mathlib.Core.Bool.{cond}
 use mathlib.Core.Path.{_≡_}
 use mathlib.Core.List.{List}
 use Prim.Native.Nat.{ℕ}
-use lib.Dec.{leb, ltb}
+use lib.Dec.{eqb, leb, ltb}
 use lib.ListN.{length}
-use Rattle.views.specs.declared.refusal.Refusal.the-variants.{RecordsUnsound, NoSuchMember, BufferTooShort}
+use Rattle.views.specs.declared.refusal.Refusal.the-variants.{RecordsUnsound, NoSuchMember, SetUnfit, NoCarrierView, OrderFull, BufferTooShort, AnotherView, SenderNotInView}
 use Rattle.views.specs.declared.refusal.Verdict.{Verdict}
 use Rattle.views.specs.declared.refusal.Verdict.the-variants.{Accepted, Refused}
+use Rattle.views.specs.declared.View.{View}
+use Rattle.views.specs.Limits.{maxOrdered}
+use Rattle.views.specs.Refusals.{need as asks}
+use Rattle.views.specs.Sets.{has}
+use Rattle.views.specs.Lists.{idOf, listOf}
 use Rattle.wire.specs.declared.Frame.{Frame}
 use Rattle.wire.specs.Writer.{frameBytes, writeVerdict, leaves, overwritten}
-use Rattle.rules.specs.Data.{Book as Ruled, Result, accepted, need, after}
-use Rattle.rules.specs.Member.{Passing, passing}
-use Rattle.rules.specs.Alone.{passedBytes}
+use Rattle.rules.specs.Data.{Member, Book as Ruled, Result, accepted, need, withView, after}
+use Rattle.rules.specs.Member.{Done, all, joins, Passing, passing}
+use Rattle.rules.specs.Sound.{setFits}
+use Rattle.rules.specs.Group.{fits}
+use Rattle.rules.specs.Alone.{Sent, messageOf, viewsOf, passedBytes}
 use Rattle.books.specs.Books.{bytesSound}
 use Rattle.acts.specs.Replies.{left}
-use Rattle.acts.specs.Acts.{membersIn, selfIn, passBytes}
+use Rattle.acts.specs.Acts.{membersIn, selfIn, taking, passBytes}
 use Rattle.member.specs.declared.Passed.{Passed}
 
 -- 4, then 6
 unfoldable pub admitted : List ℕ → Verdict
 admitted b = cond (bytesSound b) (cond (ltb (selfIn b) (membersIn b)) Accepted (Refused NoSuchMember)) (Refused RecordsUnsound)
+
+-- ---- join, after 4 and 6
+
+abbrev pub joining : ℕ → Member → View → Ruled → Result Done
+joining n p v b = need (fits n (v .set)) SetUnfit (joins p v b)
 
 -- ---- pass
 
@@ -37,3 +49,30 @@ pub record SentOut (f : Frame) (entry exit before after : List ℕ) (r : Passed)
   pub reply : r ≡ passedWith (writeVerdict f (length before)) (length (frameBytes f))
   pub book : exit ≡ left (writeVerdict f (length before)) (passBytes entry) entry
   pub buffer : after ≡ leaves (writeVerdict f (length before)) (overwritten (frameBytes f) before) before
+
+-- ---- deliver
+
+-- the message that a frame is
+abbrev pub sentIn : Frame → Sent
+sentIn f = record { view = f .view .0; message = messageOf (f .message) (listOf (f .views)) }
+
+-- after the reader, in the carrier view v
+abbrev pub arriving : ℕ → View → Sent → Member → Ruled → Result Done
+arriving n v x q b =
+    need (all (setFits n) (viewsOf (x .message))) SetUnfit (
+    need (eqb (x .view) (idOf v)) AnotherView (
+    need (has (v .set) q) SenderNotInView (
+    need (ltb (b .carrier .taken) maxOrdered) OrderFull (
+    taking q (x .message) b))))
+
+-- after 4 and 6
+abbrev pub delivering : ℕ → Result Sent → Member → Ruled → Result Done
+delivering n read q b = withView (b .carrier .view) NoCarrierView (λ v. after read (λ x. arriving n v x q b))
+
+-- 7, 41, 42, 16 of a frame
+unfoldable pub frameAnswer : ℕ → View → ℕ → Member → Frame → Verdict
+frameAnswer n v taken q f =
+    asks (all (setFits n) (listOf (f .views))) SetUnfit (
+    asks (eqb (f .view .0) (idOf v)) AnotherView (
+    asks (has (v .set) q) SenderNotInView (
+    asks (ltb taken maxOrdered) OrderFull Accepted)))

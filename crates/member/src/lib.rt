@@ -1,6 +1,7 @@
 // The member by itself: a host lends its book and calls start, then the member's steps, on any bytes. What is no sound book gets 4 before anything else.
 pub mod calls;
-pub mod messages;
+pub mod deliver;
+pub mod pass;
 
 use acts::Reply;
 use books::Book;

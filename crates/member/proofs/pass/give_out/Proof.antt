@@ -1,9 +1,9 @@
--- `member::messages::give_out` meets its contract: the frame written and the first message gone, or neither.
+-- `member::pass::give_out` meets its contract: the frame written and the first message gone, or neither.
 use Rattle.acts.specs.Acts.{passBytes}
 use Rattle.member.proofs.PassLaws.{out-refused, out-accepted}
 use borrow.Author.Needs.{needs}
-use Rattle.member.proofs.messages.give_out.Statement.{statement}
-use Rattle.member.proofs.messages.give_out.Tie as tie
+use Rattle.member.proofs.pass.give_out.Statement.{statement}
+use Rattle.member.proofs.pass.give_out.Tie as tie
 
 write-requires : tie.Need-write-requires
 write-requires c κs = search needs

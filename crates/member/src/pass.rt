@@ -1,4 +1,4 @@
-// The calls between the member and its carrier: pass gives out bytes.
+// Pass: the first outgoing message is given out in bytes.
 use crate::Passed;
 use crate::admit;
 use views::refusal::Refusal;

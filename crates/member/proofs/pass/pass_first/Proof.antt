@@ -1,10 +1,10 @@
--- `member::messages::pass_first` meets its contract: 13, 14, and then what the writer says of the first message.
+-- `member::pass::pass_first` meets its contract: 13, 14, and then what the writer says of the first message.
 use native.Mathlib.Omega.{arith}
 use Rattle.acts.proofs.Committed.{sound-layout, sound-size}
 use Rattle.member.proofs.PassLaws.{pass-unseated, pass-emptied, first-few, pass-done}
 use borrow.Author.Needs.{needs}
-use Rattle.member.proofs.messages.pass_first.Statement.{statement}
-use Rattle.member.proofs.messages.pass_first.Tie as tie
+use Rattle.member.proofs.pass.pass_first.Statement.{statement}
+use Rattle.member.proofs.pass.pass_first.Tie as tie
 
 load-seat-requires : tie.Need-load-seat-requires
 load-seat-requires c κs = omega (arith, sound-size _ (c .before .before .before .pre))

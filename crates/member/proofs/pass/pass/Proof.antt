@@ -1,9 +1,9 @@
--- `member::messages::pass` meets its contract: 4, 6, then the first outgoing message.
+-- `member::pass::pass` meets its contract: 4, 6, then the first outgoing message.
 use Rattle.member.proofs.CallLaws.{call-sound}
 use Rattle.member.proofs.PassLaws.{pass-refused, pass-given}
 use borrow.Author.Needs.{needs}
-use Rattle.member.proofs.messages.pass.Statement.{statement}
-use Rattle.member.proofs.messages.pass.Tie as tie
+use Rattle.member.proofs.pass.pass.Statement.{statement}
+use Rattle.member.proofs.pass.pass.Tie as tie
 
 admit-requires : tie.Need-admit-requires
 admit-requires c κs = search needs
