@@ -96,6 +96,21 @@ called-refused {A} b r v x e t =
     (λ (s : bytesSound b ≡ false). let k : Refused RecordsUnsound ≡ Refused x = rw s at a in let i : RecordsUnsound ≡ x = cc in unsound-called b r s ∙ rw i refl)
     (known (bytesSound b))
 
+-- ---- what an accepted call met
+
+pub need-gave : {A : Type 0} (t : Bool) (r : Refusal) (x : Result A) (y : A) → need t r x ≡ accepted y → (t ≡ true) × (x ≡ accepted y)
+unfolding need
+need-gave true r x y e = (refl, e)
+need-gave false r x y e = let z : _≡_ {A = ℕ} 0 1 = cc in absurd (omega arith)
+
+pub called-gave : {A : Type 0} (b : List ℕ) (r : Result A) (x : A) → called b r ≡ accepted x → Admitted b × (r ≡ accepted x)
+called-gave b r x e =
+    ⊎-elim (λ (s : bytesSound b ≡ true).
+    let (m, g) = need-gave (ltb (selfIn b) (membersIn b)) NoSuchMember r x (sym (sound-called b r s) ∙ e) in (record { sound = s; member = ltb-true _ _ m }, g))
+    (λ (s : bytesSound b ≡ false).
+    let k : refused RecordsUnsound ≡ accepted x = sym (unsound-called b r s) ∙ e in let z : _≡_ {A = ℕ} 0 1 = cc in absurd (omega arith))
+    (known (bytesSound b))
+
 -- ---- a call that is a step
 
 -- r is the step's result, `new` what it leaves if it is accepted

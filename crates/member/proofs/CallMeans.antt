@@ -1,0 +1,147 @@
+-- An accepted call leaves bytes that are the rule's book, in the layout, of the same member.
+use mathlib.Core.Path.{_≡_, refl, sym, ap, _∙_}
+use mathlib.Core.Bool.{true}
+use mathlib.Core.Option.{Option, none, some}
+use mathlib.Core.List.{List}
+use Prim.Native.Nat.{ℕ, _^_, _≤_, _<_}
+use native.Mathlib.Omega.{arith}
+use borrow.Author.Tests.{leb-true, ltb-true}
+use lib.Dec.{leb, ltb}
+use lib.ListN.{length, getD}
+use Rattle.views.specs.declared.View.{View}
+use Rattle.views.specs.declared.refusal.Refusal.{Refusal}
+use Rattle.views.specs.Limits.{maxOpen, maxOrdered}
+use Rattle.views.specs.Sets.{one, has}
+use Rattle.wire.specs.Reader.{readOf}
+use Rattle.wire.proofs.TripViews.{ViewFits, AreBytes}
+use Rattle.rules.specs.Data.{Book as Ruled, Message, client, info, registered, told, entry, ok, Result, refused, accepted, withView, after}
+use Rattle.rules.specs.Member.{Done, Passing, passing, took, attempts, registers, sends, hands, tells, reports, collects}
+use Rattle.rules.specs.Sound.{within, countFits}
+use Rattle.rules.specs.Alone.{Sent, sentOf, viewsOf, alone, joinAlone, passAlone, deliverAlone, attemptAlone}
+use Rattle.rules.proofs.TestLaws.{within-says}
+use Rattle.rules.proofs.AloneTaken.{Readable}
+use Rattle.rules.proofs.Readable.{Carries, reading-readable, reading-fits}
+use Rattle.slots.proofs.Stored.{MessageFits}
+use Rattle.books.specs.Places.{takenAt}
+use Rattle.books.specs.Records.{recordIn}
+use Rattle.books.specs.Books.{bookIn}
+use Rattle.acts.specs.Acts.{membersIn, selfIn, joinBytes, passBytes, takeBytes, attemptBytes, registerBytes, sendBytes, handBytes, tellBytes, safeBytes, collectBytes}
+use Rattle.acts.proofs.Means.{Means}
+use Rattle.acts.proofs.MeansSpeak.{register-means, send-means, tell-means}
+use Rattle.acts.proofs.MeansMarks.{hand-means, safe-means, collect-means}
+use Rattle.acts.proofs.MeansJoin.{join-means, attempt-means, pass-means}
+use Rattle.acts.proofs.MeansTake.{toldOf, take-means}
+use Rattle.member.specs.Calls.{joinCall, passCall, takenBytes, deliverCall, deliverBytes, attemptCall, registerCall, sendCall, handCall, tellCall, safeCall, collectCall}
+use Rattle.member.proofs.CallLaws.{Admitted, need-gave, called-gave}
+use Rattle.member.proofs.ArriveLaws.{carrier-mark, sender-small}
+
+-- ---- what an accepted result met
+
+view-gave : {A : Type 0} (o : Option View) (r : Refusal) (f : View → Result A) (y : A) → withView o r f ≡ accepted y → (v : View) × (o ≡ some v) × (f v ≡ accepted y)
+unfolding withView
+view-gave none r f y e = let z : _≡_ {A = ℕ} 0 1 = cc in absurd (omega arith)
+view-gave (some v) r f y e = (v, refl, e)
+
+after-gave : {A B : Type 0} (r : Result A) (f : A → Result B) (y : B) → after r f ≡ accepted y → (x : A) × (r ≡ accepted x) × (f x ≡ accepted y)
+unfolding after
+after-gave (refused x) f y e = let z : _≡_ {A = ℕ} 0 1 = cc in absurd (omega arith)
+after-gave (accepted x) f y e = (x, refl, e)
+
+-- a delivery that was accepted had a message to take
+pub delivered : (n p : ℕ) (read : Result Sent) (q : ℕ) (b : Ruled) (d : Done) → deliverAlone n p read q b ≡ accepted d → (x : Sent) × (read ≡ accepted x)
+unfolding deliverAlone alone
+delivered n p read q b d e =
+    let (_, e1) = need-gave _ _ _ _ e in
+    let (_, e2) = need-gave _ _ _ _ e1 in
+    let (v, _, e3) = view-gave (b .carrier .view) _ _ d e2 in
+    let (x, is, _) = after-gave read _ d e3 in
+    (x, is)
+
+-- ---- a message that was read
+
+told-byte : (m : Message) → countFits (entry 0 m) ≡ true → toldOf m < 256
+told-byte (client x) h = omega arith
+told-byte (info v l) h = omega arith
+told-byte registered h = omega arith
+told-byte (told k) h = omega (arith, within-says 1 k maxOrdered h .1)
+
+carried-fits : (m : Message) → Carries m → MessageFits m
+carried-fits m c = record { number = c .number; few = c .few; ids = c .ids }
+
+taken-means : (b : List ℕ) (q : ℕ) (read : Result Sent) (x : Sent) (B : Ruled) (d : Done) → read ≡ accepted x → record { book = B; answer = ok } ≡ d
+    → Means b (takeBytes q (x .message) b) B → Means b (takenBytes read q b) (d .book)
+taken-means b q read x B d is given m = rw (is, ← given) m
+
+-- ---- the calls
+
+module _ (b : List ℕ) (bytes : AreBytes b) where
+  pub join-call : (v : View) → ViewFits v → (d : Done) → joinCall v b ≡ accepted d → Means b (joinBytes v b) (d .book)
+  unfolding joinCall joinAlone
+  join-call v w d e =
+      let (a, r) = called-gave b _ d e in
+      join-means b bytes (a .sound) v w d (need-gave _ _ _ _ r .1)
+
+  pub pass-call : (room : ℕ) (x : Passing) → passCall room b ≡ accepted x → Means b (passBytes b) (x .book)
+  unfolding passCall passAlone
+  pass-call room x e =
+      let (a, r) = called-gave b _ x e in
+      let (y, p, g) = after-gave (passing (bookIn b)) _ x r in
+      let same : accepted y ≡ accepted x = need-gave _ _ _ _ g .1 in
+      pass-means b bytes (a .sound) x (p ∙ same)
+
+  pub attempt-call : (d : Done) → attemptCall b ≡ accepted d → Means b (attemptBytes b) (d .book)
+  unfolding attemptCall attemptAlone
+  attempt-call d e =
+      let (a, r) = called-gave b _ d e in
+      let (y, p, g) = after-gave (attempts one (membersIn b) (selfIn b) (bookIn b)) _ d r in
+      let (few, same) = need-gave _ _ _ _ g in
+      let k : y ≡ d = cc in
+      attempt-means b bytes (a .sound) one d (p ∙ same) (rw (← k) (leb-true _ _ few))
+
+  pub register-call : (d : Done) → registerCall b ≡ accepted d → Means b (registerBytes b) (d .book)
+  unfolding registerCall
+  register-call d e = let (a, r) = called-gave b _ d e in register-means b bytes (a .sound) d r
+
+  pub send-call : (x : ℕ) → x < 256 ^ 8 → (d : Done) → sendCall x b ≡ accepted d → Means b (sendBytes x b) (d .book)
+  unfolding sendCall
+  send-call x w d e = let (a, r) = called-gave b _ d e in send-means b bytes (a .sound) x w d r
+
+  pub hand-call : (d : Done) → handCall b ≡ accepted d → Means b (handBytes b) (d .book)
+  unfolding handCall
+  hand-call d e = let (a, r) = called-gave b _ d e in hand-means b bytes (a .sound) d r
+
+  pub tell-call : (d : Done) → tellCall b ≡ accepted d → Means b (tellBytes b) (d .book)
+  unfolding tellCall
+  tell-call d e = let (a, r) = called-gave b _ d e in tell-means b bytes (a .sound) d r
+
+  pub safe-call : (d : Done) → safeCall b ≡ accepted d → Means b (safeBytes b) (d .book)
+  unfolding safeCall
+  safe-call d e = let (a, r) = called-gave b _ d e in safe-means b bytes (a .sound) d r
+
+  pub collect-call : (d : Done) → collectCall b ≡ accepted d → Means b (collectBytes b) (d .book)
+  unfolding collectCall
+  collect-call d e = let (a, r) = called-gave b _ d e in collect-means b bytes (a .sound) d r
+
+  taken-is : bookIn b .carrier .taken ≡ getD b takenAt 0
+  unfolding bookIn recordIn
+  taken-is = refl
+
+  -- what was read is what is taken
+  pub deliver-call : (m : List ℕ) (q : ℕ) → AreBytes m → (d : Done) → deliverCall m q b ≡ accepted d → Means b (deliverBytes m q b) (d .book)
+  unfolding deliverCall deliverAlone deliverBytes
+  deliver-call m q w d e =
+      let (a, r) = called-gave b _ d e in
+      let (v, carrier, r1) = view-gave (bookIn b .carrier .view) _ _ d r in
+      let (x, read, r2) = after-gave (sentOf (readOf m)) _ d r1 in
+      let (_, r3) = need-gave _ _ _ _ r2 in
+      let (_, r4) = need-gave _ _ _ _ r3 in
+      let (sender, r5) = need-gave (has (v .set) q) _ _ _ r4 in
+      let (room, r6) = need-gave (ltb (bookIn b .carrier .taken) maxOrdered) _ _ _ r5 in
+      let roomy : bookIn b .carrier .taken < maxOrdered = ltb-true _ _ room in
+      let (few, r7) = need-gave (leb (length (took q (x .message) (bookIn b) .held .opens)) maxOpen) _ _ _ r6 in
+      let given : record { book = took q (x .message) (bookIn b); answer = ok } ≡ d = cc in
+      let f = reading-fits m x w read in
+      let means : Means b (takeBytes q (x .message) b) (took q (x .message) (bookIn b))
+      = take-means b bytes (a .sound) q (x .message) (sender-small b v q (a .sound) carrier sender) (carried-fits (x .message) f) (f .sets)
+      (told-byte (x .message) (reading-readable m x read .count)) (carrier-mark b v carrier) (rw taken-is at roomy) (leb-true _ _ few) in
+      taken-means b q (sentOf (readOf m)) x (took q (x .message) (bookIn b)) d read given means

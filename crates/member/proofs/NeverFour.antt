@@ -1,0 +1,119 @@
+-- A member by itself never gets 4: from an accepted start no list of calls, refused or not, leads to bytes that are no sound book.
+use mathlib.Core.Path.{_≡_, refl, sym, ap, _∙_}
+use mathlib.Core.Bool.{true}
+use mathlib.Core.List.{List, [], _∷_}
+use Prim.Native.Nat.{ℕ, _^_, _≤_, _<_}
+use native.Mathlib.Omega.{arith}
+use lib.ListN.{length, getD}
+use Rattle.views.specs.declared.refusal.Refusal.the-variants.{RecordsUnsound}
+use Rattle.views.specs.Sets.{one}
+use Rattle.wire.specs.Reader.{readOf}
+use Rattle.wire.proofs.TripViews.{AreBytes}
+use Rattle.rules.specs.Data.{Book as Ruled, Result, refused, accepted}
+use Rattle.rules.specs.Member.{Done, Passing}
+use Rattle.rules.specs.Alone.{Sent, sentOf, deliverAlone}
+use Rattle.rules.proofs.TestLaws.{_and_, conditions-from}
+use Rattle.rules.proofs.AloneKept.{KeptAlone, start-kept, join-kept, pass-kept, attempt-kept, register-kept, send-kept, hand-kept, tell-kept, safe-kept, collect-kept}
+use Rattle.rules.proofs.AloneTaken.{Readable, deliver-kept}
+use Rattle.rules.proofs.Readable.{reading-readable}
+use Rattle.books.specs.Books.{bookIn, layoutFits, bytesSound}
+use Rattle.books.proofs.LayoutLaws.{Layout, layout-from}
+use Rattle.steps.specs.Turns.{verdictOf}
+use Rattle.acts.specs.Replies.{left}
+use Rattle.acts.specs.Acts.{membersIn, selfIn}
+use Rattle.acts.proofs.Means.{Means}
+use Rattle.member.specs.Calls.{onBook, viewOf, joinCall, passCall, deliverCall, attemptCall, registerCall, sendCall, handCall, tellCall, safeCall, collectCall, startCall, startBytes}
+use Rattle.member.specs.Drives.{Call, after, lastOf, Within, AllWithin, NeverFour}
+use Rattle.member.proofs.CallLaws.{need-gave}
+use Rattle.member.proofs.StartMeans.{start-gave, start-means}
+use Rattle.member.proofs.CallMeans.{delivered, join-call, pass-call, deliver-call, attempt-call, register-call, send-call, hand-call, tell-call, safe-call, collect-call}
+
+-- what every call keeps of a member's bytes
+record Kept (b : List ℕ) : Type 0 where
+  bytes : AreBytes b
+  layout : Layout b
+  book : KeptAlone (membersIn b) (bookIn b)
+  member : selfIn b < membersIn b
+
+-- such bytes are a sound book
+kept-sound : (b : List ℕ) → Kept b → bytesSound b ≡ true
+unfolding bytesSound
+kept-sound b k = conditions-from _ (layout-from b (k .layout) and k .book .sound and tt)
+
+-- ---- one call
+
+means-kept : (b d : List ℕ) (B : Ruled) → Kept b → Means b d B → KeptAlone (membersIn b) B → Kept d
+means-kept b d B k m s = record {
+  bytes = m .bytes;
+  layout = m .layout;
+  book = rw (m .members, m .book) s;
+  member = rw (m .members, m .self) (k .member);
+}
+
+-- whatever the result: B is the book that it gives
+left-kept : {A : Type 0} (B : A → Ruled) (b new : List ℕ) (r : Result A) → Kept b → ((x : A) → r ≡ accepted x → Means b new (B x) × KeptAlone (membersIn b) (B x))
+    → Kept (left (verdictOf r) new b)
+unfolding left
+left-kept B b new (refused x) k f = k
+left-kept B b new (accepted x) k f = let (m, s) = f x refl in means-kept b new (B x) k m s
+
+module _ (b : List ℕ) (k : Kept b) where
+  abbrev n : ℕ
+  n = membersIn b
+
+  abbrev p : ℕ
+  p = selfIn b
+
+  -- a call of the member's rules, after 4 for the layout
+  call-kept : {A : Type 0} (B : A → Ruled) (new : List ℕ) (r : Result A) → ((x : A) → onBook b r ≡ accepted x → Means b new (B x))
+      → ((x : A) → r ≡ accepted x → KeptAlone n (B x)) → Kept (left (verdictOf (onBook b r)) new b)
+  call-kept B new r f g = left-kept B b new (onBook b r) k (λ x e. (f x e, g x (need-gave (layoutFits b) RecordsUnsound r x e .1)))
+
+  step-kept : (new : List ℕ) (r : Result Done) → ((d : Done) → onBook b r ≡ accepted d → Means b new (d .book))
+      → ((d : Done) → r ≡ accepted d → KeptAlone n (d .book)) → Kept (left (verdictOf (onBook b r)) new b)
+  step-kept new r f g = call-kept (λ (d : Done). d .book) new r f g
+
+  -- what the reader gave is taken; where it refused, nothing is
+  taken-kept : (read : Result Sent) → ((x : Sent) → read ≡ accepted x → Readable (x .message)) → (q : ℕ) (d : Done)
+      → deliverAlone n p read q (bookIn b) ≡ accepted d → KeptAlone n (d .book)
+  taken-kept read f q d e = let (x, is) = delivered n p read q (bookIn b) d e in deliver-kept n p x q (bookIn b) d (k .book) (f x is) (rw is at e)
+
+  after-kept : (c : Call) → Within c → Kept (after c b)
+  unfolding after Within joinCall passCall deliverCall attemptCall registerCall sendCall handCall tellCall safeCall collectCall
+  after-kept (Call.join g S) w =
+      step-kept _ _ (join-call b (k .bytes) (viewOf g S) (record { id = w .0; set = w .1 })) (λ d e. join-kept n p (viewOf g S) (bookIn b) d (k .book) e)
+  after-kept (Call.pass buffer) w =
+      call-kept (λ (x : Passing). x .book) _ _ (pass-call b (k .bytes) (length buffer)) (λ x e. pass-kept n p (length buffer) (bookIn b) x (k .book) e)
+  after-kept (Call.deliver bytes q) w =
+      step-kept _ _ (deliver-call b (k .bytes) bytes q (w .0)) (λ d e. taken-kept (sentOf (readOf bytes)) (reading-readable bytes) q d e)
+  after-kept Call.attempt w = step-kept _ _ (attempt-call b (k .bytes)) (λ d e. attempt-kept one n p (bookIn b) d (k .book) e)
+  after-kept Call.register w = step-kept _ _ (register-call b (k .bytes)) (λ d e. register-kept n p (bookIn b) d (k .book) e)
+  after-kept (Call.send x) w = step-kept _ _ (send-call b (k .bytes) x w) (λ d e. send-kept n p x (bookIn b) d (k .book) e)
+  after-kept Call.hand w = step-kept _ _ (hand-call b (k .bytes)) (λ d e. hand-kept n p (bookIn b) d (k .book) e)
+  after-kept Call.tell w = step-kept _ _ (tell-call b (k .bytes)) (λ d e. tell-kept n p (bookIn b) d (k .book) e)
+  after-kept Call.safe w = step-kept _ _ (safe-call b (k .bytes)) (λ d e. safe-kept n p (bookIn b) d (k .book) e)
+  after-kept Call.collect w = step-kept _ _ (collect-call b (k .bytes)) (λ d e. collect-kept n p (bookIn b) d (k .book) e)
+
+-- ---- any list of calls
+
+last-kept : (calls : List Call) → AllWithin calls → (b : List ℕ) → Kept b → Kept (lastOf b calls)
+unfolding lastOf AllWithin
+last-kept [] w b k = k
+last-kept (c ∷ l) w b k = last-kept l (w .1) (after c b) (after-kept b k c (w .0))
+
+-- ---- from an accepted start
+
+begun-kept : (n S p : ℕ) (b : List ℕ) (x : Ruled) → S < 256 → startCall n S p b ≡ accepted x → Kept (startBytes n S p b)
+unfolding startCall
+begun-kept n S p b x w e =
+    let s = start-gave n S p b x e in
+    let m = start-means n S p b x w e in
+    record {
+      bytes = m .bytes;
+      layout = m .layout;
+      book = rw (m .members, m .book) (start-kept n S p x (need-gave _ _ _ _ e .1));
+      member = rw (m .members, m .self) (s .member);
+    }
+
+pub never-four : NeverFour
+never-four n S p b x w e calls within = kept-sound (lastOf (startBytes n S p b) calls) (last-kept calls within (startBytes n S p b) (begun-kept n S p b x w e))

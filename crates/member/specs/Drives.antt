@@ -1,0 +1,65 @@
+-- A host that drives a member: its calls with their operands, and the book's bytes after any list of them, refused or not.
+use mathlib.Core.Path.{_≡_}
+use mathlib.Core.Bool.{true}
+use mathlib.Core.List.{List, [], _∷_}
+use Prim.Native.Nat.{ℕ, _^_, _<_}
+use lib.ListN.{length, getD}
+use Rattle.rules.specs.Data.{Identifier, Member, Book, accepted}
+use Rattle.books.specs.Books.{bytesSound}
+use Rattle.steps.specs.Turns.{verdictOf}
+use Rattle.acts.specs.Replies.{left}
+use Rattle.acts.specs.Acts.{joinBytes, passBytes, attemptBytes, registerBytes, sendBytes, handBytes, tellBytes, safeBytes, collectBytes}
+use Rattle.member.specs.Calls.{viewOf, joinCall, passCall, deliverCall, deliverBytes, attemptCall, registerCall, sendCall, handCall, tellCall, safeCall, collectCall, startCall, startBytes}
+
+pub data Call : Type 0 where
+  join : Identifier → ℕ → Call  -- the view's identifier and set
+  pass : List ℕ → Call  -- the buffer
+  deliver : List ℕ → Member → Call  -- the bytes and their sender
+  attempt : Call
+  register : Call
+  send : ℕ → Call  -- the entry number
+  hand : Call
+  tell : Call
+  safe : Call
+  collect : Call
+
+-- the book's bytes after a call
+unfoldable pub after : Call → List ℕ → List ℕ
+after (join g S) b = left (verdictOf (joinCall (viewOf g S) b)) (joinBytes (viewOf g S) b) b
+after (pass buffer) b = left (verdictOf (passCall (length buffer) b)) (passBytes b) b
+after (deliver bytes q) b = left (verdictOf (deliverCall bytes q b)) (deliverBytes bytes q b) b
+after attempt b = left (verdictOf (attemptCall b)) (attemptBytes b) b
+after register b = left (verdictOf (registerCall b)) (registerBytes b) b
+after (send x) b = left (verdictOf (sendCall x b)) (sendBytes x b) b
+after hand b = left (verdictOf (handCall b)) (handBytes b) b
+after tell b = left (verdictOf (tellCall b)) (tellBytes b) b
+after safe b = left (verdictOf (safeCall b)) (safeBytes b) b
+after collect b = left (verdictOf (collectCall b)) (collectBytes b) b
+
+-- after one call after another
+unfoldable pub lastOf : List ℕ → List Call → List ℕ
+lastOf b [] = b
+lastOf b (c ∷ l) = lastOf (after c b) l
+
+-- the operands are within their widths
+unfoldable pub Within : Call → Type 0
+Within (join g S) = (g < 256 ^ 4) × (S < 256)
+Within (pass buffer) = Unit {0}
+Within (deliver bytes q) = (((j : ℕ) → getD bytes j 0 < 256) × (q < 256))
+Within attempt = Unit {0}
+Within register = Unit {0}
+Within (send x) = x < 256 ^ 8
+Within hand = Unit {0}
+Within tell = Unit {0}
+Within safe = Unit {0}
+Within collect = Unit {0}
+
+unfoldable pub AllWithin : List Call → Type 0
+AllWithin [] = Unit {0}
+AllWithin (c ∷ l) = Within c × AllWithin l
+
+-- ---- the promise: from an accepted start no list of calls leads to bytes that get 4
+
+abbrev pub NeverFour : Type 0
+NeverFour = (n S p : ℕ) (b : List ℕ) (x : Book) → S < 256 → startCall n S p b ≡ accepted x
+    → (calls : List Call) → AllWithin calls → bytesSound (lastOf (startBytes n S p b) calls) ≡ true
