@@ -1,9 +1,9 @@
 -- An accepted call leaves bytes that are the rule's book, in the layout, of the same member.
-use mathlib.Core.Path.{_≡_, refl, sym, ap, _∙_}
+use mathlib.Core.Path.{_≡_, refl, _∙_}
 use mathlib.Core.Bool.{true}
 use mathlib.Core.Option.{Option, none, some}
 use mathlib.Core.List.{List}
-use Prim.Native.Nat.{ℕ, _^_, _≤_, _<_}
+use Prim.Native.Nat.{ℕ, _^_, _<_}
 use native.Mathlib.Omega.{arith}
 use borrow.Author.Tests.{leb-true, ltb-true}
 use lib.Dec.{leb, ltb}
@@ -15,24 +15,25 @@ use Rattle.views.specs.Sets.{one, has}
 use Rattle.wire.specs.Reader.{readOf}
 use Rattle.wire.proofs.TripViews.{ViewFits, AreBytes}
 use Rattle.rules.specs.Data.{Book as Ruled, Message, client, info, registered, told, entry, ok, Result, refused, accepted, withView, after}
-use Rattle.rules.specs.Member.{Done, Passing, passing, took, attempts, registers, sends, hands, tells, reports, collects}
-use Rattle.rules.specs.Sound.{within, countFits}
-use Rattle.rules.specs.Alone.{Sent, sentOf, viewsOf, alone, joinAlone, passAlone, deliverAlone, attemptAlone}
+use Rattle.rules.specs.Member.{Done, Passing, passing, took, attempts}
+use Rattle.rules.specs.Sound.{countFits}
+use Rattle.rules.specs.Alone.{Sent, sentOf, alone, joinAlone, passAlone, deliverAlone, attemptAlone}
 use Rattle.rules.proofs.TestLaws.{within-says}
-use Rattle.rules.proofs.AloneTaken.{Readable}
 use Rattle.rules.proofs.Readable.{Carries, reading-readable, reading-fits}
 use Rattle.slots.proofs.Stored.{MessageFits}
 use Rattle.books.specs.Places.{takenAt}
 use Rattle.books.specs.Records.{recordIn}
 use Rattle.books.specs.Books.{bookIn}
+use Rattle.acts.specs.declared.Reply.{Reply}
+use Rattle.acts.specs.Replies.{left}
 use Rattle.acts.specs.Acts.{membersIn, selfIn, joinBytes, passBytes, takeBytes, attemptBytes, registerBytes, sendBytes, handBytes, tellBytes, safeBytes, collectBytes}
 use Rattle.acts.proofs.Means.{Means}
 use Rattle.acts.proofs.MeansSpeak.{register-means, send-means, tell-means}
 use Rattle.acts.proofs.MeansMarks.{hand-means, safe-means, collect-means}
 use Rattle.acts.proofs.MeansJoin.{join-means, attempt-means, pass-means}
 use Rattle.acts.proofs.MeansTake.{toldOf, take-means}
-use Rattle.member.specs.Calls.{joinCall, passCall, takenBytes, deliverCall, deliverBytes, attemptCall, registerCall, sendCall, handCall, tellCall, safeCall, collectCall}
-use Rattle.member.proofs.CallLaws.{Admitted, need-gave, called-gave}
+use Rattle.member.specs.Calls.{Gave, joinCall, passCall, takenBytes, deliverCall, deliverBytes, attemptCall, registerCall, sendCall, handCall, tellCall, safeCall, collectCall}
+use Rattle.member.proofs.CallLaws.{need-gave, called-gave}
 use Rattle.member.proofs.ArriveLaws.{carrier-mark, sender-small}
 
 -- ---- what an accepted result met
@@ -145,3 +146,9 @@ module _ (b : List ℕ) (bytes : AreBytes b) where
       = take-means b bytes (a .sound) q (x .message) (sender-small b v q (a .sound) carrier sender) (carried-fits (x .message) f) (f .sets)
       (told-byte (x .message) (reading-readable m x read .count)) (carrier-mark b v carrier) (rw taken-is at roomy) (leb-true _ _ few) in
       taken-means b q (sentOf (readOf m)) x (took q (x .message) (bookIn b)) d read given means
+
+-- ---- by a call's contract: the bytes at its exit are the book that the rule gave
+
+pub exit-means : (r : Result Done) (new b exit : List ℕ) (y : Reply) (d : Done) → Gave r new b exit y → r ≡ accepted d → Means b new (d .book) → Means b exit (d .book)
+unfolding left
+exit-means r new b exit y d g e m = let is : exit ≡ new = g .book ∙ rw e refl in rw is m

@@ -4,7 +4,7 @@ use mathlib.Core.Logic.{⊎-elim}
 use mathlib.Core.Bool.{Bool, true, false, cond, not}
 use mathlib.Core.Option.{none, some}
 use mathlib.Core.List.{List, [], _∷_}
-use Prim.Native.Nat.{ℕ, zero, suc, _+_, _*_, _≤_, _<_}
+use Prim.Native.Nat.{ℕ, zero, suc, _+_, _≤_, _<_}
 use native.Mathlib.Omega.{arith}
 use borrow.Author.Tests.{leb-true, le-leb, not-true, not-false}
 use lib.Dec.{eqb, leb}
@@ -14,7 +14,7 @@ use Rattle.views.specs.declared.refusal.Refusal.{Refusal}
 use Rattle.views.specs.declared.refusal.Refusal.the-variants.{NoCarrierView, NoneOutgoing, BufferTooShort}
 use Rattle.views.specs.declared.refusal.Verdict.{Verdict}
 use Rattle.views.specs.declared.refusal.Verdict.the-variants.{Accepted, Refused}
-use Rattle.views.specs.Limits.{maxViews, maxOutgoing, maxOrdered}
+use Rattle.views.specs.Limits.{maxViews, maxOrdered}
 use Rattle.views.specs.Refusals.{need as needs-it, andThen}
 use Rattle.views.specs.Sets.{both, isEmpty, isBeyond}
 use Rattle.views.specs.Lists.{idOf, isRising, listOf}
@@ -24,14 +24,14 @@ use Rattle.wire.specs.declared.Frame.{Frame}
 use Rattle.wire.specs.declared.Written.{Written}
 use Rattle.wire.specs.Format.{kindOf, isKnown, viewsAllowed, someEmpty, toldFits, contentOf}
 use Rattle.wire.specs.Reader.{viewIn}
-use Rattle.wire.specs.Writer.{numberOf, frameBytes, frameVerdict, writeVerdict, writtenOf, leaves, overwritten, Wrote}
+use Rattle.wire.specs.Writer.{numberOf, frameBytes, frameVerdict, writeVerdict, writtenOf, leaves, Wrote}
 use Rattle.wire.proofs.ReaderLaws.{list-viewsIn}
 use Rattle.rules.specs.Data.{Book as Ruled, Message, client, info, registered, told, Entry, entry, Result, refused, accepted, need, withView, withFirst, after}
 use Rattle.rules.specs.Member.{Passing, passing, outgoes, all}
 use Rattle.rules.specs.Sound.{within, countFits, setFits, opensRise}
 use Rattle.rules.specs.Alone.{viewsOf, carriedOf, setsFit, passAlone, bookSound, messageBytes, passedBytes}
 use Rattle.rules.proofs.TestLaws.{all-at, conditions-say, both-from, within-says}
-use Rattle.slots.specs.Slots.{slotSize, kindIn, numberIn, countIn, messageIn, entryIn, entriesIn, queueIn, slotFits, slotsFit}
+use Rattle.slots.specs.Slots.{slotSize, kindIn, numberIn, countIn, messageIn, entryIn, entriesIn, slotFits, slotsFit}
 use Rattle.slots.specs.Frames.{framed, frameAt}
 use Rattle.slots.proofs.Frames.{EntryOk, frame-carried, frame-views, frame-message}
 use Rattle.books.specs.declared.Seat.{Seat}

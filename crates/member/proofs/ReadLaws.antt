@@ -11,10 +11,8 @@ use lib.ListN.{length}
 use Rattle.views.specs.declared.View.{View}
 use Rattle.views.specs.declared.refusal.Refusal.{Refusal}
 use Rattle.views.specs.declared.refusal.Refusal.the-variants.{NoCarrierView}
-use Rattle.views.specs.declared.refusal.Verdict.{Verdict}
 use Rattle.views.specs.declared.refusal.Verdict.the-variants.{Accepted, Refused}
 use Rattle.views.specs.Lists.{listOf}
-use Rattle.wire.specs.declared.Frame.{Frame}
 use Rattle.wire.specs.declared.Reading.{Reading}
 use Rattle.wire.specs.Format.{viewsAllowed}
 use Rattle.wire.specs.Reader.{kindIn, viewCount, viewIn, viewsIn, numberIn, messageOf as carriedIn, scanOf, wholeOf, endOf, frameIn, given, readFront, readOf}

@@ -1,8 +1,8 @@
 -- Start: the bytes cleared a byte at a time, its refusals in order, and what it leaves.
 use mathlib.Core.Path.{_≡_, refl, _∙_}
 use mathlib.Core.Logic.{⊎-elim}
-use mathlib.Core.Bool.{Bool, true, false}
-use mathlib.Core.List.{List, [], _∷_, _++_, append-assoc, append-nil}
+use mathlib.Core.Bool.{true, false}
+use mathlib.Core.List.{List, _++_, append-assoc, append-nil}
 use Prim.Native.Nat.{ℕ, suc, _+_, _≤_, _<_}
 use native.Mathlib.Omega.{arith}
 use native.Mathlib.Numerals.{add-one}
@@ -14,10 +14,9 @@ use Rattle.views.specs.declared.refusal.Refusal.{Refusal}
 use Rattle.views.specs.declared.refusal.Refusal.the-variants.{MembersOutOfRange, FirstSetUnfit, RecordsUnsound, NoSuchMember}
 use Rattle.views.specs.declared.refusal.Verdict.{Verdict}
 use Rattle.views.specs.declared.refusal.Verdict.the-variants.{Accepted, Refused}
-use Rattle.views.specs.Limits.{maxMembers, maxOpen}
+use Rattle.views.specs.Limits.{maxMembers}
 use Rattle.views.proofs.SetLaws.{known}
 use Rattle.rules.specs.Data.{Book as Ruled, Result, refused, accepted, need}
-use Rattle.rules.specs.Sound.{within}
 use Rattle.rules.specs.Group.{fits}
 use Rattle.rules.specs.Alone.{startAlone}
 use Rattle.rules.proofs.TestLaws.{within-from}

@@ -1,25 +1,21 @@
 -- An accepted start: the bytes are the fresh book of the rules, in the layout, of that member.
-use mathlib.Core.Path.{_≡_, refl, sym, ap, _∙_}
-use mathlib.Core.Bool.{true}
-use mathlib.Core.List.{List, [], _∷_}
-use Prim.Native.Nat.{ℕ, _+_, _-_, _^_, _≤_, _<_}
+use mathlib.Core.Path.{_≡_, refl, ap, _∙_}
+use mathlib.Core.List.{List, []}
+use Prim.Native.Nat.{ℕ, _+_, _-_, _≤_, _<_}
 use native.Mathlib.Omega.{arith}
 use borrow.Author.Tests.{eqb-true, ltb-true}
 use lib.ListN.{length, getD, set, replicate, length-set, length-replicate}
 use lib.Seq.{getD-set-same, getD-set-other}
-use Rattle.views.specs.declared.View.{View}
-use Rattle.views.specs.Limits.{maxMembers, maxOpen, maxOrdered}
-use Rattle.views.specs.Lists.{placed}
+use Rattle.views.specs.Limits.{maxMembers}
 use Rattle.wire.proofs.TripViews.{ViewFits, AreBytes}
-use Rattle.rules.specs.Data.{Book as Ruled, Result, accepted}
+use Rattle.rules.specs.Data.{Book as Ruled, accepted}
 use Rattle.rules.specs.Group.{firstView, fresh}
 use Rattle.rules.specs.Alone.{startAlone}
 use Rattle.rules.proofs.TestLaws.{within-says}
 use Rattle.slots.specs.Slots.{entriesIn, itemsIn, slotsFit}
 use Rattle.slots.proofs.BytesKept.{set-bytes}
-use Rattle.books.specs.declared.Book.{Book}
 use Rattle.books.specs.Places.{membersAt, selfAt, carrierAt, clientAt, registeredAt, sideAt, opensAt, outgoingAt, inwardAt, bookSize}
-use Rattle.books.specs.Records.{meaning, storeRecord}
+use Rattle.books.specs.Records.{meaning}
 use Rattle.books.specs.Books.{outgoingIn, inwardIn, bookIn}
 use Rattle.books.proofs.LayoutLaws.{Layout}
 use Rattle.books.proofs.Fits.{Fits}

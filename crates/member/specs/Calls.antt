@@ -25,7 +25,7 @@ use Rattle.books.specs.Books.{bookIn, layoutFits}
 use Rattle.steps.specs.Turns.{verdictOf}
 use Rattle.acts.specs.declared.Reply.{Reply}
 use Rattle.acts.specs.Replies.{noEvent, replyOf, left}
-use Rattle.acts.specs.Acts.{membersIn, selfIn, joinBytes, passBytes, takeBytes, attemptBytes, registerBytes, sendBytes, handBytes, tellBytes, safeBytes, collectBytes}
+use Rattle.acts.specs.Acts.{membersIn, selfIn, takeBytes}
 use Rattle.member.specs.declared.Passed.{Passed}
 
 -- ---- the results
