@@ -1,0 +1,32 @@
+// The calls of a book, with their operands from a line.
+use acts::Reply;
+
+pub fn start(b: &mut [u8], line: &[u8]) -> Reply {
+    member::start(b, word(line, 2), word(line, 3), word(line, 4))
+}
+
+fn word(line: &[u8], n: usize) -> u8 {
+    crate::word::byte(line, n)
+}
+
+// A step, by the number of its kind.
+pub fn step(b: &mut [u8], line: &[u8], kind: u8) -> Reply {
+    match kind {
+        2 => member::join(b, crate::word::identifier(line, 2), word(line, 3)),
+        5 => deliver(b, line),
+        6 => member::attempt(b),
+        7 => member::register(b),
+        8 => member::send(b, script::parse::number(line, 2)),
+        9 => member::hand(b),
+        10 => member::tell(b),
+        11 => member::safe(b),
+        _ => member::collect(b),
+    }
+}
+
+// The bytes are the fourth word; without one there are none.
+fn deliver(b: &mut [u8], line: &[u8]) -> Reply {
+    let mut bytes = [0u8; crate::desk::SLIP];
+    let n = script::parse::unhex(line, script::parse::word(line, 3), &mut bytes);
+    member::deliver(b, &bytes[..n], word(line, 2))
+}
