@@ -21,7 +21,8 @@ use Rattle.steps.specs.Turns.{verdictOf}
 use Rattle.acts.specs.Replies.{left}
 use Rattle.acts.specs.Acts.{membersIn, selfIn}
 use Rattle.acts.proofs.Means.{Means}
-use Rattle.member.specs.Calls.{onBook, viewOf, joinCall, passCall, deliverCall, attemptCall, registerCall, sendCall, handCall, tellCall, safeCall, collectCall, startCall, startBytes}
+use Rattle.fresh.specs.Starts.{startBytes}
+use Rattle.member.specs.Calls.{onBook, viewOf, joinCall, passCall, deliverCall, attemptCall, registerCall, sendCall, handCall, tellCall, safeCall, collectCall, startCall}
 use Rattle.member.specs.Drives.{Call, after, lastOf, Within, AllWithin, NeverFour}
 use Rattle.member.proofs.CallLaws.{need-gave}
 use Rattle.member.proofs.StartMeans.{start-gave, start-means}

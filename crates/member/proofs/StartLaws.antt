@@ -2,14 +2,12 @@
 use mathlib.Core.Path.{_≡_, refl, _∙_}
 use mathlib.Core.Logic.{⊎-elim}
 use mathlib.Core.Bool.{true, false}
-use mathlib.Core.List.{List, _++_, append-assoc, append-nil}
-use Prim.Native.Nat.{ℕ, suc, _+_, _≤_, _<_}
+use mathlib.Core.List.{List}
+use Prim.Native.Nat.{ℕ, _≤_, _<_}
 use native.Mathlib.Omega.{arith}
-use native.Mathlib.Numerals.{add-one}
 use borrow.Author.Tests.{eqb-true, eq-eqb, ne-eqb, le-leb, lt-leb, lt-ltb, le-ltb}
 use lib.Dec.{eqb}
-use lib.ListN.{length, set, replicate, drop, length-replicate, drop-of-length-le, replicate-append-replicate}
-use lib.Seq.{set-at, drop-cons}
+use lib.ListN.{length}
 use Rattle.views.specs.declared.refusal.Refusal.{Refusal}
 use Rattle.views.specs.declared.refusal.Refusal.the-variants.{MembersOutOfRange, FirstSetUnfit, RecordsUnsound, NoSuchMember}
 use Rattle.views.specs.declared.refusal.Verdict.{Verdict}
@@ -20,25 +18,13 @@ use Rattle.rules.specs.Data.{Book as Ruled, Result, refused, accepted, need}
 use Rattle.rules.specs.Group.{fits}
 use Rattle.rules.specs.Alone.{startAlone}
 use Rattle.rules.proofs.TestLaws.{within-from}
-use Rattle.books.specs.declared.Book.{Book}
-use Rattle.books.specs.Places.{membersAt, selfAt, bookSize}
-use Rattle.books.specs.Records.{storeRecord}
+use Rattle.books.specs.Places.{bookSize}
 use Rattle.steps.specs.Turns.{verdictOf}
 use Rattle.acts.specs.declared.Event.{Event}
 use Rattle.acts.specs.declared.Reply.{Reply}
 use Rattle.acts.specs.Replies.{noEvent, replied, left}
-use Rattle.member.specs.Calls.{startCall, startBytes, startReply, freshRecord}
-
--- ---- clear: i bytes are 0, the rest is as it was
-
-pub clear-turn : (b : List ℕ) (i : ℕ) → i < length b → set (replicate i 0 ++ drop i b) i 0 ≡ replicate (i + 1) 0 ++ drop (i + 1) b
-clear-turn b i h =
-    rw (drop-cons b i 0 h, set-at (replicate i 0) _ (drop (suc i) b) 0 i (length-replicate i 0), ← replicate-append-replicate {A = ℕ} i 1 0, append-assoc (replicate i 0) (replicate 1 0) (drop (i + 1) b), add-one i) refl
-
-pub cleared : (b : List ℕ) (i : ℕ) → length b ≤ i → i ≤ length b → replicate i 0 ++ drop i b ≡ replicate (length b) 0
-cleared b i h k =
-    let e : i ≡ length b = omega arith in
-    rw (drop-of-length-le b h, append-nil {A = ℕ} (replicate i 0), e) refl
+use Rattle.fresh.specs.Starts.{startBytes}
+use Rattle.member.specs.Calls.{startCall, startReply}
 
 -- ---- 4, 1, 2, 6
 
@@ -91,11 +77,6 @@ accepts : (s : Result Ruled) (v : Verdict) (e : Event) (new b d : List ℕ) → 
 unfolding left
 accepts (refused z) v e new b d f t h g = let k : _≡_ {A = ℕ} 0 1 = cc in absurd (omega arith)
 accepts (accepted z) v e new b d f t h g = (rw h refl, g)
-
-pub begun : (n S p : ℕ) (b c d e : List ℕ) (h : Book) → c ≡ replicate (length b) 0 → d ≡ set (set c membersAt n) selfAt p → h ≡ freshRecord S p → e ≡ storeRecord d h
-    → e ≡ startBytes n S p b
-unfolding startBytes
-begun n S p b c d e h i j k l = l ∙ rw (j, i, k) refl
 
 module _ (n S p : ℕ) (b : List ℕ) (v : Verdict) (tested : v ≡ verdictOf (startCall n S p b)) where
   pub start-refused : (x : Refusal) (y : Reply) → v ≡ Refused x → y ≡ replied (Refused x) noEvent

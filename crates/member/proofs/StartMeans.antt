@@ -24,7 +24,8 @@ use Rattle.books.proofs.RecordBytes.{store-bytes}
 use Rattle.steps.proofs.MeaningNotes.{none-noted, none-told}
 use Rattle.acts.specs.Acts.{membersIn, selfIn}
 use Rattle.acts.proofs.TurnFits.{untold-bytes}
-use Rattle.member.specs.Calls.{startCall, startBytes, freshRecord}
+use Rattle.fresh.specs.Starts.{startBytes, freshRecord}
+use Rattle.member.specs.Calls.{startCall}
 use Rattle.member.proofs.CallLaws.{need-gave}
 
 -- ---- an accepted start

@@ -1,26 +1,20 @@
 -- The member by itself, on a lent book of any length and content: what each call gives, and what it leaves in every lent byte.
 -- A call's result is that of rules/specs/Alone on the book that the bytes are; 4 comes first, for what only bytes can hold.
 use mathlib.Core.Path.{_≡_}
-use mathlib.Core.List.{List, []}
+use mathlib.Core.List.{List}
 use Prim.Native.Nat.{ℕ}
 use lib.Dec.{eqb}
-use lib.ListN.{length, set, replicate}
+use lib.ListN.{length, set}
 use Rattle.views.specs.declared.View.{View}
 use Rattle.views.specs.declared.refusal.Refusal.the-variants.{RecordsUnsound}
 use Rattle.views.specs.declared.refusal.Verdict.the-variants.{Accepted, Refused}
-use Rattle.views.specs.Limits.{maxMembers}
-use Rattle.views.specs.Sets.{one, has}
-use Rattle.views.specs.Lists.{placed}
+use Rattle.views.specs.Sets.{one}
 use Rattle.wire.specs.Reader.{readOf}
 use Rattle.wire.specs.Writer.{overwritten}
 use Rattle.rules.specs.Data.{Identifier, Member, Book as Ruled, Result, refused, accepted, need}
 use Rattle.rules.specs.Member.{Done, Passing, registers, sends, hands, tells, reports, collects}
-use Rattle.rules.specs.Group.{firstView}
 use Rattle.rules.specs.Alone.{Sent, sentOf, alone, startAlone, joinAlone, passedBytes, passAlone, deliverAlone, attemptAlone}
-use Rattle.books.specs.declared.Seat.{Seat}
-use Rattle.books.specs.declared.Book.{Book}
-use Rattle.books.specs.Places.{membersAt, selfAt, bookSize}
-use Rattle.books.specs.Records.{storeRecord}
+use Rattle.books.specs.Places.{bookSize}
 use Rattle.books.specs.Books.{bookIn, layoutFits}
 use Rattle.steps.specs.Turns.{verdictOf}
 use Rattle.acts.specs.declared.Reply.{Reply}
@@ -78,31 +72,6 @@ collectCall b = call b (collects (membersIn b))
 
 unfoldable pub startCall : ℕ → ℕ → Member → List ℕ → Result Ruled
 startCall n S p b = need (eqb (length b) bookSize) RecordsUnsound (startAlone n S p)
-
--- the first view is there for its members
-abbrev pub firstSeat : ℕ → Member → Seat
-firstSeat S p = record { there = has S p; view = firstView S }
-
-abbrev pub freshRecord : ℕ → Member → Book
-freshRecord S p = record {
-  settled = firstView S;
-  opens = placed [];
-  carrier = firstSeat S p;
-  client = firstSeat S p;
-  registered = has S p;
-  handed = record { 0 = 0 };
-  told = record { 0 = 0 };
-  reported = record { 0 = 0 };
-  taken = record { 0 = 0 };
-  infos = 0;
-  registrations = 0;
-  tolds = replicate maxMembers 0;
-  side = 0;
-}
-
--- zero everywhere but for the members, the own number and the record
-unfoldable pub startBytes : ℕ → ℕ → Member → List ℕ → List ℕ
-startBytes n S p b = storeRecord (set (set (replicate (length b) 0) membersAt n) selfAt p) (freshRecord S p)
 
 abbrev pub startReply : Result Ruled → Reply
 startReply (refused r) = record { verdict = Refused r; event = noEvent }

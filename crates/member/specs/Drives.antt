@@ -9,7 +9,8 @@ use Rattle.books.specs.Books.{bytesSound}
 use Rattle.steps.specs.Turns.{verdictOf}
 use Rattle.acts.specs.Replies.{left}
 use Rattle.acts.specs.Acts.{joinBytes, passBytes, attemptBytes, registerBytes, sendBytes, handBytes, tellBytes, safeBytes, collectBytes}
-use Rattle.member.specs.Calls.{viewOf, joinCall, passCall, deliverCall, deliverBytes, attemptCall, registerCall, sendCall, handCall, tellCall, safeCall, collectCall, startCall, startBytes}
+use Rattle.fresh.specs.Starts.{startBytes}
+use Rattle.member.specs.Calls.{viewOf, joinCall, passCall, deliverCall, deliverBytes, attemptCall, registerCall, sendCall, handCall, tellCall, safeCall, collectCall, startCall}
 
 pub data Call : Type 0 where
   join : Identifier → ℕ → Call  -- the view's identifier and set

@@ -17,8 +17,8 @@ refuse-requires c κs = search needs
 enum-told : tie.Need-enum-told
 enum-told c = search needs
 
-begin-requires : tie.Need-begin-requires
-begin-requires c κs = omega (arith, start-size _ _ _ _ _ (c .before .before .before .startable .ensures) (c .before .enum-told .given .1))
+book-requires : tie.Need-book-requires
+book-requires c κs = omega (arith, start-size _ _ _ _ _ (c .before .before .before .startable .ensures) (c .before .enum-told .given .1))
 
 no-event-requires : tie.Need-no-event-requires
 no-event-requires c κs = search needs
@@ -33,7 +33,7 @@ same-length-2 : tie.Need-same-length-2
 same-length-2 c = search needs
 
 returns-2 : tie.Need-returns-2
-returns-2 c = start-accepted _ _ _ _ _ (c .before .before .before .before .before .before .before .startable .ensures) _ _ (c .before .before .before .before .before .enum-told .given .1) (c .no-event .ensures) (c .before .before .before .begin .ensures)
+returns-2 c = start-accepted _ _ _ _ _ (c .before .before .before .before .before .before .before .startable .ensures) _ _ (c .before .before .before .before .before .enum-told .given .1) (c .no-event .ensures) (c .before .before .before .book .ensures)
 
 pub start-spec : {M : Type 1} → statement M
 start-spec =
@@ -43,7 +43,7 @@ start-spec =
     enum-known-v
     refuse-requires
     enum-told
-    begin-requires
+    book-requires
     no-event-requires
     same-length
     returns

@@ -1,9 +1,9 @@
--- `member::put_numbers` meets its contract: two bytes written.
+-- `fresh::put_numbers` meets its contract: two bytes written.
 use native.Mathlib.Omega.{arith}
 use lib.ListN.{length-set}
 use borrow.Author.Needs.{needs}
-use Rattle.member.proofs.put_numbers.Statement.{statement}
-use Rattle.member.proofs.put_numbers.Tie as tie
+use Rattle.fresh.proofs.put_numbers.Statement.{statement}
+use Rattle.fresh.proofs.put_numbers.Tie as tie
 
 slice-write-b : tie.Need-slice-write-b
 slice-write-b c = search needs

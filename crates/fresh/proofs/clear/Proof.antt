@@ -1,12 +1,12 @@
--- `member::clear` meets its contract: after i turns the first i bytes are 0.
+-- `fresh::clear` meets its contract: after i turns the first i bytes are 0.
 use mathlib.Core.Path.{_≡_, refl, _∙_}
 use mathlib.Core.List.{_++_}
 use Prim.Native.Nat.{_-_, _≤_}
 use native.Mathlib.Omega.{arith}
 use lib.ListN.{length, length-set, replicate, drop}
-use Rattle.member.proofs.StartLaws.{clear-turn, cleared}
-use Rattle.member.proofs.clear.Statement.{statement}
-use Rattle.member.proofs.clear.Tie as tie
+use Rattle.fresh.proofs.FreshLaws.{clear-turn, cleared}
+use Rattle.fresh.proofs.clear.Statement.{statement}
+use Rattle.fresh.proofs.clear.Tie as tie
 
 abbrev Inv-loop : tie.InvT-loop
 Inv-loop b₀ i₀ b i = (i ≤ length b₀) × (length b ≡ length b₀) × (b ≡ replicate i 0 ++ drop i b₀)
