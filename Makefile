@@ -20,3 +20,21 @@ reference:
 	python3 tests/references_agree.py 1 20000
 	python3 tests/member_reference.py check crates/stories/stdin
 	python3 tests/wire_vectors.py check
+
+# The group and the bench as a plain C++ program, with refusal 4's check in every step and without.
+.PHONY: reference-cpp
+reference-cpp: target/reference target/reference-unchecked
+CXXFLAGS := -std=c++17 -O2 -Wall -Wextra -Werror
+target/reference: tests/reference.cpp tests/reference_group.hpp
+	mkdir -p target
+	$(CXX) $(CXXFLAGS) -o $@ $<
+target/reference-unchecked: tests/reference.cpp tests/reference_group.hpp
+	mkdir -p target
+	$(CXX) $(CXXFLAGS) -DNO_CHECK -o $@ $<
+
+# The benches beside each other: every script with its answers, a random script, and one sent line by line.
+.PHONY: compare
+compare: reference-cpp
+	python3 tests/compare.py corpus tests/scripts target/reference target/reference-unchecked
+	python3 tests/compare.py random 1 20000 target/reference target/reference-unchecked
+	python3 tests/compare.py live 2 2000 target/reference
