@@ -104,7 +104,7 @@ pub fn limit_if(seat: Seat, k: u8) -> u8
 }
 
 // The views of an info: every set fits, and the identifiers rise.
-fn info_sound(n: u8, list: Views) -> bool
+pub fn info_sound(n: u8, list: Views) -> bool
     ensures { λ r. ⌜ r ≡ both (all (setFits n) (listOf list)) (isRising (listOf list)) ⌝ }
 {
     if !all_fit(n, list) {
@@ -131,7 +131,7 @@ fn entry_sound(b: &[u8], at: usize, n: u8) -> bool
 }
 
 // The slots of a queue have entries of known kind, with their views in their places.
-fn slots_fit(b: &[u8], at: usize, count: usize) -> bool
+pub fn slots_fit(b: &[u8], at: usize, count: usize) -> bool
     requires { ⌜ at + slotSize * count ≤ length (now b) ⌝ }
     ensures { λ r. ⌜ r ≡ slotsFit (now (b .entry)) at count ⌝ }
 {
@@ -146,7 +146,7 @@ fn slots_fit(b: &[u8], at: usize, count: usize) -> bool
 }
 
 // Every outgoing entry is sound.
-fn entries_sound(b: &[u8], at: usize, count: usize, n: u8) -> bool
+pub fn entries_sound(b: &[u8], at: usize, count: usize, n: u8) -> bool
     requires { ⌜ (at + slotSize * count ≤ length (now b)) × (slotsFit (now b) at count ≡ true) ⌝ }
     ensures { λ r. ⌜ r ≡ all (entrySound n) (entriesIn (now (b .entry)) at count) ⌝ }
 {

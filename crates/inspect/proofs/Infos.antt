@@ -1,0 +1,71 @@
+-- The views that an entry carries are listed: of the entry, and of its slot.
+use mathlib.Core.Path.{_≡_, refl, sym, ap, _∙_}
+use mathlib.Core.Bool.{true, cond}
+use mathlib.Core.List.{List, [], _∷_}
+use Prim.Native.Nat.{ℕ, _+_, _≤_, min}
+use native.Mathlib.Omega.{arith}
+use lib.Dec.{eqb}
+use lib.ListN.{length, getD}
+use Rattle.views.specs.declared.View.{View}
+use Rattle.views.specs.declared.list.Views.{Views}
+use Rattle.views.specs.Limits.{maxViews}
+use Rattle.views.specs.Lists.{listOf, placed}
+use Rattle.views.proofs.SetLaws.{both-true}
+use Rattle.wire.specs.Format.{isKnown}
+use Rattle.wire.specs.Reader.{viewsIn}
+use Rattle.wire.proofs.ReaderLaws.{list-viewsIn, length-viewsIn}
+use Rattle.wire.proofs.TripMessages.{Kind, kind-of-known}
+use Rattle.rules.specs.Data.{Message, client, info, registered, told, entry}
+use Rattle.rules.specs.Member.{all}
+use Rattle.rules.specs.Sound.{listed, infoListed}
+use Rattle.rules.specs.Alone.{viewsOf, infoOf}
+use Rattle.slots.specs.Slots.{kindIn, numberIn, countIn, infoIn, messageIn, entryIn, slotFits}
+use Rattle.audit.proofs.Entries.{info-count}
+
+-- ---- an entry
+
+pub carried-listed : (views : List View) (q : ℕ) (m : Message) → infoListed views (entry q m) ≡ all (listed views) (viewsOf m)
+unfolding all
+carried-listed views q (client x) = refl
+carried-listed views q (info v l) = refl
+carried-listed views q registered = refl
+carried-listed views q (told k) = refl
+
+carried-info : (l : List View) → 1 ≤ length l → viewsOf (infoOf l) ≡ l
+carried-info [] h = absurd (omega arith)
+carried-info (v ∷ l) h = refl
+
+-- ---- the slot at a place
+
+-- as a slot holds it
+abbrev held : ℕ → ℕ → List View → Message
+held k x l = cond (eqb k 1) (client x) (cond (eqb k 2) (infoOf l) (cond (eqb k 3) registered (told x)))
+
+held-info : (k x : ℕ) (l : List View) → k ≡ 2 → infoOf l ≡ held k x l
+held-info k x l i = rw i
+
+held-other : (k x : ℕ) (l : List View) → Kind k → (k ≡ 2 → ⊥) → viewsOf (held k x l) ≡ []
+held-other k x l Kind.client i = refl
+held-other k x l Kind.info i = absurd (i refl)
+held-other k x l Kind.registered i = refl
+held-other k x l Kind.told i = refl
+
+module _ (b : List ℕ) (at : ℕ) (fits : slotFits b at ≡ true) (views : List View) where
+  pub slot-other : (kindIn b at ≡ 2 → ⊥) → infoListed views (entryIn b at) ≡ true
+  unfolding slotFits messageIn all
+  slot-other i =
+      let kind : Kind (kindIn b at) = kind-of-known (kindIn b at) (both-true (isKnown (kindIn b at)) _ fits .0) in
+      carried-listed views (getD b at 0) (messageIn b at)
+      ∙ ap (all (listed views)) (held-other (kindIn b at) (numberIn b at) (infoIn b at) kind i)
+
+  pub slot-info : (v : Views) → kindIn b at ≡ 2 → v ≡ placed (viewsIn b (at + 11) (countIn b at)) → all (listed views) (listOf v) ≡ infoListed views (entryIn b at)
+  unfolding messageIn infoIn
+  slot-info v i e =
+      let t = info-count b at 0 fits i in
+      let c = countIn b at in
+      let m : min c maxViews ≡ c = omega (arith, t .1) in
+      let w = viewsIn b (at + 11) (min c maxViews) in
+      let l : listOf v ≡ w = ap listOf e ∙ list-viewsIn b (at + 11) c (t .1) ∙ ap (viewsIn b (at + 11)) (sym m) in
+      let z : length w ≡ min c maxViews = length-viewsIn b (at + 11) (min c maxViews) in
+      let k : viewsOf (messageIn b at) ≡ w = ap viewsOf (sym (held-info (kindIn b at) (numberIn b at) w i)) ∙ carried-info w (omega (arith, t .0)) in
+      ap (all (listed views)) (l ∙ sym k) ∙ sym (carried-listed views (getD b at 0) (messageIn b at))

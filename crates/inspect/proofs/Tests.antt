@@ -1,0 +1,131 @@
+-- The parts, by the tests that the code asks one after another.
+use mathlib.Core.Path.{_≡_, refl, ap, _∙_}
+use mathlib.Core.Bool.{Bool, true, false, cond}
+use mathlib.Core.Option.{none, some}
+use mathlib.Core.List.{List, [], _∷_}
+use Prim.Native.Nat.{ℕ, _+_, _-_, _*_, _%_, _/_, _<_, _≤_}
+use native.Mathlib.Omega.{arith}
+use borrow.Author.Tests.{eqb-true}
+use lib.Dec.{eqb, leb}
+use lib.ListN.{length, getD, take, drop}
+use Rattle.views.specs.declared.View.{View}
+use Rattle.views.specs.declared.list.Views.{Views}
+use Rattle.views.specs.Limits.{maxMembers, maxViews}
+use Rattle.views.specs.Sets.{both}
+use Rattle.views.specs.Lists.{idOf, listOf, placed}
+use Rattle.wire.proofs.ReaderLaws.{length-viewsIn, list-viewsIn}
+use Rattle.rules.specs.Member.{all}
+use Rattle.rules.specs.Sound.{conditions, listed, listedIf}
+use Rattle.rules.proofs.TestLaws.{within-says, conditions-say, listed-in}
+use Rattle.books.specs.declared.Seat.{Seat}
+use Rattle.books.specs.declared.Book.{Book}
+use Rattle.books.specs.Places.{bookSize}
+use Rattle.books.specs.Records.{seated}
+use Rattle.books.specs.Books.{layoutFits, bytesSound}
+use Rattle.audit.proofs.Truth.{both-unit}
+use Rattle.groups.specs.Places.{viewSize, roomOf, booksSize, bookBytes, orderAt, queuesSize}
+use Rattle.groups.specs.Groups.{Ranges, membersOf, madeOf, viewsMade, placeOf}
+use Rattle.inspect.specs.Parts.{sizesFit, numbersFit, recordListed, orderedIn, seatSound}
+use Rattle.inspect.proofs.PlaceLaws.{place-within}
+
+sizes-order : (z a b c d : Bool) → conditions (z ∷ both a b ∷ c ∷ d ∷ []) ≡ both z (both a (both b (both c d)))
+unfolding conditions
+sizes-order false a b c d = refl
+sizes-order true false b c d = refl
+sizes-order true true false c d = refl
+sizes-order true true true c d = rw (both-unit d)
+
+numbers-order : (a b c d : Bool) → conditions (both a b ∷ both c d ∷ []) ≡ both a (both b (both c d))
+unfolding conditions
+numbers-order false b c d = refl
+numbers-order true b c d = rw (both-unit (both c d))
+
+record-order : (s o a b : Bool) → conditions (both s o ∷ a ∷ b ∷ []) ≡ both s (both o (both a b))
+unfolding conditions
+record-order false o a b = refl
+record-order true o a b = rw (both-unit b)
+
+pub sizes-are : (list books queues : ℕ) → sizesFit list books queues
+    ≡ both (eqb (list % viewSize) 0) (both (leb 1 (list / viewSize)) (both (leb (list / viewSize) maxViews)
+    (both (eqb books booksSize) (eqb queues (queuesSize (list / viewSize))))))
+unfolding sizesFit
+sizes-are list books queues =
+    sizes-order (eqb (list % viewSize) 0) (leb 1 (list / viewSize)) (leb (list / viewSize) maxViews) (eqb books booksSize) (eqb queues (queuesSize (list / viewSize)))
+
+pub numbers-are : (n made room : ℕ) → numbersFit n made room ≡ both (leb 1 n) (both (leb n maxMembers) (both (leb 1 made) (leb made room)))
+unfolding numbersFit
+numbers-are n made room = numbers-order (leb 1 n) (leb n maxMembers) (leb 1 made) (leb made room)
+
+pub record-are : (views : List View) (h : Book) → recordListed views h
+    ≡ both (listed views (h .settled)) (both (all (listed views) (listOf (h .opens))) (both (listedIf views (seated (h .carrier))) (listedIf views (seated (h .client)))))
+unfolding recordListed all
+record-are views h =
+    record-order (listed views (h .settled)) (all (listed views) (listOf (h .opens))) (listedIf views (seated (h .carrier))) (listedIf views (seated (h .client)))
+
+-- ---- what tests that were met say
+
+-- the three ranges have room for what the numbers say
+module _ (r : Ranges) (sizes : sizesFit (length (r .list)) (length (r .books)) (length (r .queues)) ≡ true) where
+  pub books-long : length (r .books) ≡ booksSize
+  unfolding sizesFit
+  books-long = let (_, (_, (x, _))) = conditions-say _ sizes in eqb-true _ _ x
+
+  pub queues-long : length (r .queues) ≡ queuesSize (roomOf (r .list))
+  unfolding sizesFit
+  queues-long = let (_, (_, (_, (x, _)))) = conditions-say _ sizes in eqb-true _ _ x
+
+  module _ (numbers : numbersFit (membersOf r) (madeOf r) (roomOf (r .list)) ≡ true) where
+    pub members-few : membersOf r ≤ maxMembers
+    unfolding numbersFit
+    members-few = let (x, _) = conditions-say _ numbers in within-says 1 (membersOf r) maxMembers x .1
+
+    made-few : madeOf r ≤ roomOf (r .list)
+    unfolding numbersFit
+    made-few = let (_, (x, _)) = conditions-say _ numbers in within-says 1 (madeOf r) (roomOf (r .list)) x .1
+
+    views-few : madeOf r ≤ maxViews
+    unfolding sizesFit
+    views-few =
+        let (_, (x, _)) = conditions-say _ sizes in
+        let room = within-says 1 (roomOf (r .list)) maxViews x in
+        omega (arith, made-few, room .1)
+
+    pub list-holds : (0 + 5 * madeOf r ≤ length (r .list)) × (madeOf r ≤ maxViews)
+    list-holds = (omega (arith, made-few), views-few)
+
+    -- the list, as it was loaded
+    module _ (v : Views) (e : v ≡ placed (viewsMade r)) where
+      pub loaded : listOf v ≡ viewsMade r
+      loaded = ap listOf e ∙ list-viewsIn (r .list) 0 (madeOf r) views-few
+
+      pub queues-hold : orderAt (length (listOf v)) ≤ length (r .queues)
+      queues-hold = omega (arith, ap length loaded, length-viewsIn (r .list) 0 (madeOf r), queues-long, made-few)
+
+-- the carrier view of a record whose views are listed
+pub record-carrier : (views : List View) (h : Book) → recordListed views h ≡ true → listedIf views (seated (h .carrier)) ≡ true
+unfolding recordListed
+record-carrier views h t = let (_, (x, _)) = conditions-say _ t in x
+
+-- a sound book has its layout
+pub fits-layout : (b : List ℕ) → bytesSound b ≡ true → layoutFits b ≡ true
+unfolding bytesSound
+fits-layout b h = let (x, _) = conditions-say _ h in x
+
+-- ---- the order of a listed view
+
+there-listed : (views : List View) (t : Bool) (v : View) → t ≡ true → listedIf views (cond t (some v) none) ≡ true → listed views v ≡ true
+there-listed views t v e h = rw e at h
+
+pub ordered-place : (views : List View) (s : Seat) → s .there ≡ true → listedIf views (seated s) ≡ true → placeOf (idOf (s .view)) views < length views
+ordered-place views s e h = place-within views (s .view) (listed-in views (s .view) (there-listed views (s .there) (s .view) e h))
+
+pub ordered-there : (views : List View) (q : List ℕ) (s : Seat) → s .there ≡ true → getD q (orderAt (placeOf (idOf (s .view)) views)) 0 ≡ orderedIn views q (seated s)
+unfolding orderedIn
+ordered-there views q s e = rw e
+
+-- ---- the part of the books that is the book of p
+
+pub part-answer : (views : List View) (q books : List ℕ) (n p : ℕ)
+    → seatSound views q n p (bookBytes books p) ≡ seatSound views q n p (take (bookSize * p + bookSize - bookSize * p) (drop (bookSize * p) books))
+unfolding bookBytes
+part-answer views q books n p = let e : bookSize * p + bookSize - bookSize * p ≡ bookSize = omega arith in rw e

@@ -1,0 +1,80 @@
+-- `inspect::tables::waiting_sound` meets its contract: what waits for the members below p is sound.
+use mathlib.Core.Path.{sym, _∙_}
+use Prim.Native.Nat.{ℕ, _-_}
+use native.Mathlib.Omega.{arith}
+use borrow.Author.Tests.{not-true, not-false}
+use Rattle.views.specs.Lists.{listOf}
+use Rattle.views.specs.Limits.{maxWaiting}
+use Rattle.audit.proofs.Walks.{every-stop}
+use Rattle.groups.specs.Places.{waitingAt}
+use Rattle.inspect.specs.Parts.{queueSound, waitingSound}
+use Rattle.inspect.proofs.Walks.{Below, below-none, below-more, below-end}
+use Rattle.inspect.proofs.tables.waiting_sound.Statement.{statement}
+use Rattle.inspect.proofs.tables.waiting_sound.Tie as tie
+
+abbrev Inv-loop : tie.InvT-loop
+Inv-loop q n i views from p₀ p = Below (λ p. queueSound (listOf views) n q maxWaiting (waitingAt i p)) p
+
+abbrev μ-loop : tie.MeasureT-loop
+μ-loop q n i views from p₀ p = n - p
+
+mul-from : tie.Need-mul-from Inv-loop μ-loop
+mul-from c = omega arith
+
+add-from : tie.Need-add-from Inv-loop μ-loop
+add-from c = omega arith
+
+add-from-2 : tie.Need-add-from-2 Inv-loop μ-loop
+add-from-2 c = omega arith
+
+loop-holds : tie.Need-loop-holds Inv-loop μ-loop
+loop-holds c = below-none (λ (p : ℕ). queueSound (listOf (c .before .args .views)) (c .before .args .n) (c .before .args .q .now) maxWaiting (waitingAt (c .before .args .i) p))
+
+cast-queue-sound : tie.Need-cast-queue-sound Inv-loop μ-loop
+cast-queue-sound c = omega arith
+
+mul-queue-sound : tie.Need-mul-queue-sound Inv-loop μ-loop
+mul-queue-sound c = omega arith
+
+add-queue-sound : tie.Need-add-queue-sound Inv-loop μ-loop
+add-queue-sound c = omega arith
+
+queue-sound-requires : tie.Need-queue-sound-requires Inv-loop μ-loop
+queue-sound-requires c κs = omega arith
+
+returns : tie.Need-returns Inv-loop μ-loop
+unfolding waitingSound
+returns c = sym (every-stop (c .before .before .before .before .before .args .n) (λ (p : ℕ). queueSound (listOf (c .before .before .before .before .before .args .views)) (c .before .before .before .before .before .args .n) (c .before .before .before .before .before .args .q .now) maxWaiting (waitingAt (c .before .before .before .before .before .args .i) p)) (c .before .before .before .loop .p) (omega arith) (sym (c .before .queue-sound .ensures) ∙ not-true _ (c .if1 .taken)))
+
+add-p : tie.Need-add-p Inv-loop μ-loop
+add-p c = omega arith
+
+loop-less : tie.Need-loop-less Inv-loop μ-loop
+loop-less c = omega arith
+
+loop-again : tie.Need-loop-again Inv-loop μ-loop
+loop-again c = below-more (λ (p : ℕ). queueSound (listOf (c .before .before .before .before .before .args .views)) (c .before .before .before .before .before .args .n) (c .before .before .before .before .before .args .q .now) maxWaiting (waitingAt (c .before .before .before .before .before .args .i) p)) (c .before .before .before .loop .p) (c .before .before .before .loop .inv) (sym (c .before .queue-sound .ensures) ∙ not-false _ (c .if1 .left))
+
+returns-2 : tie.Need-returns-2 Inv-loop μ-loop
+unfolding waitingSound
+returns-2 c = sym (below-end (c .before .before .before .args .n) (λ (p : ℕ). queueSound (listOf (c .before .before .before .args .views)) (c .before .before .before .args .n) (c .before .before .before .args .q .now) maxWaiting (waitingAt (c .before .before .before .args .i) p)) (c .before .loop .p) (omega arith) (c .before .loop .inv))
+
+pub waiting-sound-spec : {M : Type 1} → statement M
+waiting-sound-spec =
+    tie.close
+    (tie.spec
+    Inv-loop
+    μ-loop
+    mul-from
+    add-from
+    add-from-2
+    loop-holds
+    cast-queue-sound
+    mul-queue-sound
+    add-queue-sound
+    queue-sound-requires
+    returns
+    add-p
+    loop-less
+    loop-again
+    returns-2)

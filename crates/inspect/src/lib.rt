@@ -1,0 +1,81 @@
+// Whether three ranges are a sound group: refusal 4 of the group. Only what is used is looked at.
+pub mod listed;
+pub mod seats;
+pub mod tables;
+
+use views::limits;
+use views::list::Views;
+ghost use mathlib.Core.Path.{_≡_};
+ghost use Prim.Native.Nat.{_≤_};
+ghost use lib.ListN.{length};
+ghost use Rattle.views.specs.Limits.{maxMembers};
+ghost use Rattle.views.specs.Lists.{listOf};
+ghost use Rattle.groups.specs.Places.{booksSize, orderAt};
+ghost use Rattle.groups.specs.Groups.{rangesSound};
+ghost use Rattle.inspect.specs.Parts.{sizesFit, numbersFit, recordsSound};
+
+// The lengths of the three ranges.
+fn sizes_fit(list: usize, books: usize, queues: usize) -> bool
+    ensures { λ r. ⌜ r ≡ sizesFit list books queues ⌝ }
+{
+    if list % groups::VIEW != 0 {
+        return false;
+    }
+    let room = list / groups::VIEW;
+    if room < 1 {
+        return false;
+    }
+    if limits::VIEWS < room {
+        return false;
+    }
+    if books != groups::BOOKS {
+        return false;
+    }
+    queues == groups::HEAD + groups::TABLE * room
+}
+
+// The number of members and of views made, in a list with this room.
+fn numbers_fit(n: u8, made: u8, room: usize) -> bool
+    ensures { λ r. ⌜ r ≡ numbersFit n made room ⌝ }
+{
+    if n < 1 {
+        return false;
+    }
+    if limits::MEMBERS < n {
+        return false;
+    }
+    if made < 1 {
+        return false;
+    }
+    made as usize <= room
+}
+
+// The list, the books and the queues.
+fn records_sound(books: &[u8], queues: &[u8], n: u8, views: Views) -> bool
+    requires { ⌜ (length (now books) ≡ booksSize) × (orderAt (length (listOf views)) ≤ length (now queues)) × (n ≤ maxMembers) ⌝ }
+    ensures { λ r. ⌜ r ≡ recordsSound (listOf views) n (now (books .entry)) (now (queues .entry)) ⌝ }
+{
+    if !audit::info_sound(n, views) {
+        return false;
+    }
+    if !seats::seats_sound(books, queues, n, views) {
+        return false;
+    }
+    tables::tables_sound(queues, n, views)
+}
+
+// The ranges are a sound group.
+pub fn sound(list: &[u8], books: &[u8], queues: &[u8]) -> bool
+    ensures { λ r. ⌜ r ≡ rangesSound (record { list = now (list .entry); books = now (books .entry); queues = now (queues .entry) }) ⌝ }
+{
+    if !sizes_fit(list.len(), books.len(), queues.len()) {
+        return false;
+    }
+    let n = books[books::MEMBERS];
+    let made = queues[groups::MADE];
+    if !numbers_fit(n, made, list.len() / groups::VIEW) {
+        return false;
+    }
+    let views = reader::load_views(list, 0, made as usize);
+    records_sound(books, queues, n, views)
+}
