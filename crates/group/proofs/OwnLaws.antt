@@ -1,0 +1,136 @@
+-- A step of a member's own, on its book among the eight, is the group's step of its kind.
+use mathlib.Core.Path.{_≡_, refl, sym, ap, _∙_}
+use mathlib.Core.Bool.{Bool, true, false}
+use mathlib.Core.List.{List}
+use Prim.Native.Nat.{ℕ, _<_}
+use borrow.Author.Tests.{ltb-true}
+use lib.Dec.{ltb}
+use Rattle.views.specs.declared.refusal.Refusal.the-variants.{NoSuchMember}
+use Rattle.views.specs.declared.refusal.Verdict.{Verdict}
+use Rattle.views.specs.declared.refusal.Verdict.the-variants.{Accepted, Refused}
+use Rattle.views.specs.Sets.{one}
+use Rattle.views.proofs.SetLaws.{both-true}
+use Rattle.rules.specs.Data.{Book as Ruled, Member, Step, Result, refused, accepted, need, after}
+use Rattle.rules.specs.Member.{Done, attempts, registers, sends, hands, tells, reports, collects}
+use Rattle.rules.specs.Sound.{sound}
+use Rattle.rules.specs.Group.{own, pick, stepOf}
+use Rattle.books.specs.Books.{bookIn}
+use Rattle.steps.specs.Turns.{verdictOf}
+use Rattle.acts.specs.declared.Reply.{Reply}
+use Rattle.acts.specs.Replies.{replyOf, left}
+use Rattle.acts.specs.Acts.{membersIn, selfIn, fewOpen, attemptBytes, registerBytes, sendBytes, handBytes, tellBytes, safeBytes, collectBytes}
+use Rattle.groups.specs.Places.{bookBytes, withBook}
+use Rattle.groups.specs.Groups.{Ranges, membersOf, groupIn, rangesFit, rangesSound}
+use Rattle.groups.specs.Moves.{rebooked}
+use Rattle.groups.specs.Answers.{nextReply}
+use Rattle.groups.specs.Steps.{stepResult, pickRanges, moved, leftRanges, stepRanges, stepReply}
+use Rattle.groups.proofs.RangesLaws.{RangesBytes, Ranged, ranges-says}
+use Rattle.groups.proofs.BookSounds.{members-in, self-in, book-is, sound-book}
+use Rattle.groups.proofs.BookSteps.{attempt-opens-few}
+use Rattle.desks.specs.Desks.{Desk, ofMember, Sat}
+use Rattle.group.specs.Calls.{ranges, asked, Went}
+
+-- ---- a result of the member's rule, and the group's
+
+own-reply : (r : Ranges) (p : Member) (x : Result Done) → nextReply (own (groupIn r) p x) ≡ replyOf x
+unfolding own after
+own-reply r p (refused f) = refl
+own-reply r p (accepted d) = refl
+
+own-verdict : (r : Ranges) (p : Member) (x : Result Done) → verdictOf (own (groupIn r) p x) ≡ verdictOf x
+unfolding own after
+own-verdict r p (refused f) = refl
+own-verdict r p (accepted d) = refl
+
+-- the books of what is left
+left-books : (v : Verdict) (r m : Ranges) → left v (m .books) (r .books) ≡ leftRanges v m r .books
+unfolding left
+left-books Accepted r m = refl
+left-books (Refused f) r m = refl
+
+left-same : (v : Verdict) (r : Ranges) (p : Member) (b : List ℕ) → (r .list ≡ leftRanges v (rebooked r p b) r .list) × (r .queues ≡ leftRanges v (rebooked r p b) r .queues)
+left-same Accepted r p b = (refl, refl)
+left-same (Refused f) r p b = (refl, refl)
+
+module _ (r : Ranges) (s : rangesSound r ≡ true) where
+  ranged : Ranged r
+  unfolding rangesSound
+  ranged = ranges-says r (both-true (rangesFit r) (sound (groupIn r)) s .0)
+
+  group-sound : sound (groupIn r) ≡ true
+  unfolding rangesSound
+  group-sound = both-true (rangesFit r) (sound (groupIn r)) s .1
+
+  -- what the members' steps ask of the books
+  pub desk : (p : ℕ) → Desk (r .books) p
+  desk p = record { size = ranged .books; few = ranged .members .1; sound = λ h. sound-book r ranged p h group-sound }
+
+  -- 4 is not given
+  pub result-sound : (c : Step) → stepResult r c ≡ stepOf one (groupIn r) c
+  unfolding stepResult need
+  result-sound c = rw s
+
+  module _ (c : Step) (p : ℕ) (rule : Result Done) (onBook : List ℕ → Result Done) (new : List ℕ → List ℕ)
+      (step : stepOf one (groupIn r) c ≡ need (ltb p (membersOf r)) NoSuchMember (own (groupIn r) p rule))
+      (moves : moved r c ≡ rebooked r p (new (bookBytes (r .books) p)))
+      (same : p < membersOf r → onBook (bookBytes (r .books) p) ≡ rule)
+      (exit : List ℕ) (x : Reply) (sat : Sat p (ofMember (r .books) p onBook) new (r .books) exit x) where
+    result-is : stepResult r c ≡ need (ltb p (membersOf r)) NoSuchMember (own (groupIn r) p rule)
+    result-is = result-sound c ∙ step
+
+    member-is : (t : Bool) → ltb p (membersOf r) ≡ t → (nextReply (stepResult r c) ≡ replyOf (ofMember (r .books) p onBook)) × (verdictOf (stepResult r c) ≡ verdictOf (ofMember (r .books) p onBook))
+    unfolding need ofMember
+    member-is false e = rw (result-is, e) (refl, refl)
+    member-is true e = rw (result-is, e, same (ltb-true _ _ e)) (own-reply r p rule, own-verdict r p rule)
+
+    pub own-went : Went r c (ranges (r .list) exit (r .queues)) x
+    unfolding stepReply stepRanges
+    own-went =
+        let m = member-is (ltb p (membersOf r)) refl in
+        let v = verdictOf (stepResult r c) in
+        let l = left-same v r p (new (bookBytes (r .books) p)) in
+        record {
+          reply = sat .reply ∙ sym (m .0);
+          list = rw moves (l .0);
+          books = sat .books ∙ ap (λ (z : Verdict). left z (withBook (r .books) p (new (bookBytes (r .books) p))) (r .books)) (sym (m .1)) ∙ rw moves (left-books v r (rebooked r p (new (bookBytes (r .books) p))));
+          queues = rw moves (l .1);
+        }
+
+  -- ---- each kind
+
+  module _ (p second : ℕ) (exit : List ℕ) (x : Reply) where
+    -- the rule on the book that p's bytes are
+    at-desk : {A : Type 0} (f : ℕ → ℕ → Ruled → A) → p < membersOf r → f (membersIn (bookBytes (r .books) p)) (selfIn (bookBytes (r .books) p)) (bookIn (bookBytes (r .books) p)) ≡ f (membersOf r) p (groupIn r .books p)
+    at-desk f h = rw (members-in r ranged p h, self-in r ranged p h, book-is r ranged p h)
+
+    pub register-went : Sat p (ofMember (r .books) p (λ b. registers (selfIn b) (bookIn b))) registerBytes (r .books) exit x → Went r (asked 7 p second) (ranges (r .list) exit (r .queues)) x
+    unfolding stepOf pick moved pickRanges groupIn
+    register-went = own-went (asked 7 p second) p (registers p (groupIn r .books p)) _ registerBytes refl refl (at-desk (λ _ q b. registers q b)) exit x
+
+    pub send-went : Sat p (ofMember (r .books) p (λ b. sends (selfIn b) second (bookIn b))) (sendBytes second) (r .books) exit x → Went r (asked 8 p second) (ranges (r .list) exit (r .queues)) x
+    unfolding stepOf pick moved pickRanges groupIn
+    send-went = own-went (asked 8 p second) p (sends p second (groupIn r .books p)) _ (sendBytes second) refl refl (at-desk (λ _ q b. sends q second b)) exit x
+
+    pub hand-went : Sat p (ofMember (r .books) p (λ b. hands (selfIn b) (bookIn b))) handBytes (r .books) exit x → Went r (asked 9 p second) (ranges (r .list) exit (r .queues)) x
+    unfolding stepOf pick moved pickRanges groupIn
+    hand-went = own-went (asked 9 p second) p (hands p (groupIn r .books p)) _ handBytes refl refl (at-desk (λ _ q b. hands q b)) exit x
+
+    pub tell-went : Sat p (ofMember (r .books) p (λ b. tells (selfIn b) (bookIn b))) tellBytes (r .books) exit x → Went r (asked 10 p second) (ranges (r .list) exit (r .queues)) x
+    unfolding stepOf pick moved pickRanges groupIn
+    tell-went = own-went (asked 10 p second) p (tells p (groupIn r .books p)) _ tellBytes refl refl (at-desk (λ _ q b. tells q b)) exit x
+
+    pub safe-went : Sat p (ofMember (r .books) p (λ b. reports (membersIn b) (selfIn b) (bookIn b))) safeBytes (r .books) exit x → Went r (asked 11 p second) (ranges (r .list) exit (r .queues)) x
+    unfolding stepOf pick moved pickRanges groupIn
+    safe-went = own-went (asked 11 p second) p (reports (membersOf r) p (groupIn r .books p)) _ safeBytes refl refl (at-desk (λ n q b. reports n q b)) exit x
+
+    pub collect-went : Sat p (ofMember (r .books) p (λ b. collects (membersIn b) (bookIn b))) collectBytes (r .books) exit x → Went r (asked 12 p second) (ranges (r .list) exit (r .queues)) x
+    unfolding stepOf pick moved pickRanges groupIn
+    collect-went = own-went (asked 12 p second) p (collects (membersOf r) (groupIn r .books p)) _ collectBytes refl refl (at-desk (λ n q b. collects n b)) exit x
+
+    -- 43 does not show in a sound group
+    pub attempt-went : RangesBytes r → Sat p (ofMember (r .books) p (λ b. fewOpen (attempts one (membersIn b) (selfIn b) (bookIn b)))) attemptBytes (r .books) exit x
+        → Went r (asked 6 p second) (ranges (r .list) exit (r .queues)) x
+    unfolding stepOf pick moved pickRanges groupIn
+    attempt-went bytes =
+        own-went (asked 6 p second) p (attempts one (membersOf r) p (groupIn r .books p)) _ attemptBytes refl refl
+        (λ h. at-desk (λ n q b. fewOpen (attempts one n q b)) h ∙ attempt-opens-few r ranged bytes group-sound p h one) exit x

@@ -1,0 +1,218 @@
+use Prim.Native.Nat.{_-_}
+use native.Mathlib.Omega.{arith}
+use mathlib.Core.Logic.{inl, inr, ⊎-elim}
+use Rattle.group.specs.Calls.{asked}
+use Rattle.group.proofs.OwnLaws.{desk, attempt-went, register-went, send-went, hand-went, tell-went, safe-went, collect-went}
+use Rattle.group.proofs.CarrierLaws.{create-went, join-went, pass-went, order-went, deliver-went, unknown-went, past-twelve}
+use borrow.Author.Needs.{needs}
+use Rattle.group.proofs.step.dispatch.Statement.{statement}
+use Rattle.group.proofs.step.dispatch.Tie as tie
+
+create-requires : tie.Need-create-requires
+create-requires c κs = search needs
+
+plain-requires : tie.Need-plain-requires
+plain-requires c κs = search needs
+
+join-requires : tie.Need-join-requires
+join-requires c κs = search needs
+
+pass-requires : tie.Need-pass-requires
+pass-requires c κs = search needs
+
+plain-requires-2 : tie.Need-plain-requires-2
+plain-requires-2 c κs = search needs
+
+order-requires : tie.Need-order-requires
+order-requires c κs = search needs
+
+plain-requires-3 : tie.Need-plain-requires-3
+plain-requires-3 c κs = search needs
+
+deliver-requires : tie.Need-deliver-requires
+deliver-requires c κs = search needs
+
+attempt-requires : tie.Need-attempt-requires
+attempt-requires c κs = desk (record { list = c .before .before .before .before .before .args .list .now; books = c .before .before .before .before .before .args .all .now; queues = c .before .before .before .before .before .args .queues .now }) (c .before .before .before .before .before .pre) (c .before .before .before .before .before .args .first)
+
+register-requires : tie.Need-register-requires
+register-requires c κs = desk (record { list = c .before .before .before .before .before .args .list .now; books = c .before .before .before .before .before .args .all .now; queues = c .before .before .before .before .before .args .queues .now }) (c .before .before .before .before .before .pre) (c .before .before .before .before .before .args .first)
+
+send-requires : tie.Need-send-requires
+send-requires c κs = desk (record { list = c .before .before .before .before .before .args .list .now; books = c .before .before .before .before .before .args .all .now; queues = c .before .before .before .before .before .args .queues .now }) (c .before .before .before .before .before .pre) (c .before .before .before .before .before .args .first)
+
+hand-requires : tie.Need-hand-requires
+hand-requires c κs = desk (record { list = c .before .before .before .before .before .args .list .now; books = c .before .before .before .before .before .args .all .now; queues = c .before .before .before .before .before .args .queues .now }) (c .before .before .before .before .before .pre) (c .before .before .before .before .before .args .first)
+
+tell-requires : tie.Need-tell-requires
+tell-requires c κs = desk (record { list = c .before .before .before .before .before .args .list .now; books = c .before .before .before .before .before .args .all .now; queues = c .before .before .before .before .before .args .queues .now }) (c .before .before .before .before .before .pre) (c .before .before .before .before .before .args .first)
+
+safe-requires : tie.Need-safe-requires
+safe-requires c κs = desk (record { list = c .before .before .before .before .before .args .list .now; books = c .before .before .before .before .before .args .all .now; queues = c .before .before .before .before .before .args .queues .now }) (c .before .before .before .before .before .pre) (c .before .before .before .before .before .args .first)
+
+collect-requires : tie.Need-collect-requires
+collect-requires c κs = desk (record { list = c .before .before .before .before .before .args .list .now; books = c .before .before .before .before .before .args .all .now; queues = c .before .before .before .before .before .args .queues .now }) (c .before .before .before .before .before .pre) (c .before .before .before .before .before .args .first)
+
+refuse-requires : tie.Need-refuse-requires
+refuse-requires c κs = search needs
+
+same-length : tie.Need-same-length
+same-length c = search needs
+
+same-length-2 : tie.Need-same-length-2
+same-length-2 c = search needs
+
+same-length-3 : tie.Need-same-length-3
+same-length-3 c = search needs
+
+returns : tie.Need-returns
+returns c = rw (c .before .before .before .before .before .before .before .before .before .match .keys1) (create-went (record { list = c .before .before .before .before .before .before .before .before .before .before .before .before .before .args .list .now; books = c .before .before .before .before .before .before .before .before .before .before .before .before .before .args .all .now; queues = c .before .before .before .before .before .before .before .before .before .before .before .before .before .args .queues .now }) (c .before .before .before .before .before .before .before .before .before .before .before .before .before .pre) (c .before .before .before .before .before .before .before .before .before .before .before .before .before .args .first) (c .before .before .before .before .before .before .before .before .before .before .before .before .before .args .second) _ _ _ (c .before .before .before .before .before .create .ensures) _ (c .plain .ensures))
+
+same-length-4 : tie.Need-same-length-4
+same-length-4 c = search needs
+
+same-length-5 : tie.Need-same-length-5
+same-length-5 c = search needs
+
+same-length-6 : tie.Need-same-length-6
+same-length-6 c = search needs
+
+returns-2 : tie.Need-returns-2
+returns-2 c = rw (c .before .before .before .before .before .before .match .keys2) (join-went (record { list = c .before .before .before .before .before .before .before .before .before .before .args .list .now; books = c .before .before .before .before .before .before .before .before .before .before .args .all .now; queues = c .before .before .before .before .before .before .before .before .before .before .args .queues .now }) (c .before .before .before .before .before .before .before .before .before .before .pre) (c .before .before .before .before .before .before .before .before .before .before .args .first) (c .before .before .before .before .before .before .before .before .before .before .args .second) _ _ (c .before .before .join .ensures))
+
+same-length-7 : tie.Need-same-length-7
+same-length-7 c = search needs
+
+same-length-8 : tie.Need-same-length-8
+same-length-8 c = search needs
+
+same-length-9 : tie.Need-same-length-9
+same-length-9 c = search needs
+
+returns-3 : tie.Need-returns-3
+returns-3 c = rw (c .before .before .before .before .before .before .before .before .before .match .keys3) (pass-went (record { list = c .before .before .before .before .before .before .before .before .before .before .before .before .before .args .list .now; books = c .before .before .before .before .before .before .before .before .before .before .before .before .before .args .all .now; queues = c .before .before .before .before .before .before .before .before .before .before .before .before .before .args .queues .now }) (c .before .before .before .before .before .before .before .before .before .before .before .before .before .pre) (c .before .before .before .before .before .before .before .before .before .before .before .before .before .args .first) (c .before .before .before .before .before .before .before .before .before .before .before .before .before .args .second) _ _ _ (c .before .before .before .before .before .pass .ensures) _ (c .plain2 .ensures))
+
+same-length-10 : tie.Need-same-length-10
+same-length-10 c = search needs
+
+same-length-11 : tie.Need-same-length-11
+same-length-11 c = search needs
+
+same-length-12 : tie.Need-same-length-12
+same-length-12 c = search needs
+
+returns-4 : tie.Need-returns-4
+returns-4 c = rw (c .before .before .before .before .before .before .before .match .keys4) (order-went (record { list = c .before .before .before .before .before .before .before .before .before .before .before .args .list .now; books = c .before .before .before .before .before .before .before .before .before .before .before .args .all .now; queues = c .before .before .before .before .before .before .before .before .before .before .before .args .queues .now }) (c .before .before .before .before .before .before .before .before .before .before .before .pre) (c .before .before .before .before .before .before .before .before .before .before .before .args .first) (c .before .before .before .before .before .before .before .before .before .before .before .args .second) _ _ (c .before .before .before .order .ensures) _ (c .plain3 .ensures))
+
+same-length-13 : tie.Need-same-length-13
+same-length-13 c = search needs
+
+same-length-14 : tie.Need-same-length-14
+same-length-14 c = search needs
+
+same-length-15 : tie.Need-same-length-15
+same-length-15 c = search needs
+
+returns-5 : tie.Need-returns-5
+returns-5 c = rw (c .before .before .before .before .before .before .match .keys5) (deliver-went (record { list = c .before .before .before .before .before .before .before .before .before .before .args .list .now; books = c .before .before .before .before .before .before .before .before .before .before .args .all .now; queues = c .before .before .before .before .before .before .before .before .before .before .args .queues .now }) (c .before .before .before .before .before .before .before .before .before .before .pre) (c .before .before .before .before .before .before .before .before .before .before .args .first) (c .before .before .before .before .before .before .before .before .before .before .args .second) _ _ (c .before .before .deliver .ensures))
+
+same-length-16 : tie.Need-same-length-16
+same-length-16 c = search needs
+
+returns-6 : tie.Need-returns-6
+returns-6 c = rw (c .before .before .before .before .match .keys6) (attempt-went (record { list = c .before .before .before .before .before .before .before .before .args .list .now; books = c .before .before .before .before .before .before .before .before .args .all .now; queues = c .before .before .before .before .before .before .before .before .args .queues .now }) (c .before .before .before .before .before .before .before .before .pre) (c .before .before .before .before .before .before .before .before .args .first) (c .before .before .before .before .before .before .before .before .args .second) _ _ (record { list = λ j. omega (arith, c .before .before .before .before .before .before .before .slice-known .given j); books = λ j. omega (arith, c .before .before .before .before .before .before .slice-known2 .given j); queues = λ j. omega (arith, c .before .before .before .before .before .slice-known3 .given j) }) (c .before .before .attempt .ensures))
+
+same-length-17 : tie.Need-same-length-17
+same-length-17 c = search needs
+
+returns-7 : tie.Need-returns-7
+returns-7 c = rw (c .before .before .before .before .match .keys7) (register-went (record { list = c .before .before .before .before .before .before .before .before .args .list .now; books = c .before .before .before .before .before .before .before .before .args .all .now; queues = c .before .before .before .before .before .before .before .before .args .queues .now }) (c .before .before .before .before .before .before .before .before .pre) (c .before .before .before .before .before .before .before .before .args .first) (c .before .before .before .before .before .before .before .before .args .second) _ _ (c .before .before .register .ensures))
+
+same-length-18 : tie.Need-same-length-18
+same-length-18 c = search needs
+
+returns-8 : tie.Need-returns-8
+returns-8 c = rw (c .before .before .before .before .match .keys8) (send-went (record { list = c .before .before .before .before .before .before .before .before .args .list .now; books = c .before .before .before .before .before .before .before .before .args .all .now; queues = c .before .before .before .before .before .before .before .before .args .queues .now }) (c .before .before .before .before .before .before .before .before .pre) (c .before .before .before .before .before .before .before .before .args .first) (c .before .before .before .before .before .before .before .before .args .second) _ _ (c .before .before .send .ensures))
+
+same-length-19 : tie.Need-same-length-19
+same-length-19 c = search needs
+
+returns-9 : tie.Need-returns-9
+returns-9 c = rw (c .before .before .before .before .match .keys9) (hand-went (record { list = c .before .before .before .before .before .before .before .before .args .list .now; books = c .before .before .before .before .before .before .before .before .args .all .now; queues = c .before .before .before .before .before .before .before .before .args .queues .now }) (c .before .before .before .before .before .before .before .before .pre) (c .before .before .before .before .before .before .before .before .args .first) (c .before .before .before .before .before .before .before .before .args .second) _ _ (c .before .before .hand .ensures))
+
+same-length-20 : tie.Need-same-length-20
+same-length-20 c = search needs
+
+returns-10 : tie.Need-returns-10
+returns-10 c = rw (c .before .before .before .before .match .keys10) (tell-went (record { list = c .before .before .before .before .before .before .before .before .args .list .now; books = c .before .before .before .before .before .before .before .before .args .all .now; queues = c .before .before .before .before .before .before .before .before .args .queues .now }) (c .before .before .before .before .before .before .before .before .pre) (c .before .before .before .before .before .before .before .before .args .first) (c .before .before .before .before .before .before .before .before .args .second) _ _ (c .before .before .tell .ensures))
+
+same-length-21 : tie.Need-same-length-21
+same-length-21 c = search needs
+
+returns-11 : tie.Need-returns-11
+returns-11 c = rw (c .before .before .before .before .match .keys11) (safe-went (record { list = c .before .before .before .before .before .before .before .before .args .list .now; books = c .before .before .before .before .before .before .before .before .args .all .now; queues = c .before .before .before .before .before .before .before .before .args .queues .now }) (c .before .before .before .before .before .before .before .before .pre) (c .before .before .before .before .before .before .before .before .args .first) (c .before .before .before .before .before .before .before .before .args .second) _ _ (c .before .before .safe .ensures))
+
+same-length-22 : tie.Need-same-length-22
+same-length-22 c = search needs
+
+returns-12 : tie.Need-returns-12
+returns-12 c = rw (c .before .before .before .before .match .keys12) (collect-went (record { list = c .before .before .before .before .before .before .before .before .args .list .now; books = c .before .before .before .before .before .before .before .before .args .all .now; queues = c .before .before .before .before .before .before .before .before .args .queues .now }) (c .before .before .before .before .before .before .before .before .pre) (c .before .before .before .before .before .before .before .before .args .first) (c .before .before .before .before .before .before .before .before .args .second) _ _ (c .before .before .collect .ensures))
+
+returns-13 : tie.Need-returns-13
+returns-13 c = unknown-went (record { list = c .before .before .before .before .before .args .list .now; books = c .before .before .before .before .before .args .all .now; queues = c .before .before .before .before .before .args .queues .now }) (c .before .before .before .before .before .pre) (asked (c .before .before .before .before .before .args .kind) (c .before .before .before .before .before .args .first) (c .before .before .before .before .before .args .second)) (⊎-elim (λ z. inl (z .keys13)) (λ z. inr (past-twelve (c .before .before .before .before .before .args .kind) (z .rest .1) (z .rest .0 .0 .0 .0 .0 .0 .0 .0 .0 .0 .0 .0 .1) (z .rest .0 .0 .0 .0 .0 .0 .0 .0 .0 .0 .0 .1) (z .rest .0 .0 .0 .0 .0 .0 .0 .0 .0 .0 .1) (z .rest .0 .0 .0 .0 .0 .0 .0 .0 .0 .1) (z .rest .0 .0 .0 .0 .0 .0 .0 .0 .1) (z .rest .0 .0 .0 .0 .0 .0 .0 .1) (z .rest .0 .0 .0 .0 .0 .0 .1) (z .rest .0 .0 .0 .0 .0 .1) (z .rest .0 .0 .0 .0 .1) (z .rest .0 .0 .0 .1) (z .rest .0 .0 .1) (z .rest .0 .1))) (c .before .match .came)) _ (c .refuse .ensures)
+
+pub dispatch-spec : {M : Type 1} → statement M
+dispatch-spec =
+    tie.close
+    (tie.spec
+    create-requires
+    plain-requires
+    join-requires
+    pass-requires
+    plain-requires-2
+    order-requires
+    plain-requires-3
+    deliver-requires
+    attempt-requires
+    register-requires
+    send-requires
+    hand-requires
+    tell-requires
+    safe-requires
+    collect-requires
+    refuse-requires
+    same-length
+    same-length-2
+    same-length-3
+    returns
+    same-length-4
+    same-length-5
+    same-length-6
+    returns-2
+    same-length-7
+    same-length-8
+    same-length-9
+    returns-3
+    same-length-10
+    same-length-11
+    same-length-12
+    returns-4
+    same-length-13
+    same-length-14
+    same-length-15
+    returns-5
+    same-length-16
+    returns-6
+    same-length-17
+    returns-7
+    same-length-18
+    returns-8
+    same-length-19
+    returns-9
+    same-length-20
+    returns-10
+    same-length-21
+    returns-11
+    same-length-22
+    returns-12
+    returns-13)

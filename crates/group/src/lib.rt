@@ -1,0 +1,3 @@
+// The whole group on three lent ranges: its start, and one step of any kind.
+pub mod begin;
+pub mod step;
