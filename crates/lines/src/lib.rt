@@ -1,0 +1,72 @@
+// The bench's lines: what a line of bytes asks, and the bytes that say a reply. Reading and writing of the system stay with the caller.
+mod names;
+mod numerals;
+mod operands;
+mod text;
+mod words;
+
+use acts::Reply;
+ghost use mathlib.Core.Path.{_≡_};
+ghost use Rattle.lines.specs.Words.{findFrom};
+ghost use Rattle.lines.specs.Lines.{lineOf};
+ghost use Rattle.lines.specs.ReplyLines.{Wrote, replyLine};
+
+// The longest line that is read, the byte that ends it not counted.
+pub const LONGEST_LINE: usize = 64;
+
+// The longest reply, the byte that ends it included: a buffer of this length holds any reply's line.
+pub const LONGEST_REPLY: usize = 45;
+
+// What a group line asks: the number of members and the first set.
+pub struct Start {
+    pub members: u8,
+    pub set: u8,
+}
+
+// What a step's line asks: its kind and its operands in the order of the line, 0 for a second one that it has not.
+pub struct Asked {
+    pub kind: u8,
+    pub first: u32,
+    pub second: u64,
+}
+
+pub enum Line {
+    Unreadable,
+    Group(Start),
+    Step(Asked),
+}
+
+// What the bytes of a line ask, without the byte 10 that ends it.
+pub fn read(line: &[u8]) -> Line
+    ensures { λ r. ⌜ r ≡ lineOf (now (line .entry)) ⌝ }
+{
+    if LONGEST_LINE < line.len() {
+        return Line::Unreadable;
+    }
+    let end = words::find(line, 0, words::SPACE);
+    let form = names::form_of(&line[..end]);
+    if form.kind == names::UNKNOWN {
+        return Line::Unreadable;
+    }
+    if end == line.len() {
+        return Line::Unreadable;
+    }
+    let from = end + 1;
+    operands::read(&line[from..], form)
+}
+
+// The reply's line goes to the front of the buffer, and the number of its bytes is given; a buffer too short for it is left alone, and 0 is given.
+pub fn write(out: &mut [u8], r: Reply) -> usize
+    ensures { λ n. ⌜ Wrote (replyLine r) (now (out .entry)) (now (out .exit)) n ⌝ }
+{
+    let mut line = [0u8; text::ROOM];
+    let n = text::put_reply(&mut line, r);
+    text::put_front(out, &line[..n])
+}
+
+// The place of the first byte 10 at or after a place, the length if there is none.
+pub fn line_end(s: &[u8], from: usize) -> usize
+    ensures { λ r. ⌜ r ≡ findFrom 10 (now (s .entry)) from ⌝ }
+{
+    words::find(s, from, words::LINE_FEED)
+}

@@ -1,0 +1,94 @@
+// The names that begin a line, and what stands behind each.
+use super::words;
+ghost use mathlib.Core.Path.{_≡_};
+ghost use Rattle.lines.specs.Lines.{form, table, formOf};
+
+// The kinds of lines: group, then the steps by their numbers, those of outward events from `acts`.
+pub const GROUP: u8 = 0;
+
+const CREATE: u8 = 1;
+
+const JOIN: u8 = 2;
+
+const PASS: u8 = 3;
+
+const ORDER: u8 = 4;
+
+const DELIVER: u8 = 5;
+
+const TELL: u8 = 10;
+
+const COLLECT: u8 = 12;
+
+pub const UNKNOWN: u8 = 13;
+
+// The largest number of each width: an identifier's, an entry number's, any other's.
+const IDENTIFIER: u64 = 4294967295;
+
+const ENTRY: u64 = 18446744073709551615;
+
+const OTHER: u64 = 255;
+
+// What a name asks for: the largest number of each operand, 0 for a second operand that it has not.
+pub struct Form {
+    pub kind: u8,
+    pub first: u64,
+    pub second: u64,
+}
+
+// The kind with these operands.
+fn with_operands(kind: u8, first: u64, second: u64) -> Form
+    ensures { λ r. ⌜ r ≡ form kind first second ⌝ }
+{
+    Form {
+        kind,
+        first,
+        second,
+    }
+}
+
+// What the name asks for.
+pub fn form_of(word: &[u8]) -> Form
+    ensures { λ r. ⌜ r ≡ formOf table (now (word .entry)) ⌝ }
+{
+    if words::is(word, b"group") {
+        return with_operands(GROUP, OTHER, OTHER);
+    }
+    if words::is(word, b"create") {
+        return with_operands(CREATE, IDENTIFIER, OTHER);
+    }
+    if words::is(word, b"join") {
+        return with_operands(JOIN, OTHER, IDENTIFIER);
+    }
+    if words::is(word, b"pass") {
+        return with_operands(PASS, OTHER, 0);
+    }
+    if words::is(word, b"order") {
+        return with_operands(ORDER, OTHER, IDENTIFIER);
+    }
+    if words::is(word, b"deliver") {
+        return with_operands(DELIVER, OTHER, 0);
+    }
+    if words::is(word, b"attempt") {
+        return with_operands(acts::ATTEMPT, OTHER, 0);
+    }
+    if words::is(word, b"register") {
+        return with_operands(acts::REGISTER, OTHER, 0);
+    }
+    if words::is(word, b"send") {
+        return with_operands(acts::SEND, OTHER, ENTRY);
+    }
+    if words::is(word, b"hand") {
+        return with_operands(acts::HAND, OTHER, 0);
+    }
+    if words::is(word, b"tell") {
+        return with_operands(TELL, OTHER, 0);
+    }
+    if words::is(word, b"safe") {
+        return with_operands(acts::SAFE, OTHER, 0);
+    }
+    if words::is(word, b"collect") {
+        return with_operands(COLLECT, OTHER, 0);
+    }
+    with_operands(UNKNOWN, OTHER, 0)
+}
