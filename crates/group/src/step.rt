@@ -9,7 +9,7 @@ ghost use Rattle.groups.specs.Groups.{rangesSound};
 ghost use Rattle.group.specs.Calls.{ranges, asked, Went};
 
 // The reply of a step that has no event.
-fn plain(v: Verdict) -> Reply
+pub fn plain(v: Verdict) -> Reply
     ensures { λ r. ⌜ r ≡ replied v noEvent ⌝ }
 {
     match v {

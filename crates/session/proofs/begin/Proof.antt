@@ -1,0 +1,46 @@
+use mathlib.Core.Path.{_≡_, refl, sym, ap, _∙_}
+use Prim.Native.Nat.{ℕ, _+_, _-_, _*_, _^_, _≤_, _<_}
+use native.Mathlib.Omega.{arith}
+use borrow.Author.Tests.{le-leb, lt-leb, eq-eqb, ne-eqb, lt-ltb, le-ltb, not-true, not-false}
+use Rattle.session.proofs.AnswerLaws.{group-answers}
+use borrow.Author.Needs.{needs}
+use Rattle.session.proofs.begin.Statement.{statement}
+use Rattle.session.proofs.begin.Tie as tie
+use Rattle.session.proofs.begin.Reads as reads
+use Rattle.session.proofs.begin.Lts as lts
+use Rattle.group.proofs.begin.start.Reads as start-reads
+use Rattle.group.proofs.step.plain.Reads as plain-reads
+use Rattle.session.proofs.runs.Reads as runs-reads
+
+start-requires : tie.Need-start-requires
+start-requires c κs = search needs
+
+plain-requires : tie.Need-plain-requires
+plain-requires c κs = search needs
+
+runs-requires : tie.Need-runs-requires
+runs-requires c κs = search needs
+
+same-length : tie.Need-same-length
+same-length c = search needs
+
+same-length-2 : tie.Need-same-length-2
+same-length-2 c = search needs
+
+same-length-3 : tie.Need-same-length-3
+same-length-3 c = search needs
+
+returns : tie.Need-returns
+returns c = group-answers (c .before .before .before .before .before .before .before .before .before .before .before .before .before .before .before .args .running) (record { list = c .before .before .before .before .before .before .before .before .before .before .before .before .before .before .before .args .list .now; books = c .before .before .before .before .before .before .before .before .before .before .before .before .before .before .before .args .all .now; queues = c .before .before .before .before .before .before .before .before .before .before .before .before .before .before .before .args .queues .now }) (c .before .before .before .before .before .before .before .before .before .before .before .before .before .before .before .args .members) (c .before .before .before .before .before .before .before .before .before .before .before .before .before .before .before .args .set) _ _ (c .before .before .before .before .before .before .before .before .start .ensures) _ (c .before .plain .ensures) _ (c .runs .ensures)
+
+pub begin-spec : {M : Type 1} → statement M
+begin-spec =
+    tie.close
+    (tie.spec
+    start-requires
+    plain-requires
+    runs-requires
+    same-length
+    same-length-2
+    same-length-3
+    returns)

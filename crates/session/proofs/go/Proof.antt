@@ -1,0 +1,45 @@
+use mathlib.Core.Path.{_≡_, refl, sym, ap, _∙_}
+use Prim.Native.Nat.{ℕ, _+_, _-_, _*_, _^_, _≤_, _<_}
+use native.Mathlib.Omega.{arith}
+use borrow.Author.Tests.{le-leb, lt-leb, eq-eqb, ne-eqb, lt-ltb, le-ltb, not-true, not-false}
+use Rattle.session.proofs.AnswerLaws.{idle-answers, step-answers}
+use borrow.Author.Needs.{needs}
+use Rattle.session.proofs.go.Statement.{statement}
+use Rattle.session.proofs.go.Tie as tie
+use Rattle.session.proofs.go.Reads as reads
+use Rattle.session.proofs.go.Lts as lts
+use Rattle.group.proofs.step.step.Reads as step-reads
+use Rattle.session.proofs.unread.Reads as unread-reads
+
+unread-requires : tie.Need-unread-requires
+unread-requires c κs = search needs
+
+returns : tie.Need-returns
+returns c = rw (not-true (c .before .before .before .before .before .args .running) (c .before .if1 .taken), c .unread .ensures) (idle-answers (record { list = c .before .before .before .before .before .args .list .now; books = c .before .before .before .before .before .args .all .now; queues = c .before .before .before .before .before .args .queues .now }) (c .before .before .before .before .before .args .kind) (c .before .before .before .before .before .args .first) (c .before .before .before .before .before .args .second))
+
+step-requires : tie.Need-step-requires
+step-requires c κs = search needs
+
+same-length : tie.Need-same-length
+same-length c = search needs
+
+same-length-2 : tie.Need-same-length-2
+same-length-2 c = search needs
+
+same-length-3 : tie.Need-same-length-3
+same-length-3 c = search needs
+
+returns-2 : tie.Need-returns-2
+returns-2 c = rw (not-false (c .before .before .before .before .before .before .before .before .before .before .before .before .before .before .args .running) (c .before .before .before .before .before .before .before .before .before .before .if1 .left)) (step-answers (record { list = c .before .before .before .before .before .before .before .before .before .before .before .before .before .before .args .list .now; books = c .before .before .before .before .before .before .before .before .before .before .before .before .before .before .args .all .now; queues = c .before .before .before .before .before .before .before .before .before .before .before .before .before .before .args .queues .now }) (c .before .before .before .before .before .before .before .before .before .before .before .before .before .before .args .kind) (c .before .before .before .before .before .before .before .before .before .before .before .before .before .before .args .first) (c .before .before .before .before .before .before .before .before .before .before .before .before .before .before .args .second) _ _ (c .before .before .before .before .before .before .step .ensures))
+
+pub go-spec : {M : Type 1} → statement M
+go-spec =
+    tie.close
+    (tie.spec
+    unread-requires
+    returns
+    step-requires
+    same-length
+    same-length-2
+    same-length-3
+    returns-2)
