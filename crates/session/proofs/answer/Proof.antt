@@ -1,17 +1,9 @@
-use mathlib.Core.Path.{_≡_, refl, sym, ap, _∙_}
-use Prim.Native.Nat.{ℕ, _+_, _-_, _*_, _^_, _≤_, _<_}
-use native.Mathlib.Omega.{arith}
-use borrow.Author.Tests.{le-leb, lt-leb, eq-eqb, ne-eqb, lt-ltb, le-ltb, not-true, not-false}
+use mathlib.Core.Path.{sym, _∙_}
+use Prim.Native.Nat.{_-_}
 use Rattle.session.proofs.AnswerLaws.{unread-answers, read-answers}
 use borrow.Author.Needs.{needs}
 use Rattle.session.proofs.answer.Statement.{statement}
 use Rattle.session.proofs.answer.Tie as tie
-use Rattle.session.proofs.answer.Reads as reads
-use Rattle.session.proofs.answer.Lts as lts
-use Rattle.lines.proofs.read.Reads as read-reads
-use Rattle.session.proofs.begin.Reads as begin-reads
-use Rattle.session.proofs.go.Reads as go-reads
-use Rattle.session.proofs.unread.Reads as unread-reads
 
 read-requires : tie.Need-read-requires
 read-requires c κs = search needs

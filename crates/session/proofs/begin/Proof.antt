@@ -1,16 +1,8 @@
-use mathlib.Core.Path.{_≡_, refl, sym, ap, _∙_}
-use Prim.Native.Nat.{ℕ, _+_, _-_, _*_, _^_, _≤_, _<_}
-use native.Mathlib.Omega.{arith}
-use borrow.Author.Tests.{le-leb, lt-leb, eq-eqb, ne-eqb, lt-ltb, le-ltb, not-true, not-false}
+use Prim.Native.Nat.{_-_}
 use Rattle.session.proofs.AnswerLaws.{group-answers}
 use borrow.Author.Needs.{needs}
 use Rattle.session.proofs.begin.Statement.{statement}
 use Rattle.session.proofs.begin.Tie as tie
-use Rattle.session.proofs.begin.Reads as reads
-use Rattle.session.proofs.begin.Lts as lts
-use Rattle.group.proofs.begin.start.Reads as start-reads
-use Rattle.group.proofs.step.plain.Reads as plain-reads
-use Rattle.session.proofs.runs.Reads as runs-reads
 
 start-requires : tie.Need-start-requires
 start-requires c κs = search needs

@@ -1,15 +1,9 @@
-use mathlib.Core.Path.{_≡_, refl, sym, ap, _∙_}
-use Prim.Native.Nat.{ℕ, _+_, _-_, _*_, _^_, _≤_, _<_}
-use native.Mathlib.Omega.{arith}
-use borrow.Author.Tests.{le-leb, lt-leb, eq-eqb, ne-eqb, lt-ltb, le-ltb, not-true, not-false}
+use Prim.Native.Nat.{_-_}
+use borrow.Author.Tests.{not-true, not-false}
 use Rattle.session.proofs.AnswerLaws.{idle-answers, step-answers}
 use borrow.Author.Needs.{needs}
 use Rattle.session.proofs.go.Statement.{statement}
 use Rattle.session.proofs.go.Tie as tie
-use Rattle.session.proofs.go.Reads as reads
-use Rattle.session.proofs.go.Lts as lts
-use Rattle.group.proofs.step.step.Reads as step-reads
-use Rattle.session.proofs.unread.Reads as unread-reads
 
 unread-requires : tie.Need-unread-requires
 unread-requires c κs = search needs

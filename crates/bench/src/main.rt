@@ -1,0 +1,96 @@
+// The bench: a reply to each line of standard input, as document 01's section 'The bench' has it. What a line does is `session`; here are only
+// reading and writing, many lines to a call of the system.
+mod pieces;
+
+ghost use lib.ListN.{length};
+ghost use Prim.Native.Nat.{_≤_};
+
+// The bench lends 8 view records, and the books and queues that go with them.
+const ROOM: usize = 8;
+
+const LIST: usize = groups::VIEW * ROOM;
+
+const QUEUES: usize = groups::HEAD + groups::TABLE * ROOM;
+
+fn main() {
+    let mut list = [0u8; LIST];
+    let mut all = [0u8; groups::BOOKS];
+    let mut queues = [0u8; QUEUES];
+    let mut input = io::large_buffer();
+    let mut out = io::large_buffer();
+    run(&mut list, &mut all, &mut queues, &mut input, &mut out);
+}
+
+// Round after round until the input ends. A proved loop has to end, so it counts down from a number that no run uses up.
+fn run(list: &mut [u8], all: &mut [u8], queues: &mut [u8], input: &mut [u8], out: &mut [u8]) {
+    let mut running = false;
+    let mut held: usize = 0;
+    let mut turns = u64::MAX;
+    while turns > 0 {
+        let n = pieces::fill(input, held);
+        if n == held {
+            finish(list, all, queues, running, &input[..n], out);
+            return;
+        }
+        let t = answer_all(list, all, queues, running, &input[..n], out);
+        running = t.running;
+        held = pieces::keep(input, t.at, n);
+        turns -= 1;
+    }
+}
+
+// Bytes behind the last byte 10 are a line, if there are any.
+fn finish(
+    list: &mut [u8],
+    all: &mut [u8],
+    queues: &mut [u8],
+    running: bool,
+    line: &[u8],
+    out: &mut [u8],
+) {
+    if line.len() == 0 {
+        return;
+    }
+    let a = session::answer(list, all, queues, running, line);
+    let reply = a.reply;
+    let filled = pieces::say(out, 0, reply);
+    pieces::send(out, filled);
+}
+
+// Where the lines that were answered end, and whether a group is running.
+struct Turn {
+    running: bool,
+    at: usize,
+}
+
+// A reply to every line of the input that has its end.
+fn answer_all(
+    list: &mut [u8],
+    all: &mut [u8],
+    queues: &mut [u8],
+    running: bool,
+    input: &[u8],
+    out: &mut [u8],
+) -> Turn
+    ensures { λ r. ⌜ r .at ≤ length (now (input .entry)) ⌝ }
+{
+    let mut now_running = running;
+    let mut at: usize = 0;
+    let mut filled: usize = 0;
+    while at < input.len() {
+        let end = lines::line_end(input, at);
+        if end == input.len() {
+            break;
+        }
+        let a = session::answer(list, all, queues, now_running, &input[at..end]);
+        now_running = a.running;
+        let reply = a.reply;
+        filled = pieces::say(out, filled, reply);
+        at = pieces::line_after(input, end);
+    }
+    pieces::send(out, filled);
+    Turn {
+        running: now_running,
+        at,
+    }
+}

@@ -1,0 +1,64 @@
+// Input as it comes and output as it goes.
+use acts::Reply;
+use libc::STDIN_FILENO;
+use libc::STDOUT_FILENO;
+ghost use lib.ListN.{length};
+ghost use mathlib.Core.Path.{_≡_};
+ghost use Prim.Native.Nat.{_+_, _≤_, min};
+
+// A line longer than the longest that is read is unreadable whatever follows: so many bytes of an unfinished one tell.
+const KEPT: usize = lines::LONGEST_LINE + 1;
+
+// One read behind the bytes that are held; how many bytes of the buffer count then.
+pub fn fill(input: &mut [u8], held: usize) -> usize
+    requires { ⌜ held ≤ length (now input) ⌝ }
+    ensures { λ r. ⌜ (held ≤ r) × (r ≤ length (now (input .exit))) ⌝ }
+{
+    let got = libc::read(STDIN_FILENO, &mut input[held..]);
+    held + io::count(got, &input[held..])
+}
+
+// Where the line after the one that ends at a place starts.
+pub fn line_after(s: &[u8], end: usize) -> usize
+    ensures { λ r. ⌜ r ≡ min (end + 1) (length (now (s .entry))) ⌝ }
+{
+    if end < s.len() { end + 1 } else { s.len() }
+}
+
+// What the unfinished line from `at` to n has goes to the front, as far as it tells; how many bytes that is.
+pub fn keep(input: &mut [u8], at: usize, n: usize) -> usize
+    requires { ⌜ n ≤ length (now input) ⌝ }
+    ensures { λ r. ⌜ r ≤ length (now (input .exit)) ⌝ }
+{
+    let mut i: usize = 0;
+    while i < KEPT {
+        if n <= at {
+            return i;
+        }
+        if n - at <= i {
+            return i;
+        }
+        input[i] = input[at + i];
+        i += 1;
+    }
+    i
+}
+
+// The first bytes of the buffer are written.
+pub fn send(out: &[u8], filled: usize)
+    requires { ⌜ filled ≤ length (now out) ⌝ }
+{
+    io::write_all(STDOUT_FILENO, &out[..filled]);
+}
+
+// A reply's line goes behind the bytes that are filled; those are written first where there is no room for any reply.
+pub fn say(out: &mut [u8], filled: usize, r: Reply) -> usize
+    requires { ⌜ filled ≤ length (now out) ⌝ }
+    ensures { λ n. ⌜ n ≤ length (now (out .exit)) ⌝ }
+{
+    if out.len() - filled < lines::LONGEST_REPLY {
+        send(out, filled);
+        return lines::write(out, r);
+    }
+    filled + lines::write(&mut out[filled..], r)
+}
