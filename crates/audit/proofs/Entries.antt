@@ -4,7 +4,7 @@ use mathlib.Core.Bool.{true, false, cond}
 use mathlib.Core.List.{List, [], _∷_}
 use Prim.Native.Nat.{ℕ, _+_, _<_, _≤_, min}
 use native.Mathlib.Omega.{arith}
-use borrow.Author.Tests.{leb-true, le-leb, lt-ltb, le-ltb}
+use borrow.Author.Tests.{leb-true, ne-eqb, le-leb, lt-ltb, le-ltb}
 use lib.Dec.{eqb, leb}
 use lib.ListN.{length, getD}
 use Rattle.views.specs.declared.View.{View}
@@ -76,6 +76,11 @@ module _ (b : List ℕ) (at n : ℕ) (fits : slotFits b at ≡ true) where
   pub entry-short : getD b at 0 < n → (kindIn b at ≡ 2 → ⊥) → toldFits (kindIn b at) (numberIn b at) ≡ entrySound n (entryIn b at)
   unfolding messageIn
   entry-short h i = short-tests n (getD b at 0) (kindIn b at) (numberIn b at) (infoIn b at) h kind i
+
+  -- only a told's number is asked
+  pub entry-other : getD b at 0 < n → (kindIn b at ≡ 2 → ⊥) → (kindIn b at ≡ 4 → ⊥) → true ≡ entrySound n (entryIn b at)
+  unfolding toldFits
+  entry-other f i o = rw (ne-eqb (kindIn b at) 4 o) at (entry-short f i)
 
   pub entry-info : (v : Views) → getD b at 0 < n → kindIn b at ≡ 2 → v ≡ placed (viewsIn b (at + 11) (countIn b at))
       → both (all (setFits n) (listOf v)) (isRising (listOf v)) ≡ entrySound n (entryIn b at)

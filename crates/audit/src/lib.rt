@@ -126,6 +126,9 @@ fn entry_sound(b: &[u8], at: usize, n: u8) -> bool
         let list = reader::load_views(b, at + 11, b[at + 10] as usize);
         return info_sound(n, list);
     }
+    if kind != format::TOLD {
+        return true;
+    }
     let x = numbers::get_number(b, at + 2, 8);
     format::told_fits(kind, x)
 }

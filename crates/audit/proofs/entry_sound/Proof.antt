@@ -1,9 +1,9 @@
 -- `audit::entry_sound` meets its contract: by the sender and the kind, the entry is tested by what is left to ask of it.
 use mathlib.Core.Path.{sym, _∙_}
-use Prim.Native.Nat.{_+_}
+use Prim.Native.Nat.{_+_, _-_}
 use native.Mathlib.Omega.{arith}
+use Rattle.audit.proofs.Entries.{info-count, entry-foreign, entry-short, entry-other, entry-info}
 use borrow.Author.Needs.{needs}
-use Rattle.audit.proofs.Entries.{info-count, entry-foreign, entry-short, entry-info}
 use Rattle.audit.proofs.entry_sound.Statement.{statement}
 use Rattle.audit.proofs.entry_sound.Tie as tie
 
@@ -40,6 +40,9 @@ info-sound-requires c κs = search needs
 returns-2 : tie.Need-returns-2
 returns-2 c = c .info-sound .ensures ∙ entry-info (c .before .before .before .before .before .before .before .before .args .b .now) (c .before .before .before .before .before .before .before .before .args .at) (c .before .before .before .before .before .before .before .before .args .n) (c .before .before .before .before .before .before .before .before .pre .1) _ (c .before .before .before .before .before .if1 .left) (c .before .before .before .if2 .taken) (c .before .load-views .ensures)
 
+returns-3 : tie.Need-returns-3
+returns-3 c = entry-other (c .before .before .before .before .before .before .args .b .now) (c .before .before .before .before .before .before .args .at) (c .before .before .before .before .before .before .args .n) (c .before .before .before .before .before .before .pre .1) (c .before .before .before .if1 .left) (c .before .if2 .left) (c .if3 .taken)
+
 add-get-number : tie.Need-add-get-number
 add-get-number c = search needs
 
@@ -49,8 +52,8 @@ get-number-requires c κs = search needs
 told-fits-requires : tie.Need-told-fits-requires
 told-fits-requires c κs = search needs
 
-returns-3 : tie.Need-returns-3
-returns-3 c = c .told-fits .ensures ∙ rw (c .before .get-number .ensures .0) (entry-short (c .before .before .before .before .before .before .before .args .b .now) (c .before .before .before .before .before .before .before .args .at) (c .before .before .before .before .before .before .before .args .n) (c .before .before .before .before .before .before .before .pre .1) (c .before .before .before .before .if1 .left) (c .before .before .if2 .left))
+returns-4 : tie.Need-returns-4
+returns-4 c = c .told-fits .ensures ∙ rw (c .before .get-number .ensures .0) (entry-short (c .before .before .before .before .before .before .before .before .args .b .now) (c .before .before .before .before .before .before .before .before .args .at) (c .before .before .before .before .before .before .before .before .args .n) (c .before .before .before .before .before .before .before .before .pre .1) (c .before .before .before .before .before .if1 .left) (c .before .before .before .if2 .left))
 
 pub entry-sound-spec : {M : Type 1} → statement M
 entry-sound-spec =
@@ -67,7 +70,8 @@ entry-sound-spec =
     load-views-requires
     info-sound-requires
     returns-2
+    returns-3
     add-get-number
     get-number-requires
     told-fits-requires
-    returns-3)
+    returns-4)
