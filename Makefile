@@ -5,10 +5,10 @@
 test:
 	.ci/run
 
-# The message vectors, through the proved reader and writer.
+# The bench, on a sample script.
 run:
-	rt check vectors
-	target/bin/vectors < crates/vectors/stdin
+	rt check bench
+	target/bin/bench < crates/bench/stdin
 
 clean:
 	rm -rf target
