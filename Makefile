@@ -35,9 +35,10 @@ target/reference-unchecked: tests/reference.cpp tests/reference_group.hpp
 # The benches beside each other: every script with its answers, a random script, and one sent line by line.
 .PHONY: compare
 compare: reference-cpp
-	python3 tests/compare.py corpus tests/scripts target/reference target/reference-unchecked
-	python3 tests/compare.py random 1 20000 target/reference target/reference-unchecked
-	python3 tests/compare.py live 2 2000 target/reference
+	rt check bench
+	python3 tests/compare.py corpus tests/scripts target/bin/bench target/reference target/reference-unchecked
+	python3 tests/compare.py random 1 20000 target/bin/bench target/reference target/reference-unchecked
+	python3 tests/compare.py live 2 2000 target/bin/bench
 
 # What a call of the member by itself costs, on a small book: 20,000 rounds of 321 calls.
 .PHONY: pace
