@@ -4,9 +4,17 @@ pub mod info;
 pub mod join;
 pub mod take;
 
+use views::Member;
+use wire::Message;
 ghost use mathlib.Core.Path.{_≡_};
 ghost use Prim.Native.Nat.{_≤_};
 ghost use Rattle.books.specs.Places.{inwardAt};
+
+// A queue entry: its sender together with one of the four messages. An info's views are kept beside it.
+pub struct Entry {
+    pub sender: Member,
+    pub message: Message,
+}
 
 // Where the inward list of a side has its count.
 pub fn inward(side: u8) -> usize

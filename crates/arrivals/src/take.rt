@@ -1,10 +1,12 @@
 // Deliver, the member's part: a message of its carrier view is taken.
+use crate::Entry;
 use acts::Reply;
 use books::Book;
 use steps::ask;
 use steps::take;
 use views::Member;
 use views::limits;
+use views::list::Views;
 use views::refusal::Refusal;
 use views::refusal::Verdict;
 use wire::Frame;
@@ -24,16 +26,16 @@ ghost use Rattle.acts.specs.Replies.{noEvent, replied, replyOf, left};
 ghost use Rattle.acts.specs.Acts.{taking, takeBytes};
 ghost use Rattle.arrivals.specs.Arrivals.{turned, openVerdict, gainingOf, gainedBy};
 
-// The record after the message of the sender q. More than 31 views may be open then: that is for the caller to refuse.
-fn turned(q: Member, f: Frame, h: Book) -> Book
-    requires { ⌜ (q .0 < maxMembers) × (h .taken .0 < 255) × (h .opens .count ≤ maxOpen) ⌝ }
-    ensures { λ r. ⌜ r ≡ turned (q .0) (f .message) (listOf (f .views)) h ⌝ }
+// The record after an entry, with an info's views beside it. More than 31 views may be open then: that is for the caller to refuse.
+fn turned(e: Entry, list: Views, h: Book) -> Book
+    requires { ⌜ (e .sender .0 < maxMembers) × (h .taken .0 < 255) × (h .opens .count ≤ maxOpen) ⌝ }
+    ensures { λ r. ⌜ r ≡ turned (e .sender .0) (e .message) (listOf list) h ⌝ }
 {
-    let m = f.message;
+    let q = e.sender;
+    let m = e.message;
     match m {
         Message::Client(_) => take::take_client(h),
         Message::Info => {
-            let list = f.views;
             let x = crate::info::settled(list);
             let l = crate::info::opens(list);
             take::take_info(q, x, l, h)
@@ -57,26 +59,28 @@ fn gaining(h: Book) -> usize
 }
 
 // A client message goes to the end of the carrier view's inward list.
-fn receive(b: &mut [u8], q: Member, m: Message, h: Book)
+fn receive(b: &mut [u8], e: Entry, h: Book)
     requires { ⌜ (bookSize ≤ length (now b)) × (h .side ≤ 1) × (getD (now b) (gainingOf h) 0 < maxOrdered) ⌝ }
-    ensures { λ _. ⌜ now (b .exit) ≡ gainedBy m (gainingOf h) (q .0) (now (b .entry)) ⌝ }
+    ensures { λ _. ⌜ now (b .exit) ≡ gainedBy (e .message) (gainingOf h) (e .sender .0) (now (b .entry)) ⌝ }
 {
+    let q = e.sender;
+    let m = e.message;
     if let Message::Client(x) = m {
         let c = gaining(h);
         slots::gain(b, c, q, x);
     }
 }
 
-// The message goes where it belongs and the next record is stored, unless that has more than 31 views open.
-fn keep(b: &mut [u8], q: Member, m: Message, h: Book, next: Book) -> Reply
+// The entry goes where it belongs and the next record is stored, unless that has more than 31 views open.
+fn keep(b: &mut [u8], e: Entry, h: Book, next: Book) -> Reply
     requires { ⌜ (bookSize ≤ length (now b)) × (h .side ≤ 1) × (getD (now b) (gainingOf h) 0 < maxOrdered) ⌝ }
     ensures { λ r. ⌜ (r ≡ replied (openVerdict next) noEvent)
-        × (now (b .exit) ≡ left (openVerdict next) (storeRecord (gainedBy m (gainingOf h) (q .0) (now (b .entry))) next) (now (b .entry))) ⌝ }
+        × (now (b .exit) ≡ left (openVerdict next) (storeRecord (gainedBy (e .message) (gainingOf h) (e .sender .0) (now (b .entry))) next) (now (b .entry))) ⌝ }
 {
     if limits::OPEN < next.opens.count {
         return acts::refuse(Refusal::TooManyOpen);
     }
-    receive(b, q, m, h);
+    receive(b, e, h);
     books::store(b, next);
     Reply {
         verdict: Verdict::Accepted,
@@ -92,7 +96,12 @@ pub fn take(b: &mut [u8], q: Member, f: Frame) -> Reply
         (takeBytes (q .0) (messageOf (f .message) (listOf (f .views))) (now (b .entry))) (now (b .entry))) ⌝ }
 {
     let h = books::load(b);
-    let next = turned(q, f, h);
     let m = f.message;
-    keep(b, q, m, h, next)
+    let list = f.views;
+    let e = Entry {
+        sender: q,
+        message: m,
+    };
+    let next = turned(e, list, h);
+    keep(b, e, h, next)
 }

@@ -31,7 +31,7 @@ gaining-requires c κs = search needs
 
 gain-requires : tie.Need-gain-requires
 gain-requires c κs =
-    let start = c .before .before .before .before .before .before in
+    let start = c .before .before .before .before .before .before .before in
     rw (c .before .gaining .ensures) (omega (arith, start .pre .2, gaining-fits (start .args .h) (start .pre .1)))
 
 same-length : tie.Need-same-length
@@ -42,7 +42,7 @@ unfolding gainedBy
 returns c = rw (c .before .before .before .before .before .before .m .given .1, ← c .before .before .before .before .gaining .ensures) (c .before .before .gain .ensures)
 
 returns-2 : tie.Need-returns-2
-returns-2 c = unreceived (c .before .before .args .m) _ _ _ (c .match .keys2)
+returns-2 c = unreceived (c .before .before .before .args .e .message) _ _ _ (c .match .keys2)
 
 pub receive-spec : {M : Type 1} → statement M
 receive-spec = tie.close (tie.spec enum-known-m gaining-requires gain-requires same-length returns returns-2)

@@ -26,8 +26,8 @@ opens-requires c κs = search needs
 take-info-requires : tie.Need-take-info-requires
 take-info-requires c κs =
     let start = c .before .before .before .before .before in
-    let whole : length (start .args .f .views .at) ≡ maxViews = simp length-map at (start .good .1 .0 .1 .1 .1 .1 .0 .1 .1 .1 .0 .1 .0 .1) in
-    (start .pre .1, start .pre .0, start .pre .2, rest-few (start .args .f .views) _ whole (c .opens .ensures))
+    let whole : length (start .args .list .at) ≡ maxViews = simp length-map at (start .good .1 .0 .1 .1 .1 .0 .1 .0 .1) in
+    (start .pre .1, start .pre .0, start .pre .2, rest-few (start .args .list) _ whole (c .opens .ensures))
 
 enum-told-3 : tie.Need-enum-told-3
 enum-told-3 c = search needs
@@ -47,7 +47,7 @@ returns c = rw (c .before .enum-told .given .1) (c .take-client .ensures)
 
 returns-2 : tie.Need-returns-2
 unfolding turned
-returns-2 c = info-turned _ _ _ _ _ _ _ (c .before .before .before .before .enum-told2 .given .1) (c .before .before .settled .ensures) (c .before .opens .ensures) (c .take-info .ensures)
+returns-2 c = info-turned _ _ _ _ _ _ _ (c .before .before .before .enum-told2 .given .1) (c .before .before .settled .ensures) (c .before .opens .ensures) (c .take-info .ensures)
 
 returns-3 : tie.Need-returns-3
 unfolding turned
