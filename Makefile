@@ -20,6 +20,7 @@ reference:
 	python3 tests/references_agree.py 1 20000
 	python3 tests/member_reference.py check crates/stories/stdin
 	python3 tests/wire_vectors.py check
+	python3 tests/bench_stdin.py check
 
 # The group and the bench as a plain C++ program, with refusal 4's check in every step and without.
 .PHONY: reference-cpp
