@@ -12,10 +12,20 @@ A view is a pair (identifier, set); a set is a number, bit 0 for member 0.
 A queue entry is a pair (sender, message); a message is one of
     ("client", entry number)    ("info", settled view, [open views])
     ("registered",)             ("told", count)
-The bytes of a book are in member_layout.py, the scripts in member_script.py.
+The bytes of a book are in member_layout.py, the scripts in member_script.py, the
+refusals' numbers, which both references share, in refusals.py.
 """
 
 import sys
+
+from refusals import (
+    MEMBERS_NOT_1_TO_8, FIRST_SET_BAD, BOOK_FAULTY, NO_SUCH_MEMBER, SET_BAD, NOT_IN_ITS_SET, NOT_ABOVE_CARRIER,
+    NO_CARRIER_VIEW, NONE_OUTGOING, TAKEN_128, NOT_ABOVE_CLIENT, INFO_MISSING, TEST_FAILED, NO_CLIENT_VIEW,
+    REGISTERED_ALREADY, OUTGOING_FULL, NONE_LEFT_TO_HAND, CLIENT_IS_NOT_CARRIER, NOTHING_NEW_TO_TELL, NONE_UNREPORTED,
+    TOLD_TOO_LOW, NOT_ABOVE_SETTLED, REGISTRATION_MISSING, BYTES_END_EARLY, MESSAGE_KIND, SECTION_COUNT, EMPTY_SET,
+    IDENTIFIERS_NOT_RISING, TOLD_NOT_1_TO_128, BYTES_LEFT_OVER, BUFFER_TOO_SHORT, ANOTHER_VIEW, SENDER_NOT_IN_IT,
+    OVER_31_OPEN, Refused, refuse_if,
+)
 
 # "Words and bounds"; 31 open is the limit of the member by itself.
 MOST_MEMBERS = 8
@@ -23,55 +33,6 @@ MOST_OUTGOING = 16
 MOST_TAKEN = 128
 MOST_OPEN = 31
 MOST_IN_INFO = 32
-
-# "Where each refusal is checked"
-MEMBERS_NOT_1_TO_8 = 1
-FIRST_SET_BAD = 2
-BOOK_FAULTY = 4
-NO_SUCH_MEMBER = 6
-SET_BAD = 7
-NOT_IN_ITS_SET = 11
-NOT_ABOVE_CARRIER = 12
-NO_CARRIER_VIEW = 13
-NONE_OUTGOING = 14
-TAKEN_128 = 16
-NOT_ABOVE_CLIENT = 19
-INFO_MISSING = 20
-TEST_FAILED = 21
-NO_CLIENT_VIEW = 22
-REGISTERED_ALREADY = 23
-OUTGOING_FULL = 24
-NONE_LEFT_TO_HAND = 25
-CLIENT_IS_NOT_CARRIER = 26
-NOTHING_NEW_TO_TELL = 27
-NONE_UNREPORTED = 28
-TOLD_TOO_LOW = 29
-NOT_ABOVE_SETTLED = 30
-REGISTRATION_MISSING = 31
-BYTES_END_EARLY = 32
-MESSAGE_KIND = 33
-SECTION_COUNT = 34
-EMPTY_SET = 35
-IDENTIFIERS_NOT_RISING = 36
-TOLD_NOT_1_TO_128 = 37
-BYTES_LEFT_OVER = 38
-BUFFER_TOO_SHORT = 39
-ANOTHER_VIEW = 41
-SENDER_NOT_IN_IT = 42
-OVER_31_OPEN = 43
-
-
-class Refused(Exception):
-    """A refusal "gives only its number"; it is raised before anything is changed."""
-
-    def __init__(self, number):
-        super().__init__(number)
-        self.number = number
-
-
-def refuse_if(fault, number):
-    if fault:
-        raise Refused(number)
 
 
 # Sets and views

@@ -1,0 +1,59 @@
+"""Document 01's refusals by their numbers, and how a plain implementation gives one."""
+
+MEMBERS_NOT_1_TO_8 = 1
+FIRST_SET_BAD = 2
+LIST_NOT_1_TO_32 = 3
+BOOK_FAULTY = 4
+UNKNOWN_KIND = 5
+NO_SUCH_MEMBER = 6
+SET_BAD = 7
+IDENTIFIER_NOT_ABOVE = 8
+LIST_FULL = 9
+NO_SUCH_VIEW = 10
+NOT_IN_ITS_SET = 11
+NOT_ABOVE_CARRIER = 12
+NO_CARRIER_VIEW = 13
+NONE_OUTGOING = 14
+WAITING_FULL = 15
+ORDER_FULL = 16
+TAKEN_128 = 16
+NONE_WAITING = 17
+NONE_LEFT_TO_DELIVER = 18
+NOT_ABOVE_CLIENT = 19
+INFO_MISSING = 20
+TEST_FAILED = 21
+NO_CLIENT_VIEW = 22
+REGISTERED_ALREADY = 23
+OUTGOING_FULL = 24
+NONE_LEFT_TO_HAND = 25
+CLIENT_IS_NOT_CARRIER = 26
+NOTHING_NEW_TO_TELL = 27
+NONE_UNREPORTED = 28
+TOLD_TOO_LOW = 29
+NOT_ABOVE_SETTLED = 30
+REGISTRATION_MISSING = 31
+BYTES_END_EARLY = 32
+MESSAGE_KIND = 33
+SECTION_COUNT = 34
+EMPTY_SET = 35
+IDENTIFIERS_NOT_RISING = 36
+TOLD_NOT_1_TO_128 = 37
+BYTES_LEFT_OVER = 38
+BUFFER_TOO_SHORT = 39
+LINE_UNREADABLE = 40
+ANOTHER_VIEW = 41
+SENDER_NOT_IN_IT = 42
+OVER_31_OPEN = 43
+
+
+class Refused(Exception):
+    """A refusal "gives only its number"; it is raised before anything is changed."""
+
+    def __init__(self, number):
+        super().__init__(number)
+        self.number = number
+
+
+def refuse_if(fault, number):
+    if fault:
+        raise Refused(number)
