@@ -24,7 +24,7 @@ use Rattle.groups.specs.Steps.{stepResult, pickRanges, moved, leftRanges, stepR
 use Rattle.carrier.specs.Carrier.{byMember, creating, passing, ordering, Created, Passed, Ordered}
 use Rattle.visits.specs.Visits.{joining, delivering, Joined, Delivered}
 use Rattle.group.specs.Calls.{ranges, asked, Went}
-use Rattle.group.proofs.OwnLaws.{result-sound}
+use Rattle.group.proofs.OwnLaws.{left-books, result-sound}
 
 -- ---- what is left, range by range
 
@@ -32,11 +32,6 @@ left-list : (v : Verdict) (r m : Ranges) → left v (m .list) (r .list) ≡ left
 unfolding left
 left-list Accepted r m = refl
 left-list (Refused f) r m = refl
-
-left-books : (v : Verdict) (r m : Ranges) → left v (m .books) (r .books) ≡ leftRanges v m r .books
-unfolding left
-left-books Accepted r m = refl
-left-books (Refused f) r m = refl
 
 left-queues : (v : Verdict) (r m : Ranges) → left v (m .queues) (r .queues) ≡ leftRanges v m r .queues
 unfolding left

@@ -9,7 +9,6 @@ use Rattle.views.specs.declared.refusal.Refusal.the-variants.{NoSuchMember}
 use Rattle.views.specs.declared.refusal.Verdict.{Verdict}
 use Rattle.views.specs.declared.refusal.Verdict.the-variants.{Accepted, Refused}
 use Rattle.views.specs.Sets.{one}
-use Rattle.views.proofs.SetLaws.{both-true}
 use Rattle.rules.specs.Data.{Book as Ruled, Member, Step, Result, refused, accepted, need, after}
 use Rattle.rules.specs.Member.{Done, attempts, registers, sends, hands, tells, reports, collects}
 use Rattle.rules.specs.Sound.{sound}
@@ -20,13 +19,14 @@ use Rattle.acts.specs.declared.Reply.{Reply}
 use Rattle.acts.specs.Replies.{replyOf, left}
 use Rattle.acts.specs.Acts.{membersIn, selfIn, fewOpen, attemptBytes, registerBytes, sendBytes, handBytes, tellBytes, safeBytes, collectBytes}
 use Rattle.groups.specs.Places.{bookBytes, withBook}
-use Rattle.groups.specs.Groups.{Ranges, membersOf, groupIn, rangesFit, rangesSound}
+use Rattle.groups.specs.Groups.{Ranges, membersOf, groupIn, rangesSound}
 use Rattle.groups.specs.Moves.{rebooked}
 use Rattle.groups.specs.Answers.{nextReply}
 use Rattle.groups.specs.Steps.{stepResult, pickRanges, moved, leftRanges, stepRanges, stepReply}
-use Rattle.groups.proofs.RangesLaws.{RangesBytes, Ranged, ranges-says}
+use Rattle.groups.proofs.RangesLaws.{RangesBytes}
 use Rattle.groups.proofs.BookSounds.{members-in, self-in, book-is, sound-book}
 use Rattle.groups.proofs.BookSteps.{attempt-opens-few}
+use Rattle.carrier.proofs.Rows.{ranged, group-sound}
 use Rattle.desks.specs.Desks.{Desk, ofMember, Sat}
 use Rattle.group.specs.Calls.{ranges, asked, Went}
 
@@ -43,7 +43,7 @@ own-verdict r p (refused f) = refl
 own-verdict r p (accepted d) = refl
 
 -- the books of what is left
-left-books : (v : Verdict) (r m : Ranges) → left v (m .books) (r .books) ≡ leftRanges v m r .books
+pub left-books : (v : Verdict) (r m : Ranges) → left v (m .books) (r .books) ≡ leftRanges v m r .books
 unfolding left
 left-books Accepted r m = refl
 left-books (Refused f) r m = refl
@@ -53,17 +53,9 @@ left-same Accepted r p b = (refl, refl)
 left-same (Refused f) r p b = (refl, refl)
 
 module _ (r : Ranges) (s : rangesSound r ≡ true) where
-  ranged : Ranged r
-  unfolding rangesSound
-  ranged = ranges-says r (both-true (rangesFit r) (sound (groupIn r)) s .0)
-
-  group-sound : sound (groupIn r) ≡ true
-  unfolding rangesSound
-  group-sound = both-true (rangesFit r) (sound (groupIn r)) s .1
-
   -- what the members' steps ask of the books
   pub desk : (p : ℕ) → Desk (r .books) p
-  desk p = record { size = ranged .books; few = ranged .members .1; sound = λ h. sound-book r ranged p h group-sound }
+  desk p = record { size = ranged r s .books; few = ranged r s .members .1; sound = λ h. sound-book r (ranged r s) p h (group-sound r s) }
 
   -- 4 is not given
   pub result-sound : (c : Step) → stepResult r c ≡ stepOf one (groupIn r) c
@@ -101,7 +93,7 @@ module _ (r : Ranges) (s : rangesSound r ≡ true) where
   module _ (p second : ℕ) (exit : List ℕ) (x : Reply) where
     -- the rule on the book that p's bytes are
     at-desk : {A : Type 0} (f : ℕ → ℕ → Ruled → A) → p < membersOf r → f (membersIn (bookBytes (r .books) p)) (selfIn (bookBytes (r .books) p)) (bookIn (bookBytes (r .books) p)) ≡ f (membersOf r) p (groupIn r .books p)
-    at-desk f h = rw (members-in r ranged p h, self-in r ranged p h, book-is r ranged p h)
+    at-desk f h = rw (members-in r (ranged r s) p h, self-in r (ranged r s) p h, book-is r (ranged r s) p h)
 
     pub register-went : Sat p (ofMember (r .books) p (λ b. registers (selfIn b) (bookIn b))) registerBytes (r .books) exit x → Went r (asked 7 p second) (ranges (r .list) exit (r .queues)) x
     unfolding stepOf pick moved pickRanges groupIn
@@ -133,4 +125,4 @@ module _ (r : Ranges) (s : rangesSound r ≡ true) where
     unfolding stepOf pick moved pickRanges groupIn
     attempt-went bytes =
         own-went (asked 6 p second) p (attempts one (membersOf r) p (groupIn r .books p)) _ attemptBytes refl refl
-        (λ h. at-desk (λ n q b. fewOpen (attempts one n q b)) h ∙ attempt-opens-few r ranged bytes group-sound p h one) exit x
+        (λ h. at-desk (λ n q b. fewOpen (attempts one n q b)) h ∙ attempt-opens-few r (ranged r s) bytes (group-sound r s) p h one) exit x
