@@ -1,8 +1,4 @@
 // The member by itself: a host lends its book and calls start, then the member's steps, on any bytes. What is no sound book gets 4 before anything else.
-pub mod calls;
-pub mod deliver;
-pub mod pass;
-
 use acts::Reply;
 use views::View;
 use views::ViewId;
@@ -23,7 +19,7 @@ pub struct Passed {
 }
 
 // 4 for bytes that are no sound book, then 6 for an own number not below the members.
-fn admit(b: &[u8]) -> Verdict
+pub fn admit(b: &[u8]) -> Verdict
     ensures { λ r. ⌜ r ≡ admitted (now (b .entry)) ⌝ }
 {
     if !audit::sound(b) {

@@ -39,27 +39,27 @@ fn round(b: &mut [u8], slip: &mut [u8]) -> u64 {
 
 // A message is sent, passed, delivered and handed out.
 fn said(b: &mut [u8], slip: &mut [u8], entry: u64) -> u64 {
-    let s = member::calls::send(b, entry);
+    let s = calls::send(b, entry);
     let carried = carry(b, slip);
-    let h = member::calls::hand(b);
+    let h = calls::hand(b);
     let done = std::num::wrapping_add_u64(one(s), carried);
     std::num::wrapping_add_u64(done, one(h))
 }
 
 // It is told of, and reported safe.
 fn told(b: &mut [u8], slip: &mut [u8]) -> u64 {
-    let t = member::calls::tell(b);
+    let t = calls::tell(b);
     let carried = carry(b, slip);
-    let s = member::calls::safe(b);
+    let s = calls::safe(b);
     let done = std::num::wrapping_add_u64(one(t), carried);
     std::num::wrapping_add_u64(done, one(s))
 }
 
 // The first outgoing message comes back to the member.
 fn carry(b: &mut [u8], slip: &mut [u8]) -> u64 {
-    let p = member::pass::pass(b, slip);
+    let p = messages::pass::pass(b, slip);
     let n = script::parse::front(p.length as u64, slip);
-    let d = member::deliver::deliver(b, &slip[..n], 0);
+    let d = messages::deliver::deliver(b, &slip[..n], 0);
     std::num::wrapping_add_u64(went(p), one(d))
 }
 

@@ -12,15 +12,15 @@ fn word(line: &[u8], n: usize) -> u8 {
 // A step, by the number of its kind.
 pub fn step(b: &mut [u8], line: &[u8], kind: u8) -> Reply {
     match kind {
-        2 => member::calls::join(b, crate::word::identifier(line, 2), word(line, 3)),
+        2 => calls::join(b, crate::word::identifier(line, 2), word(line, 3)),
         5 => deliver(b, line),
-        6 => member::calls::attempt(b),
-        7 => member::calls::register(b),
-        8 => member::calls::send(b, script::parse::number(line, 2)),
-        9 => member::calls::hand(b),
-        10 => member::calls::tell(b),
-        11 => member::calls::safe(b),
-        _ => member::calls::collect(b),
+        6 => calls::attempt(b),
+        7 => calls::register(b),
+        8 => calls::send(b, script::parse::number(line, 2)),
+        9 => calls::hand(b),
+        10 => calls::tell(b),
+        11 => calls::safe(b),
+        _ => calls::collect(b),
     }
 }
 
@@ -28,5 +28,5 @@ pub fn step(b: &mut [u8], line: &[u8], kind: u8) -> Reply {
 fn deliver(b: &mut [u8], line: &[u8]) -> Reply {
     let mut bytes = [0u8; crate::desk::SLIP];
     let n = script::parse::unhex(line, script::parse::word(line, 3), &mut bytes);
-    member::deliver::deliver(b, &bytes[..n], word(line, 2))
+    messages::deliver::deliver(b, &bytes[..n], word(line, 2))
 }

@@ -1,0 +1,123 @@
+// The calls that are the member's steps as they stand, where 4 and 6 let them, and join, where 7 does too.
+use member::admit;
+use acts::Reply;
+use acts::mark;
+use acts::speak;
+use views::View;
+use views::ViewId;
+use views::refusal::Refusal;
+use views::refusal::Verdict;
+ghost use mathlib.Core.Bool.{true};
+ghost use mathlib.Core.Path.{_≡_};
+ghost use Rattle.books.specs.Books.{bookIn, bytesSound};
+ghost use Rattle.steps.specs.Turns.{verdictOf};
+ghost use Rattle.acts.specs.Replies.{replyOf, left};
+ghost use Rattle.acts.specs.Acts.{membersIn, selfIn, joinBytes, attemptBytes, registerBytes, sendBytes, handBytes, tellBytes, safeBytes, collectBytes};
+ghost use Rattle.member.specs.Calls.{Gave, viewOf, joinCall, attemptCall, registerCall, sendCall, handCall, tellCall, safeCall, collectCall};
+ghost use Rattle.member.specs.Parts.{joining};
+
+// The view v becomes the carrier view of a sound book: 7, 11, 12.
+fn join_view(b: &mut [u8], v: View) -> Reply
+    requires { ⌜ bytesSound (now b) ≡ true ⌝ }
+    ensures { λ r. ⌜ (r ≡ replyOf (joining (membersIn (now (b .entry))) (selfIn (now (b .entry))) v (bookIn (now (b .entry)))))
+        × (now (b .exit) ≡ left (verdictOf (joining (membersIn (now (b .entry))) (selfIn (now (b .entry))) v (bookIn (now (b .entry))))) (joinBytes v (now (b .entry))) (now (b .entry))) ⌝ }
+{
+    if !audit::set_fits(b[books::MEMBERS], v) {
+        return acts::refuse(Refusal::SetUnfit);
+    }
+    arrivals::join::join(b, v)
+}
+
+// The view becomes the carrier view.
+pub fn join(b: &mut [u8], id: u32, set: u8) -> Reply
+    ensures { λ r. ⌜ Gave (joinCall (viewOf id set) (now (b .entry))) (joinBytes (viewOf id set) (now (b .entry))) (now (b .entry)) (now (b .exit)) r ⌝ }
+{
+    let v = admit(b);
+    match v {
+        Verdict::Refused(r) => acts::refuse(r),
+        Verdict::Accepted => join_view(
+            b,
+            View {
+                id: ViewId(id),
+                set,
+            },
+        ),
+    }
+}
+
+// The carrier view becomes open and becomes the client view.
+pub fn attempt(b: &mut [u8]) -> Reply
+    ensures { λ r. ⌜ Gave (attemptCall (now (b .entry))) (attemptBytes (now (b .entry))) (now (b .entry)) (now (b .exit)) r ⌝ }
+{
+    let v = admit(b);
+    match v {
+        Verdict::Refused(r) => acts::refuse(r),
+        Verdict::Accepted => mark::attempt(b),
+    }
+}
+
+// Noted for the client view; outgoing gains a registered message.
+pub fn register(b: &mut [u8]) -> Reply
+    ensures { λ r. ⌜ Gave (registerCall (now (b .entry))) (registerBytes (now (b .entry))) (now (b .entry)) (now (b .exit)) r ⌝ }
+{
+    let v = admit(b);
+    match v {
+        Verdict::Refused(r) => acts::refuse(r),
+        Verdict::Accepted => speak::register(b),
+    }
+}
+
+// Outgoing gains a client message.
+pub fn send(b: &mut [u8], entry: u64) -> Reply
+    ensures { λ r. ⌜ Gave (sendCall entry (now (b .entry))) (sendBytes entry (now (b .entry))) (now (b .entry)) (now (b .exit)) r ⌝ }
+{
+    let v = admit(b);
+    match v {
+        Verdict::Refused(r) => acts::refuse(r),
+        Verdict::Accepted => speak::send(b, entry),
+    }
+}
+
+// The next of the client view's inward list is given out.
+pub fn hand(b: &mut [u8]) -> Reply
+    ensures { λ r. ⌜ Gave (handCall (now (b .entry))) (handBytes (now (b .entry))) (now (b .entry)) (now (b .exit)) r ⌝ }
+{
+    let v = admit(b);
+    match v {
+        Verdict::Refused(r) => acts::refuse(r),
+        Verdict::Accepted => mark::hand(b),
+    }
+}
+
+// Outgoing gains told, with the number handed out in the client view.
+pub fn tell(b: &mut [u8]) -> Reply
+    ensures { λ r. ⌜ Gave (tellCall (now (b .entry))) (tellBytes (now (b .entry))) (now (b .entry)) (now (b .exit)) r ⌝ }
+{
+    let v = admit(b);
+    match v {
+        Verdict::Refused(r) => acts::refuse(r),
+        Verdict::Accepted => speak::tell(b),
+    }
+}
+
+// The next handed message not yet reported is reported, once every member of the view told of it.
+pub fn safe(b: &mut [u8]) -> Reply
+    ensures { λ r. ⌜ Gave (safeCall (now (b .entry))) (safeBytes (now (b .entry))) (now (b .entry)) (now (b .exit)) r ⌝ }
+{
+    let v = admit(b);
+    match v {
+        Verdict::Refused(r) => acts::refuse(r),
+        Verdict::Accepted => mark::safe(b),
+    }
+}
+
+// The carrier view becomes settled; only open views above it remain.
+pub fn collect(b: &mut [u8]) -> Reply
+    ensures { λ r. ⌜ Gave (collectCall (now (b .entry))) (collectBytes (now (b .entry))) (now (b .entry)) (now (b .exit)) r ⌝ }
+{
+    let v = admit(b);
+    match v {
+        Verdict::Refused(r) => acts::refuse(r),
+        Verdict::Accepted => mark::collect(b),
+    }
+}

@@ -1,0 +1,3 @@
+// The member by itself: its messages, given out as bytes and taken in from them. What is no sound book gets 4 before anything else.
+pub mod deliver;
+pub mod pass;
