@@ -1,0 +1,22 @@
+#!/usr/bin/env bash
+# The wrong answers that the gate leaves out for time: crates/NAME/more-edits, tried as the gate tries crates/NAME/must-fail.
+#
+#     tests/edits.sh [CRATE...]
+#
+# They stand on functions that other crates call and no host does: a contract of theirs that said too little would fail the proofs above it, so
+# the gate keeps two for each function that a host may call, document 01's wrong programs and traps, and wrong definitions.
+set -euo pipefail
+cd "$(dirname "${BASH_SOURCE[0]}")/.."
+copy=target/edits
+rm -rf "$copy"
+mkdir -p "$copy/target"
+cp -R crates crates.txt "$copy"
+for kept in rlib stamp log; do
+    if [ -d "target/$kept" ]; then cp -R "target/$kept" "$copy/target"; fi
+done
+rm -rf "$copy"/crates/*/must-fail
+for edits in "$copy"/crates/*/more-edits; do
+    mv "$edits" "$(dirname "$edits")/must-fail"
+done
+cd "$copy"
+rt must-fail "$@"
