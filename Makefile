@@ -13,6 +13,39 @@ run:
 clean:
 	rm -rf target
 
+# The library for programs in C and C++, proved before it is written. Its headers are include/dvs.h and include/dvs.hpp.
+.PHONY: lib
+LIBRARY := target/staticlib/libdvs.a
+lib: $(LIBRARY)
+$(LIBRARY): crates.txt $(shell find crates -name '*.rt' -o -name '*.antt')
+	rt staticlib dvs
+	touch $@
+
+# The library, its headers and its pkg-config file, to PREFIX; DESTDIR goes before it, for those who make a package.
+.PHONY: install
+PREFIX ?= /usr/local
+VERSION := 0.1.0
+install: $(LIBRARY)
+	sed -e 's|@PREFIX@|$(PREFIX)|' -e 's|@VERSION@|$(VERSION)|' include/dvs.pc.in > target/dvs.pc
+	install -d $(DESTDIR)$(PREFIX)/include $(DESTDIR)$(PREFIX)/lib/pkgconfig
+	install -m 644 include/dvs.h include/dvs.hpp $(DESTDIR)$(PREFIX)/include
+	install -m 644 $(LIBRARY) $(DESTDIR)$(PREFIX)/lib
+	install -m 644 target/dvs.pc $(DESTDIR)$(PREFIX)/lib/pkgconfig
+
+# A host of the library: eight offices over a carrier of their own, and what they print beside what they should.
+.PHONY: offices
+HOSTFLAGS := -std=c++17 -O2 -Wall -Wextra -Wpedantic -Wconversion -Wshadow -Werror -Iinclude
+target/offices: $(wildcard examples/offices/*.?pp) include/dvs.h include/dvs.hpp $(LIBRARY)
+	$(CXX) $(HOSTFLAGS) -o $@ $(wildcard examples/offices/*.cpp) $(LIBRARY)
+offices: target/offices
+	target/offices > target/offices.txt; status=$$?; cat target/offices.txt; exit $$status
+	diff examples/offices/expected.txt target/offices.txt
+
+# The C++ wrapper and both examples, installed and linked by pkg-config, with every compiler here, in C++17 and C++20 and with sanitizers.
+.PHONY: wrapper
+wrapper: $(LIBRARY)
+	tests/wrapper.sh
+
 # The plain references of the group and of the member by itself and the message vectors' answers, each against its own cases.
 .PHONY: reference
 reference:

@@ -1,0 +1,118 @@
+#include "firm.hpp"
+
+#include <algorithm>
+#include <cstdio>
+
+namespace offices {
+
+namespace {
+
+constexpr std::array<const char *, kOffices> kTowns = {"Ruskmoor",   "Aldersea",  "Halden",     "Fernworth",
+                                                       "Kettlemere", "Thornholm", "Brackwater", "Millhythe"};
+
+std::string name(const Firm &firm, const std::optional<dvs::View> &view) { return view ? name(firm, *view) : "none"; }
+
+std::string open_views(const Firm &firm, const dvs::ViewList &views) {
+  std::string list;
+  for (const dvs::View &view : views) list += (list.empty() ? "" : ", ") + name(firm, view);
+  return list.empty() ? "-" : list;
+}
+
+// "yes", or why not.
+std::string primary(const Office &office) {
+  if (office.works()) return "yes";
+  if (!office.book().carrier()) return "no line yet";
+  return "no, " + std::to_string(dvs::number(office.answer()));
+}
+
+}  // namespace
+
+Firm::Firm(std::uint64_t seed, dvs::Set first, Rule rule) : carrier_(seed, first), watch_(first, rule) {
+  for (dvs::Member own : everyone()) offices_.emplace_back(own, kTowns[dvs::number(own)], first, rule);
+}
+
+void Firm::connect(const std::vector<dvs::Set> &parts) {
+  carrier_.connect(parts);
+  for (dvs::Set part : parts) {
+    std::optional<dvs::Identifier> same;
+    bool has_it = true;
+    for (dvs::Member office : everyone()) {
+      if (!part.has(office)) continue;
+      const std::optional<dvs::View> view = offices_[dvs::number(office)].book().carrier();
+      has_it = has_it && view && view->set == part && (!same || *same == view->identifier);
+      if (view) same = view->identifier;
+    }
+    if (has_it) continue;
+    const dvs::View view = carrier_.form(part);
+    for (dvs::Member office : everyone()) {
+      if (!part.has(office)) continue;
+      carrier_.enter(office, view);
+      offices_[dvs::number(office)].enter(view);
+    }
+  }
+}
+
+bool Firm::round() {
+  carrier_.carry();
+  bool moved = false;
+  for (Office &office : offices_) moved |= office.turn(carrier_, watch_);
+  return moved;
+}
+
+void Firm::run() {
+  for (int rounds = 0; round() || !carrier_.quiet(); ++rounds) expect(rounds < 10000, "the offices come to rest");
+}
+
+std::vector<dvs::View> Firm::primaries() const {
+  std::vector<dvs::View> views;
+  for (const Office &office : offices_) {
+    if (!office.works()) continue;
+    const dvs::View view = *office.book().client();
+    if (std::find(views.begin(), views.end(), view) == views.end()) views.push_back(view);
+  }
+  return views;
+}
+
+dvs::Set Firm::working() const {
+  dvs::Set set;
+  for (dvs::Member office : everyone())
+    if (offices_[dvs::number(office)].works()) set = set.with(office);
+  return set;
+}
+
+Tally Firm::tally() const {
+  Tally sum;
+  for (const Office &office : offices_) {
+    sum.accepted += office.tally().accepted;
+    sum.refused += office.tally().refused;
+    sum.only_by_old_program += office.tally().only_by_old_program;
+    sum.too_late += office.tally().too_late;
+  }
+  return sum;
+}
+
+void Firm::print() const {
+  std::printf("    %-11s %-13s %-12s %-13s %-13s %-9s", "office", "carrier view", "primary", "client view", "settled", "open");
+  for (const auto &[mark, line] : offices_[0].marks()) std::printf(" %-13s", offices::name(mark).c_str());
+  std::printf(" tray\n");
+  for (const Office &office : offices_) {
+    const dvs::BookReader book = office.book();
+    std::printf("    %-11s %-13s %-12s %-13s %-13s %-9s", office.town(), name(*this, book.carrier()).c_str(), primary(office).c_str(),
+                name(*this, book.client()).c_str(), name(*this, book.settled()).c_str(), open_views(*this, book.open()).c_str());
+    for (const auto &[mark, line] : office.marks())
+      std::printf(" %-13s", (offices::name(line.section) + (line.safe ? "" : " unsafe")).c_str());
+    std::printf(" %zu\n", office.in_tray());
+  }
+  std::printf("\n");
+}
+
+std::string initials(const Firm &firm, dvs::Set set) {
+  std::string letters;
+  for (dvs::Member office : everyone())
+    if (set.has(office)) letters += firm[dvs::number(office)].town()[0];
+  return letters;
+}
+
+std::string name(const Firm &firm, dvs::View view) { return std::to_string(dvs::number(view.identifier)) + " " + initials(firm, view.set); }
+
+}  // namespace offices

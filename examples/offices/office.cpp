@@ -1,0 +1,141 @@
+#include "office.hpp"
+
+#include "old_rule.hpp"
+
+namespace offices {
+
+Office::Office(dvs::Member own, const char *town, dvs::Set first, Rule rule) : own_(own), town_(town), rule_(rule) {
+  expect(book_.start(kOffices, first, own).accepted(), "a book starts");
+  have_brought_ = first;
+}
+
+void Office::enter(dvs::View view) {
+  expect(book_.join(view).accepted(), "a view of the carrier is joined");
+  decided_ = false;
+  answer_ = dvs::Refusal::info_missing;
+}
+
+void Office::wish(Mark mark, Section section, Verdict verdict) { tray_.push_back({mark, section, verdict, marks_.at(mark).stamp}); }
+
+bool Office::turn(Carrier &carrier, Watch &watch) {
+  const bool took = take(carrier);
+  bool moved = took;
+  moved |= attempt(watch);
+  moved |= hand_out(watch);
+  if (works() && have_brought_ == book().client()->set) {
+    if (const auto event = book_.register_view()) {
+      watch.registered(*event, marks_);
+      moved = true;
+    }
+    moved |= send_wishes();
+  }
+  // One count for many entries: it is told when nothing more came.
+  if (!took) moved |= book_.tell().accepted();
+  moved |= report_safe(watch);
+  moved |= book_.collect().accepted();
+  while (const auto packet = book_.pass()) {
+    carrier.post(own_, *packet);
+    moved = true;
+  }
+  return moved;
+}
+
+// Takes up to two messages. One of a view that this office has left is refused by 41 and dropped.
+bool Office::take(Carrier &carrier) {
+  bool took = false;
+  for (int i = 0; i < 2; ++i) {
+    const std::optional<Letter> letter = carrier.take(own_);
+    if (!letter) break;
+    const dvs::Result<void> taken = book_.deliver(letter->packet.bytes(), letter->sender);
+    expect(taken || taken.refusal() == dvs::Refusal::another_view, "what the carrier brings is taken, or was sent in another view");
+    if (taken) took = true;
+    else ++tally_.too_late;
+  }
+  return took;
+}
+
+// Asks the service whether the carrier view is to be a primary one. Once the infos of all its members are here the answer stands.
+bool Office::attempt(Watch &watch) {
+  if (decided_) return false;
+  const dvs::Result<dvs::Event> event = rule_ == Rule::service ? book_.attempt() : old_program::attempt(book_);
+  answer_ = event.refusal();
+  if (answer_ == dvs::Refusal::info_missing) return false;
+  expect(event || answer_ == dvs::Refusal::test_failed, "an attempt is accepted or fails the test");
+  decided_ = true;
+  ++(event ? tally_.accepted : tally_.refused);
+  if (!event && old_program::first_passing(book(), book().carrier()->set)) ++tally_.only_by_old_program;
+  if (event) {
+    watch.attempted(*event);
+    tray_.insert(tray_.begin(), sent_.begin(), sent_.end());
+    sent_.clear();
+    bring_marks();
+  }
+  return true;
+}
+
+// In a new primary view every office first brings the lines that were changed since the design, so that all begin with the latest of each.
+void Office::bring_marks() {
+  have_brought_ = dvs::Set();
+  for (const auto &[mark, line] : marks_)
+    if (!(line.stamp == Stamp{}))
+      expect(book_.send(pack({Says::brought, mark, line.section, line.verdict, line.stamp})).accepted(), "a line is brought");
+  expect(book_.send(pack({Says::all_brought, {}, {}, {}, {}})).accepted(), "the last line is brought");
+}
+
+bool Office::hand_out(Watch &watch) {
+  bool moved = false;
+  while (const auto event = book_.hand()) {
+    watch.handed(*event, book().handed());
+    apply(*event);
+    moved = true;
+  }
+  return moved;
+}
+
+// The register is changed here and nowhere else: by an entry that was handed out in a view that this office attempted.
+void Office::apply(const dvs::Event &event) {
+  const Entry entry = unpack(event.entry);
+  if (entry.says == Says::all_brought) {
+    have_brought_ = have_brought_.with(event.sender);
+    return;
+  }
+  Line &line = marks_.at(entry.mark);
+  const Stamp stamp = entry.says == Says::brought ? entry.stamp : Stamp{dvs::number(event.view), book().handed()};
+  if (line.stamp < stamp) line = {entry.section, entry.verdict, stamp, false};
+  if (entry.says == Says::change && event.sender == own_) sent_.pop_front();
+}
+
+// Changes go out in a primary view only, and only those made on the line as it now is.
+bool Office::send_wishes() {
+  bool moved = false;
+  while (!tray_.empty()) {
+    const Wish &wish = tray_.front();
+    if (!(wish.seen == marks_.at(wish.mark).stamp)) {
+      come_back_.push_back(wish);
+    } else if (book_.send(pack({Says::change, wish.mark, wish.section, wish.verdict, {}}))) {
+      sent_.push_back(wish);
+    } else {
+      return moved;
+    }
+    tray_.pop_front();
+    moved = true;
+  }
+  return moved;
+}
+
+bool Office::report_safe(Watch &watch) {
+  bool moved = false;
+  while (const auto event = book_.safe()) {
+    const unsigned place = book().reported();
+    const Entry entry = unpack(event->entry);
+    moved = true;
+    if (entry.says == Says::all_brought) continue;
+    const Stamp stamp = entry.says == Says::brought ? entry.stamp : Stamp{dvs::number(event->view), place};
+    watch.safe(*event, place, entry.mark, stamp);
+    Line &line = marks_.at(entry.mark);
+    if (line.stamp == stamp) line.safe = true;
+  }
+  return moved;
+}
+
+}  // namespace offices

@@ -1,0 +1,46 @@
+// The OLD PROGRAM's rule, kept to show what it did wrong. Only the story's second firm works by it: everywhere else what decides is dvs_attempt.
+#pragma once
+
+#include "dvs.hpp"
+
+#include <algorithm>
+
+namespace offices::old_program {
+
+// Twice the members in common must exceed the members of the held view: this much is right.
+inline bool majority(dvs::Set view, dvs::Set held) { return 2 * (view & held).count() > held.count(); }
+
+// The old program went through the views that an office held, the settled one first, and stopped at the first that passed. The service asks every
+// one of them: a view that fails may be somebody else's primary.
+inline std::optional<dvs::View> first_passing(const dvs::BookReader &book, dvs::Set view) {
+  if (majority(view, book.settled().set)) return book.settled();
+  for (const dvs::View &open : book.open())
+    if (majority(view, open.set)) return open;
+  return std::nullopt;
+}
+
+// An attempt by that rule, played on the library: where it refuses and the old rule would not have, the held views that the old rule did not look at
+// are taken out of the book's bytes for the call and put back behind it. No host should do this.
+inline dvs::Result<dvs::Event> attempt(dvs::Book &book) {
+  constexpr std::size_t kSettled = 2, kCarrier = 8, kOpenCount = 35, kOpen = 36, kOpenEnd = kOpen + DVS_VIEW_SIZE * DVS_OPEN;  // docs/LAYOUT.md
+  const dvs::Result<dvs::Event> answer = book.attempt();
+  if (answer.refusal() != dvs::Refusal::test_failed) return answer;
+  const std::optional<dvs::View> passing = first_passing(book.look(), book.look().carrier()->set);
+  if (!passing) return answer;
+
+  const dvs::Book before = book;
+  const dvs::MutableBytes bytes = book.bytes();
+  const auto copy = [](dvs::Bytes from, std::size_t at, std::size_t end, dvs::MutableBytes to, std::size_t place) {
+    std::copy(from.data() + at, from.data() + end, to.data() + place);
+  };
+  for (std::size_t i = 0; i < before.look().open().size(); ++i)
+    if (before.look().open()[i] == *passing) copy(before.bytes(), kOpen + DVS_VIEW_SIZE * i, kOpen + DVS_VIEW_SIZE * (i + 1), bytes, kSettled);
+  bytes[kOpenCount] = 0;
+  const dvs::Result<dvs::Event> event = book.attempt();
+  copy(before.bytes(), kSettled, kSettled + DVS_VIEW_SIZE, bytes, kSettled);
+  copy(before.bytes(), kOpenCount, kOpenEnd, bytes, kOpenCount);
+  copy(before.bytes(), kCarrier, kCarrier + DVS_VIEW_SIZE, bytes, kOpen + DVS_VIEW_SIZE * bytes[kOpenCount]++);
+  return event;
+}
+
+}  // namespace offices::old_program

@@ -1,0 +1,11 @@
+// The two parts of the program.
+#pragma once
+
+namespace offices {
+
+// The story of beam B12: eight phases, written out, each with its outcome asserted.
+void story();
+// A season of lines that fail and return by chance, watched.
+void season();
+
+}  // namespace offices
