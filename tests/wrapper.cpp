@@ -72,6 +72,7 @@ void messages() {
   buffer[15] = 77;
   const auto length = dvs::write(client, buffer);
   EXPECT(length && *length == 15 && buffer[15] == 77 && buffer[7] == 1 && buffer[14] == 8);
+  EXPECT(dvs::read(dvs::Bytes(buffer.data(), 15))->number == client.number);
   EXPECT(dvs::write(client, dvs::MutableBytes(buffer.data(), 14)).refusal() == Refusal::buffer_too_short);
   EXPECT(dvs::write(dvs::Message{}).refusal() == Refusal::unknown_kind);
   EXPECT(dvs::write(dvs::Message{dvs::MessageKind::told, Identifier{5}, 129, {}}).refusal() == Refusal::told_out_of_range);
@@ -121,6 +122,36 @@ void books() {
   EXPECT(saved.attempt().refusal() == Refusal::test_failed);
 }
 
+// An entry from one book to another until it is safe there.
+void entries() {
+  dvs::Book here, there;
+  EXPECT(here.start(2, Set{3}, Member{0}) && there.start(2, Set{3}, Member{1}));
+  const auto carry = [&](dvs::Book &from, Member sender) {
+    std::array<std::uint8_t, DVS_LONGEST> buffer{};
+    EXPECT(from.look().outgoing() == 1);
+    const auto length = from.pass(buffer);
+    EXPECT(length && *length == 15 && from.look().outgoing() == 0);
+    for (dvs::Book *book : {&here, &there}) EXPECT(book->deliver(dvs::Bytes(buffer.data(), *length), sender).accepted());
+  };
+  const auto sent = here.send(0x8000000000000001u);
+  EXPECT(sent && sent->kind == dvs::EventKind::sent && sent->entry == 0x8000000000000001u);
+  carry(here, Member{0});
+  EXPECT(there.tell().refusal() == Refusal::nothing_new_to_tell && there.safe().refusal() == Refusal::none_to_report);
+  for (dvs::Book *book : {&here, &there}) {
+    const auto handed = book->hand();
+    EXPECT(handed && handed->kind == dvs::EventKind::handed && handed->sender == Member{0} && handed->entry == sent->entry);
+    EXPECT(book->hand().refusal() == Refusal::none_to_hand && book->look().handed() == 1 && book->look().told() == 0);
+  }
+  EXPECT(here.tell().accepted() && here.look().told() == 1);
+  carry(here, Member{0});
+  EXPECT(here.safe().refusal() == Refusal::told_too_low);
+  EXPECT(there.tell().accepted());
+  carry(there, Member{1});
+  const auto safe = here.safe();
+  EXPECT(safe && safe->kind == dvs::EventKind::safe && safe->sender == Member{0} && safe->entry == sent->entry && here.look().reported() == 1);
+  EXPECT(here.collect().refusal() == Refusal::not_above_settled);
+}
+
 // Document 01's whole case, with safe added, by a group on lent memory.
 void groups() {
   static dvs::GroupMemory<2> memory;
@@ -159,6 +190,7 @@ int main() {
   sets();
   messages();
   books();
+  entries();
   groups();
   std::puts("wrapper: every name in its place");
 }

@@ -1,15 +1,14 @@
-// The example of README.md: two offices, one entry.
+// The example of README.md: two offices in one view, and an entry from one to the other.
 #include <dvs.hpp>
-
-#include <cstdio>
+#include <iostream>
 
 int main() {
   dvs::Book here, there;
-  const dvs::Set both = dvs::Set::below(2);
-  if (!here.start(2, both, dvs::Member{0}) || !there.start(2, both, dvs::Member{1})) return 1;
-  if (auto sent = here.send(12175); !sent) return std::puts(dvs::text(sent.refusal())), 1;
-  while (auto packet = here.pass())  // what the carrier would bring over the line
-    if (auto taken = there.deliver(packet->bytes(), dvs::Member{0}); !taken) return std::puts(dvs::text(taken.refusal())), 1;
-  if (auto entry = there.hand()) std::printf("entry %llu from office %u\n", static_cast<unsigned long long>(entry->entry), dvs::number(entry->sender));
-  std::puts(dvs::text(there.attempt().refusal()));
+  bool fine = here.start(2, dvs::Set::below(2), dvs::Member{0}) && there.start(2, dvs::Set::below(2), dvs::Member{1});
+  fine = fine && here.send(12175);
+  while (auto packet = here.pass())  // from here to there is the host's own carrier
+    fine = fine && there.deliver(packet->bytes(), dvs::Member{0});
+  if (auto entry = there.hand()) std::cout << "entry " << entry->entry << " from office " << number(entry->sender) << '\n';
+  if (auto tried = there.attempt(); !tried) std::cout << "refused " << number(tried.refusal()) << ": " << text(tried.refusal()) << '\n';
+  return fine ? 0 : 1;
 }

@@ -93,6 +93,8 @@ std::optional<Letter> Carrier::take(dvs::Member office) {
   return channel.order[at.taken++];
 }
 
+bool Carrier::full(dvs::Member office) const { return seat(office).view && channels_.at(*seat(office).view).order.size() == DVS_ORDERED; }
+
 bool Carrier::quiet() const {
   for (const Seat &at : seats_)
     if (!at.too_late.empty() && !at.held) return false;

@@ -52,6 +52,8 @@ class Carrier {
   void carry();
   // The next message of the order, from there to the office, if it comes through now; or one of an earlier view that comes too late.
   std::optional<Letter> take(dvs::Member office);
+  // Whether the order of the office's view has all the messages that a view can have.
+  bool full(dvs::Member office) const;
   // Whether there is nothing left that the lines as they are could bring anywhere.
   bool quiet() const;
 

@@ -27,29 +27,35 @@ std::string primary(const Office &office) {
 
 }  // namespace
 
-Firm::Firm(std::uint64_t seed, dvs::Set first, Rule rule) : carrier_(seed, first), watch_(first, rule) {
+Firm::Firm(std::uint64_t seed, dvs::Set first, Rule rule) : parts_{first}, carrier_(seed, first), watch_(first, rule) {
   for (dvs::Member own : everyone()) offices_.emplace_back(own, kTowns[dvs::number(own)], first, rule);
 }
 
 void Firm::connect(const std::vector<dvs::Set> &parts) {
+  parts_ = parts;
   carrier_.connect(parts);
-  for (dvs::Set part : parts) {
-    std::optional<dvs::Identifier> same;
-    bool has_it = true;
-    for (dvs::Member office : everyone()) {
-      if (!part.has(office)) continue;
-      const std::optional<dvs::View> view = offices_[dvs::number(office)].book().carrier();
-      has_it = has_it && view && view->set == part && (!same || *same == view->identifier);
-      if (view) same = view->identifier;
-    }
-    if (has_it) continue;
-    const dvs::View view = carrier_.form(part);
-    for (dvs::Member office : everyone()) {
-      if (!part.has(office)) continue;
-      carrier_.enter(office, view);
-      offices_[dvs::number(office)].enter(view);
-    }
+  for (dvs::Set part : parts)
+    if (!has_one_view(part)) give_view(part);
+}
+
+void Firm::give_view(dvs::Set part) {
+  const dvs::View view = carrier_.form(part);
+  for (dvs::Member office : everyone()) {
+    if (!part.has(office)) continue;
+    carrier_.enter(office, view);
+    offices_[dvs::number(office)].enter(view);
   }
+}
+
+bool Firm::has_one_view(dvs::Set part) const {
+  std::optional<dvs::View> one;
+  for (dvs::Member office : everyone()) {
+    if (!part.has(office)) continue;
+    const std::optional<dvs::View> view = offices_[dvs::number(office)].book().carrier();
+    if (!view || view->set != part || (one && *one != *view)) return false;
+    one = view;
+  }
+  return true;
 }
 
 bool Firm::round() {
@@ -60,7 +66,18 @@ bool Firm::round() {
 }
 
 void Firm::run() {
-  for (int rounds = 0; round() || !carrier_.quiet(); ++rounds) expect(rounds < 10000, "the offices come to rest");
+  for (int rounds = 0;; ++rounds) {
+    expect(rounds < 10000, "the offices come to rest");
+    if (round() || !carrier_.quiet()) continue;
+    bool rest = true;
+    for (dvs::Set part : parts_) {
+      const auto everybody = everyone();
+      if (std::none_of(everybody.begin(), everybody.end(), [&](dvs::Member office) { return part.has(office) && carrier_.full(office); })) continue;
+      give_view(part);
+      rest = false;
+    }
+    if (rest) return;
+  }
 }
 
 std::vector<dvs::View> Firm::primaries() const {

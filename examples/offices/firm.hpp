@@ -20,7 +20,7 @@ class Firm {
   void connect(const std::vector<dvs::Set> &parts);
   // One round: a try on every line, a turn of every office. Whether anything happened.
   bool round();
-  // Rounds until nothing can happen any more.
+  // Rounds until nothing can happen any more. A part whose view has all its messages gets a new view and goes on.
   void run();
   // Rounds until this is so, which must come.
   template <class Condition>
@@ -41,6 +41,10 @@ class Firm {
   void print() const;
 
  private:
+  void give_view(dvs::Set part);
+  bool has_one_view(dvs::Set part) const;
+
+  std::vector<dvs::Set> parts_;
   Carrier carrier_;
   Watch watch_;
   std::vector<Office> offices_;

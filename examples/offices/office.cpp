@@ -28,9 +28,9 @@ bool Office::turn(Carrier &carrier, Watch &watch) {
       moved = true;
     }
     moved |= send_wishes();
+    // A view has 128 messages for all its offices, so one count is told for many entries: when nothing more came.
+    if (!took) moved |= book_.tell().accepted();
   }
-  // One count for many entries: it is told when nothing more came.
-  if (!took) moved |= book_.tell().accepted();
   moved |= report_safe(watch);
   moved |= book_.collect().accepted();
   while (const auto packet = book_.pass()) {

@@ -179,11 +179,18 @@ void half(Firm &firm) {
 }
 
 void end(Firm &firm) {
-  heading("8. All lines are back for good.");
+  heading("8. All lines are back for good. Twelve changes of rafter R3 follow each other through the day. A view has 128 messages; when\n"
+          "   view 11 has had them, its offices go on in a new one, and what found no place is made good there.");
   firm.connect({kAll});
   firm.run();
-  expect(firm.working() == kAll, "all work in one view");
+  expect(firm.primaries().size() == 1 && firm.primaries()[0].identifier == dvs::Identifier{11}, "all work in view 11");
   expect_safe(firm, kAll, kColumn, {120, 120}, Verdict::resized);
+  for (unsigned i = 1; i <= 12; ++i) {
+    firm[i % kOffices].wish(kRafter, {50, 175 + 5 * i}, Verdict::resized);
+    firm.run();
+    expect_safe(firm, kAll, kRafter, {50, 175 + 5 * i}, Verdict::resized);
+  }
+  expect(firm.working() == kAll && firm.primaries()[0].identifier == dvs::Identifier{12}, "all work in view 12");
   firm.print();
   std::printf("   %u messages were lost on a line and sent again. %u came to an office that had left their view, and were refused by 41.\n\n",
               firm.carrier().lost(), firm.tally().too_late);

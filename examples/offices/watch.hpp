@@ -33,8 +33,6 @@ class Watch {
   const std::set<std::string> &broken() const { return broken_; }
   unsigned views_attempted() const { return static_cast<unsigned>(views_.size()); }
   unsigned lines_safe() const { return lines_safe_; }
-  // The marks of an office that works in this view are no older than what was safe before.
-  void none_lost(dvs::Identifier view, const Register &marks);
 
  private:
   struct Seen {
@@ -43,6 +41,8 @@ class Watch {
     std::map<dvs::Member, unsigned> handed;
   };
   void hold_to(bool holds, const char *words);
+  // The marks of an office that works in this view are no older than what was safe before.
+  void none_lost(dvs::Identifier view, const Register &marks);
   bool registered_between(dvs::Identifier low, dvs::Identifier high) const;
 
   std::map<dvs::Identifier, Seen> views_;
