@@ -1,5 +1,13 @@
-// Eight offices keep one register of a timber frame over a carrier of their own. `make offices` runs this and compares what it prints with
-// expected.txt; a broken rule ends it with status 1.
+// Eight offices keep one register of a timber frame, each with a book of its own, over a carrier that loses, delays and parts. `make offices` runs
+// this and compares what it prints with expected.txt; a rule that is broken ends it with status 1.
+//
+//   office   what a host has to do with a book, in Office::turn: read this first
+//   carrier  views and one order of messages for each, over bad lines
+//   timber   the register, and its lines as entry numbers
+//   watch    what is checked at every event
+//   firm     the eight together, and the tables
+//   story    beam B12, by the service and by the old program's rule (old_rule)
+//   season   lines that fail and return by chance
 #include "story.hpp"
 
 int main() {
