@@ -1,8 +1,8 @@
 // The calls that are the member's steps as they stand, where 4 and 6 let them, and join, where 7 does too.
-use member::admit;
 use acts::Reply;
 use acts::mark;
 use acts::speak;
+use member::admit;
 use views::View;
 use views::ViewId;
 use views::refusal::Refusal;

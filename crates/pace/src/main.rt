@@ -57,9 +57,9 @@ fn told(b: &mut [u8], slip: &mut [u8]) -> u64 {
 
 // The first outgoing message comes back to the member.
 fn carry(b: &mut [u8], slip: &mut [u8]) -> u64 {
-    let p = messages::pass::pass(b, slip);
+    let p = exchange::pass::pass(b, slip);
     let n = script::parse::front(p.length as u64, slip);
-    let d = messages::deliver::deliver(b, &slip[..n], 0);
+    let d = exchange::deliver::deliver(b, &slip[..n], 0);
     std::num::wrapping_add_u64(went(p), one(d))
 }
 

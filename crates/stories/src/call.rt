@@ -28,5 +28,5 @@ pub fn step(b: &mut [u8], line: &[u8], kind: u8) -> Reply {
 fn deliver(b: &mut [u8], line: &[u8]) -> Reply {
     let mut bytes = [0u8; crate::desk::SLIP];
     let n = script::parse::unhex(line, script::parse::word(line, 3), &mut bytes);
-    messages::deliver::deliver(b, &bytes[..n], word(line, 2))
+    exchange::deliver::deliver(b, &bytes[..n], word(line, 2))
 }

@@ -116,7 +116,7 @@ fn pass(books: &mut [u8], slips: &mut [u8], k: usize, line: &[u8], d: Desk) -> D
     let to = from + desk::lent(d, k);
     let at = k * SLIP;
     let end = at + word::upto(line, 2, SLIP);
-    let p = messages::pass::pass(&mut books[from..to], &mut slips[at..end]);
+    let p = exchange::pass::pass(&mut books[from..to], &mut slips[at..end]);
     show::passed(p, &slips[at..end]);
     desk::passed(d, k, p)
 }
@@ -132,7 +132,7 @@ fn relay(books: &mut [u8], slips: &mut [u8], k: usize, line: &[u8], d: Desk)
     let j = word::book(line, 2);
     let at = j * SLIP;
     let end = at + desk::slip(d, j);
-    let r = messages::deliver::deliver(&mut books[from..to], &slips[at..end], desk::own(d, j));
+    let r = exchange::deliver::deliver(&mut books[from..to], &slips[at..end], desk::own(d, j));
     show::reply(r);
 }
 

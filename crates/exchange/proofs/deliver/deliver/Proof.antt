@@ -1,12 +1,12 @@
--- `messages::deliver::deliver` meets its contract: 4, 6, then what was read.
+-- `exchange::deliver::deliver` meets its contract: 4, 6, then what was read.
 use Rattle.rules.specs.Data.{after}
 use Rattle.rules.specs.Alone.{deliverAlone}
 use Rattle.acts.specs.Acts.{fewOpen}
 use Rattle.member.specs.Calls.{deliverCall}
 use Rattle.member.proofs.CallLaws.{call-refused, call-sound, call-done}
 use borrow.Author.Needs.{needs}
-use Rattle.messages.proofs.deliver.deliver.Statement.{statement}
-use Rattle.messages.proofs.deliver.deliver.Tie as tie
+use Rattle.exchange.proofs.deliver.deliver.Statement.{statement}
+use Rattle.exchange.proofs.deliver.deliver.Tie as tie
 
 admit-requires : tie.Need-admit-requires
 admit-requires c κs = search needs

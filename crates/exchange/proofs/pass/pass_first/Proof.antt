@@ -1,10 +1,10 @@
--- `messages::pass::pass_first` meets its contract: 13, 14, and then what the writer says of the first message.
+-- `exchange::pass::pass_first` meets its contract: 13, 14, and then what the writer says of the first message.
 use native.Mathlib.Omega.{arith}
 use Rattle.acts.proofs.Committed.{sound-layout, sound-size}
-use Rattle.messages.proofs.PassLaws.{pass-unseated, pass-emptied, first-few, pass-done}
+use Rattle.exchange.proofs.PassLaws.{pass-unseated, pass-emptied, first-few, pass-done}
 use borrow.Author.Needs.{needs}
-use Rattle.messages.proofs.pass.pass_first.Statement.{statement}
-use Rattle.messages.proofs.pass.pass_first.Tie as tie
+use Rattle.exchange.proofs.pass.pass_first.Statement.{statement}
+use Rattle.exchange.proofs.pass.pass_first.Tie as tie
 
 load-seat-requires : tie.Need-load-seat-requires
 load-seat-requires c κs = omega (arith, sound-size _ (c .before .before .before .pre))

@@ -1,10 +1,10 @@
--- `messages::deliver::deliver_read` meets its contract: 13, the reader's refusals, then the message.
+-- `exchange::deliver::deliver_read` meets its contract: 13, the reader's refusals, then the message.
 use native.Mathlib.Omega.{arith}
 use Rattle.acts.proofs.Committed.{sound-size}
-use Rattle.messages.proofs.ReadLaws.{read-carries, read-unseated, read-carrier, read-refused, read-done}
+use Rattle.exchange.proofs.ReadLaws.{read-carries, read-unseated, read-carrier, read-refused, read-done}
 use borrow.Author.Needs.{needs}
-use Rattle.messages.proofs.deliver.deliver_read.Statement.{statement}
-use Rattle.messages.proofs.deliver.deliver_read.Tie as tie
+use Rattle.exchange.proofs.deliver.deliver_read.Statement.{statement}
+use Rattle.exchange.proofs.deliver.deliver_read.Tie as tie
 
 load-seat-requires : tie.Need-load-seat-requires
 load-seat-requires c κs = omega (arith, sound-size _ (c .before .before .before .pre))

@@ -1,9 +1,9 @@
--- `messages::pass::pass` meets its contract: 4, 6, then the first outgoing message.
+-- `exchange::pass::pass` meets its contract: 4, 6, then the first outgoing message.
 use Rattle.member.proofs.CallLaws.{call-sound}
-use Rattle.messages.proofs.PassLaws.{pass-refused, pass-given}
+use Rattle.exchange.proofs.PassLaws.{pass-refused, pass-given}
 use borrow.Author.Needs.{needs}
-use Rattle.messages.proofs.pass.pass.Statement.{statement}
-use Rattle.messages.proofs.pass.pass.Tie as tie
+use Rattle.exchange.proofs.pass.pass.Statement.{statement}
+use Rattle.exchange.proofs.pass.pass.Tie as tie
 
 admit-requires : tie.Need-admit-requires
 admit-requires c κs = search needs

@@ -1,9 +1,9 @@
--- `messages::deliver::answer` meets its contract: 7, 41, 42, 16, in this order.
+-- `exchange::deliver::answer` meets its contract: 7, 41, 42, 16, in this order.
 use native.Mathlib.Omega.{arith}
 use Rattle.member.proofs.ArriveLaws.{answer-unfit, answer-other, answer-stranger, answer-full, answer-passes}
 use borrow.Author.Needs.{needs}
-use Rattle.messages.proofs.deliver.answer.Statement.{statement}
-use Rattle.messages.proofs.deliver.answer.Tie as tie
+use Rattle.exchange.proofs.deliver.answer.Statement.{statement}
+use Rattle.exchange.proofs.deliver.answer.Tie as tie
 
 all-fit-requires : tie.Need-all-fit-requires
 all-fit-requires c κs = search needs

@@ -1,6 +1,6 @@
 // Deliver: the bytes of a message of the carrier view are read and the message is taken.
-use member::admit;
 use acts::Reply;
+use member::admit;
 use views::Member;
 use views::View;
 use views::limits;

@@ -1,9 +1,9 @@
--- `messages::pass::give_out` meets its contract: the frame written and the first message gone, or neither.
+-- `exchange::pass::give_out` meets its contract: the frame written and the first message gone, or neither.
 use Rattle.acts.specs.Acts.{passBytes}
-use Rattle.messages.proofs.PassLaws.{out-refused, out-accepted}
+use Rattle.exchange.proofs.PassLaws.{out-refused, out-accepted}
 use borrow.Author.Needs.{needs}
-use Rattle.messages.proofs.pass.give_out.Statement.{statement}
-use Rattle.messages.proofs.pass.give_out.Tie as tie
+use Rattle.exchange.proofs.pass.give_out.Statement.{statement}
+use Rattle.exchange.proofs.pass.give_out.Tie as tie
 
 write-requires : tie.Need-write-requires
 write-requires c κs = search needs

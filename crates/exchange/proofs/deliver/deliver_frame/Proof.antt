@@ -1,10 +1,10 @@
--- `messages::deliver::deliver_frame` meets its contract: the answer to the frame, then the message taken.
+-- `exchange::deliver::deliver_frame` meets its contract: the answer to the frame, then the message taken.
 use native.Mathlib.Omega.{arith}
 use Rattle.acts.proofs.Committed.{sound-size}
 use Rattle.member.proofs.ArriveLaws.{carrier-mark, sender-small, frame-refused, frame-sender, frame-room, frame-taken}
 use borrow.Author.Needs.{needs}
-use Rattle.messages.proofs.deliver.deliver_frame.Statement.{statement}
-use Rattle.messages.proofs.deliver.deliver_frame.Tie as tie
+use Rattle.exchange.proofs.deliver.deliver_frame.Statement.{statement}
+use Rattle.exchange.proofs.deliver.deliver_frame.Tie as tie
 
 slice-read-answer : tie.Need-slice-read-answer
 slice-read-answer c = omega (arith, sound-size _ (c .before .before .pre .0))
