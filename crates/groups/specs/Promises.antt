@@ -50,7 +50,7 @@ pub record Given (c : Step) : Type 0 where
 abbrev pub AllGiven : List Step → Type 0
 AllGiven steps = (c : Step) → In c steps → Given c
 
-abbrev pub Demand3 : Type 1
+abbrev pub Demand3 : Type 0
 Demand3 =
     (n S : ℕ) (r : Ranges) (s : Group) → startResult n S r ≡ accepted s → (steps : List Step) → AllGiven steps
     → Promised one S (eventsShown (repliesOf (startRanges n S r) steps))

@@ -5,15 +5,28 @@ use mathlib.Core.Bool.{Bool, true, false, cond}
 use mathlib.Core.List.{List, [], _∷_, _++_}
 use Prim.Native.Nat.{ℕ, suc, _≤_, _<_}
 use native.Mathlib.Omega.{arith}
-use lib.Dec.{T}
+use borrow.Author.Tests.{eqb-true, eq-eqb}
+use lib.Dec.{T, eqb}
 use Rattle.views.specs.declared.View.{View}
-use Rattle.views.specs.Sets.{has}
+use Rattle.views.specs.Sets.{both, has}
 use Rattle.views.specs.Lists.{idOf}
 use Rattle.views.proofs.Members.{In, top, pop, in-nil, in-left, in-right, in-append}
-use Rattle.membership.proofs.Updates.{upd-ind, upd-here, upd-up}
+use Rattle.membership.proofs.Updates.{upd-ind, upd2-ind, upd-here, upd-up}
 use Rattle.rules.specs.Data.{Event, attempt, register}
 use Rattle.rules.specs.Figure1 as D
-use Rattle.rules.specs.Figure1.{Outer, Act, Run, Noted}
+use Rattle.rules.specs.Figure1.{Outer, Act, Run}
+
+-- ---- who registered at first: the members of the first view, in it
+
+pub first-registered : (g i : ℕ) (b : Bool) → (g ≡ i) × T b → T (both (eqb g i) b)
+first-registered g i b t = rw (eq-eqb g i (t .0)) (t .1)
+
+pub registered-first : (g i : ℕ) (b : Bool) → T (both (eqb g i) b) → (g ≡ i) × T b
+registered-first g i b = go (eqb g i) refl
+  where
+    go : (c : Bool) → eqb g i ≡ c → T (both c b) → (g ≡ i) × T b
+    go true e t = (eqb-true g i e, t)
+    go false e t = absurd t
 
 -- ---- by the events, the first view v₀ both from the start
 
@@ -91,12 +104,13 @@ module _ {M : Type 0} where
   current-step (D.reports q v x h k t z) p g c = inl c
 
   -- who registered did so before, or does so now, in its current view
-  registered-step : {d e : Outer M} {k : List (Event M)} → Act d e k → (g p : ℕ) → e .registered g p → d .registered g p ⊎ (In (register p g) k × (d .current p ≡ suc g))
+  registered-step : {d e : Outer M} {k : List (Event M)} → Act d e k → (g p : ℕ) → T (e .registered g p) → T (d .registered g p) ⊎ (In (register p g) k × (d .current p ≡ suc g))
   registered-step (D.create v h) g p t = inl t
   registered-step (D.order q i m r h) g p t = inl t
   registered-step (D.newView q v h u l) g p t = inl t
-  registered-step (D.registers q i h) g p (Noted.old t) = inl t
-  registered-step (D.registers q i h) g p Noted.new = inr (top, h)
+  registered-step {d} (D.registers q i h) g p t =
+      upd2-ind i q true (d .registered) (λ g p b. T b → T (d .registered g p) ⊎ (In {A = Event M} (register p g) (register q i ∷ []) × (d .current p ≡ suc g)))
+      (λ _. inr (top, h)) (λ g p _ u. inl u) g p t
   registered-step (D.sends q i m h) g p t = inl t
   registered-step (D.receives q i x h u) g p t = inl t
   registered-step (D.reports q v x h c u z) g p t = inl t
@@ -131,15 +145,15 @@ module _ {M : Type 0} where
     ]
 
     -- a view in which someone registered is attempted (Invariant 3.1)
-    pub registered-shown : {d : Outer M} {l : List (Event M)} → Run v₀ d l → (g p : ℕ) → d .registered g p → Shown v₀ l g
-    registered-shown Run.begin g p t = (v₀, sym (t .0), inl refl)
+    pub registered-shown : {d : Outer M} {l : List (Event M)} → Run v₀ d l → (g p : ℕ) → T (d .registered g p) → Shown v₀ l g
+    registered-shown Run.begin g p t = (v₀, sym (registered-first g (idOf v₀) (has (v₀ .set) p) t .0), inl refl)
     registered-shown (Run.then {l} {k} r a) g p t = elim (registered-step a g p t) [
       | inl u ↦ shown-more v₀ l k g (registered-shown r g p u)
       | inr h ↦ shown-more v₀ l k g (current-shown r p g (h .1))
     ]
 
-    pub registered-event : {d : Outer M} {l : List (Event M)} → Run v₀ d l → (g p : ℕ) → d .registered g p → Registered v₀ l p g
-    registered-event Run.begin g p t = inl t
+    pub registered-event : {d : Outer M} {l : List (Event M)} → Run v₀ d l → (g p : ℕ) → T (d .registered g p) → Registered v₀ l p g
+    registered-event Run.begin g p t = inl (registered-first g (idOf v₀) (has (v₀ .set) p) t)
     registered-event (Run.then {l} {k} r a) g p t = elim (registered-step a g p t) [
       | inl u ↦ registered-more v₀ l k g p (registered-event r g p u)
       | inr h ↦ inr (in-right l (h .0))

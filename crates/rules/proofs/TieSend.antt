@@ -1,15 +1,17 @@
 -- The tie is kept by the steps that put a message to the end of a member's outgoing: register, tell and send.
 use mathlib.Core.Path.{_≡_, refl, _∙_, ap}
 use mathlib.Core.Logic.{_≢_, _⊎_, inl, inr}
+use mathlib.Core.Bool.{true}
 use mathlib.Core.List.{List, [], _∷_, _++_, append-assoc, append-nil}
 use Prim.Native.Nat.{ℕ, suc, _≤_, _<_}
 use native.Mathlib.Omega.{arith}
+use lib.Dec.{T}
 use lib.ListN.{length}
 use Rattle.views.specs.Points.{at2}
 use Rattle.views.proofs.Members.{In}
 use Rattle.membership.proofs.Updates.{upd-ind, upd2-ind, mix-ind, Plus2}
 use Rattle.membership.proofs.Machine.{State, registerS}
-use Rattle.rules.specs.Figure1.{Outer, Noted}
+use Rattle.rules.specs.Figure1.{Outer}
 use Rattle.rules.proofs.Flat as F
 use Rattle.rules.proofs.Flat.{Flat, Msg, queueF}
 use Rattle.rules.proofs.Queues.{clientsOf, in-snoc, clients-append}
@@ -43,7 +45,7 @@ module _ {M : Type 0} (a : State) (d : Outer M) (s : Flat M) (r : Tied a d s) wh
     registeredO = record {
       created = d .created;
       current = d .current;
-      registered = Noted (d .registered) v p;
+      registered = at2 v p true (d .registered);
       queue = d .queue;
       pending = d .pending;
       received = d .received;
@@ -51,12 +53,14 @@ module _ {M : Type 0} (a : State) (d : Outer M) (s : Flat M) (r : Tied a d s) wh
     }
 
     register-outward : RegisteredOutward (registerS a p v) registeredO
-    register-outward g q (Plus2.old t) = Noted.old (r .reg-outward g q t)
-    register-outward g q Plus2.new = Noted.new
+    register-outward = upd2-ind v p true (d .registered) (λ g q b. Plus2 (a .registered) v p g q → T b) (λ _. tt) (λ g q n t. kept g q n t)
+      where
+        kept : (g q : ℕ) → ¬ ((g ≡ v) × (q ≡ p)) → Plus2 (a .registered) v p g q → T (d .registered g q)
+        kept g q n (Plus2.old t) = r .reg-outward g q t
+        kept g q n Plus2.new = absurd (n (refl, refl))
 
     register-inward : RegisteredInward (registerS a p v) registeredO
-    register-inward g q (Noted.old t) = Plus2.old (r .reg-inward g q t)
-    register-inward g q Noted.new = Plus2.new
+    register-inward = upd2-ind v p true (d .registered) (λ g q b. T b → Plus2 (a .registered) v p g q) (λ _. Plus2.new) (λ g q _ t. Plus2.old (r .reg-inward g q t))
 
     register-still : (g q : ℕ) (m : Msg M) → Backed a d g q m → Backed (registerS a p v) d g q m
     register-still g q (F.client c) t = t

@@ -59,10 +59,10 @@ module _ {M : Type 0} where
   SameCurrent d s = d .current ≡ s .client
 
   abbrev pub RegisteredOutward : State → Outer M → Type 0
-  RegisteredOutward a d = (g p : ℕ) → a .registered g p → d .registered g p
+  RegisteredOutward a d = (g p : ℕ) → a .registered g p → T (d .registered g p)
 
   abbrev pub RegisteredInward : State → Outer M → Type 0
-  RegisteredInward a d = (g p : ℕ) → d .registered g p → a .registered g p
+  RegisteredInward a d = (g p : ℕ) → T (d .registered g p) → a .registered g p
 
   -- ---- messages on their way
 

@@ -28,6 +28,7 @@ use Rattle.rules.proofs.TieSend.{register-tied, register-old-tied, tell
 use Rattle.rules.proofs.TieHand.{hand-at, hand-tied, safe-at, safe-tied}
 use Rattle.rules.proofs.TieAttempt.{collect-tied}
 use Rattle.rules.proofs.Listed.{Naming, Agrees, to-named, from-named, same-view, same-id, find, added, stays}
+use Rattle.rules.proofs.Events.{first-registered, registered-first}
 use Rattle.rules.proofs.Beside.{E, Beside, unseen, attempt-beside}
 
 module _ (size : ℕ) (weight : ℕ → ℕ) (n : Naming size) {M : Type 0} (S : ℕ) where
@@ -128,8 +129,8 @@ module _ (size : ℕ) (weight : ℕ → ℕ) (n : Naming size) {M : Type 0} (S :
       infos-received = λ p g c q t. absurd t;
       regs-received = λ p g c q t. absurd t;
       same-current = refl;
-      reg-outward = λ g p t. (t .0, subst (λ (v : View). T (has (v .set) p)) first (t .1));
-      reg-inward = λ g p t. (t .0, subst (λ (v : View). T (has (v .set) p)) (sym first) (t .1));
+      reg-outward = λ g p t. first-registered g 0 (has S p) (t .0, subst (λ (v : View). T (has (v .set) p)) first (t .1));
+      reg-inward = λ g p t. let u = registered-first g 0 (has S p) t in (u .0, subst (λ (v : View). T (has (v .set) p)) (sym first) (u .1));
       outgoing-backed = λ p g c m h. absurd (in-nil h);
       waiting-backed = λ p g m h. absurd (in-nil h);
       order-backed = λ g q m h. absurd (in-nil h);

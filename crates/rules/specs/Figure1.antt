@@ -1,14 +1,14 @@
 -- Figure 1 written out: the outward machine, over any type M of messages. It keeps no limits.
 use mathlib.Core.Path.{_≡_}
 use mathlib.Core.Logic.{_≢_, _⊎_}
-use mathlib.Core.Bool.{Bool, cond}
+use mathlib.Core.Bool.{Bool, true, cond}
 use mathlib.Core.List.{List, [], _∷_, _++_}
 use Prim.Native.Nat.{ℕ, zero, suc, _+_, _≤_, _<_}
-use lib.Dec.{T}
+use lib.Dec.{T, eqb}
 use lib.ListN.{drop}
 use Rattle.views.specs.declared.View.{View}
 use Rattle.views.specs.Members.{In}
-use Rattle.views.specs.Sets.{has}
+use Rattle.views.specs.Sets.{both, has}
 use Rattle.views.specs.Points.{at, at2}
 use Rattle.views.specs.Lists.{idOf}
 use Rattle.rules.specs.Data.{Identifier, Member, Item, item, Event, attempt, register, send, hand, safe}
@@ -19,17 +19,12 @@ use Rattle.rules.specs.Data.{Identifier, Member, Item, item, Event, atte
 abbrev pub At : {A : Type 0} → List A → ℕ → A → Type 0
 At {A} l n x = (rest : List A) × (drop n l ≡ x ∷ rest)
 
--- R, and the member p in the view g besides
-pub data Noted (R : Identifier → Member → Type 0) (g : Identifier) (p : Member) : Identifier → Member → Type 0 where
-  old : {h : Identifier} {q : Member} → R h q → Noted R g p h q
-  new : Noted R g p g p
-
 -- ---- the state
 
-pub record Outer (M : Type 0) : Type 1 where
+pub record Outer (M : Type 0) : Type 0 where
   pub created : List View
   pub current : Member → ℕ  -- 0 for none, else one more than the current view's identifier
-  pub registered : Identifier → Member → Type 0  -- who registered in each view
+  pub registered : Identifier → Member → Bool  -- who registered in each view
   pub queue : Identifier → List (Item M)
   pub pending : Member → Identifier → List M
   pub received : Member → Identifier → ℕ
@@ -40,7 +35,7 @@ abbrev pub outer0 : (M : Type 0) → View → Outer M
 outer0 M v = record {
   created = v ∷ [];
   current = λ p. cond (has (v .set) p) (suc (idOf v)) 0;
-  registered = λ g p. (g ≡ idOf v) × T (has (v .set) p);
+  registered = λ g p. both (eqb g (idOf v)) (has (v .set) p);
   queue = λ g. [];
   pending = λ p g. [];
   received = λ p g. 0;
@@ -49,7 +44,7 @@ outer0 M v = record {
 
 -- a created view that all its members registered
 abbrev pub Total : {M : Type 0} → Outer M → View → Type 0
-Total d x = In x (d .created) × ((p : Member) → T (has (x .set) p) → d .registered (idOf x) p)
+Total d x = In x (d .created) × ((p : Member) → T (has (x .set) p) → T (d .registered (idOf x) p))
 
 -- the views share a member, or a totally registered view is strictly between their identifiers
 abbrev pub Apart : {M : Type 0} → Outer M → View → View → Type 0
@@ -59,7 +54,7 @@ Apart d v w =
 
 -- ---- its steps, each with what it is fed
 
-pub data Act {M : Type 0} : Outer M → Outer M → List (Event M) → Type 1 where
+pub data Act {M : Type 0} : Outer M → Outer M → List (Event M) → Type 0 where
   -- create, unfed: the identifier is new
   create : {d : Outer M} (v : View) → ((w : View) → In w (d .created) → (idOf w ≢ idOf v) × Apart d v w)
       → Act d (record {
@@ -98,7 +93,7 @@ pub data Act {M : Type 0} : Outer M → Outer M → List (Event M) → Type 1 wh
       → Act d (record {
         created = d .created;
         current = d .current;
-        registered = Noted (d .registered) g p;
+        registered = at2 g p true (d .registered);
         queue = d .queue;
         pending = d .pending;
         received = d .received;
@@ -139,6 +134,6 @@ pub data Act {M : Type 0} : Outer M → Outer M → List (Event M) → Type 1 wh
       }) (safe p (idOf v) x ∷ [])
 
 -- a run from the first view: the state it reaches and its outward events, first to last
-pub data Run {M : Type 0} (v : View) : Outer M → List (Event M) → Type 1 where
+pub data Run {M : Type 0} (v : View) : Outer M → List (Event M) → Type 0 where
   begin : Run v (outer0 M v) []
   then : {d e : Outer M} {l k : List (Event M)} → Run v d l → Act d e k → Run v e (l ++ k)

@@ -14,7 +14,7 @@ use Rattle.rules.specs.Figure1.{Outer, Run}
 use Rattle.rules.specs.Runs.{lastOf, answersOf, eventsOf, Attempted, NoneBetween}
 
 -- the outward events l of a group with the first set S
-pub record Promised (weight : Member → ℕ) (S : ℕ) (l : List (Event ℕ)) : Type 1 where
+pub record Promised (weight : Member → ℕ) (S : ℕ) (l : List (Event ℕ)) : Type 0 where
   -- they are exactly those of some run of Figure 1, first to last
   pub run : (d : Outer ℕ) × Run (firstView S) d l
   -- two attempted views with no totally registered view between their identifiers share a server that weighs more than 0
@@ -22,7 +22,7 @@ pub record Promised (weight : Member → ℕ) (S : ℕ) (l : List (Event ℕ)) :
       → (p : Member) × T (has (v .set) p) × T (has (w .set) p) × (0 < weight p)
 
 -- any members, first set and list length that start accepts; any steps, refused ones among them, of any kind number and operands
-abbrev pub Demand3 : Type 1
+abbrev pub Demand3 : Type 0
 Demand3 =
     (weight : Member → ℕ) (n S room : ℕ) (s : Group) → start n S room ≡ accepted s → (steps : List Step)
     → Promised weight S (eventsOf (answersOf weight s steps))

@@ -43,7 +43,7 @@ noneStarts running r [] = true
 noneStarts running r (x ∷ l) = let o = answerTo running r x in both (not (starts r x)) (noneStarts (o .running) (o .ranges) l)
 
 -- for a bench in any state, as any lines left it: `group n S` accepted, then lines of any bytes, none of them an accepted `group`
-abbrev pub BenchPromise : Type 1
+abbrev pub BenchPromise : Type 0
 BenchPromise =
     (running : Bool) (r : Ranges) (n S : ℕ) → starts r (groupLine n S) ≡ true
     → let o = answerTo running r (groupLine n S) in
