@@ -1,0 +1,5 @@
+pub mod Numbers
+pub mod Answers
+pub mod Shown
+pub mod Turning
+pub mod Promise

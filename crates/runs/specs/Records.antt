@@ -1,0 +1,67 @@
+-- The records of a run, as bytes: the steps that are asked, and the answers to them. docs/LAYOUT.md has the tables.
+use mathlib.Core.Bool.{cond}
+use mathlib.Core.List.{List, [], _∷_, _++_}
+use Prim.Native.Nat.{ℕ, zero, suc, _+_, _*_, _/_}
+use lib.Dec.{eqb}
+use lib.ListN.{length, getD}
+use Rattle.numbers.specs.Number.{get, digits}
+use Rattle.views.specs.Refusals.{codeOf}
+use Rattle.wire.specs.Format.{viewBytes}
+use Rattle.wire.specs.Reader.{viewIn}
+use Rattle.rules.specs.Data.{Step, Event as Outward}
+use Rattle.acts.specs.declared.Event.{Event}
+use Rattle.acts.specs.declared.Reply.{Reply}
+use Rattle.acts.specs.Replies.{happened}
+use Rattle.groups.specs.Promises.{shown}
+
+-- ---- steps: kind 1 byte, first operand 4, second operand 8
+
+abbrev pub stepSize : ℕ
+stepSize = 13
+
+-- the step in the record at a place
+unfoldable pub stepAt : List ℕ → ℕ → Step
+stepAt b at = record { kind = getD b at 0; first = get b (at + 1) 4; second = get b (at + 5) 8 }
+
+-- n steps, from the record i on
+unfoldable pub stepsFrom : List ℕ → ℕ → ℕ → List Step
+stepsFrom b zero i = []
+stepsFrom b (suc n) i = stepAt b (stepSize * i) ∷ stepsFrom b n (i + 1)
+
+-- the steps that bytes are
+unfoldable pub stepsIn : List ℕ → List Step
+stepsIn b = stepsFrom b (length b / stepSize) 0
+
+-- ---- answers: the refusal's number 1 byte, 0 for accepted; then the event, 0 where there is none:
+-- ---- kind 1, member 1, view 5 (identifier 4, set 1), sender 1, entry number 8
+
+abbrev pub answerSize : ℕ
+answerSize = 17
+
+unfoldable pub answerBytes : Reply → List ℕ
+answerBytes x =
+    let e = x .event in
+    codeOf (x .verdict) ∷ (e .kind ∷ (e .member .0 ∷ (viewBytes (e .view) ++ (e .sender .0 ∷ digits 8 (e .entry)))))
+
+unfoldable pub answersBytes : List Reply → List ℕ
+answersBytes [] = []
+answersBytes (x ∷ l) = answerBytes x ++ answersBytes l
+
+-- ---- the outward events that answers show, first to last
+
+-- the event of the answer at a place
+unfoldable pub eventAt : List ℕ → ℕ → Event
+eventAt b at = happened (getD b (at + 1) 0) (getD b (at + 2) 0) (viewIn b (at + 3)) (getD b (at + 8) 0) (get b (at + 9) 8)
+
+-- a refusal shows nothing
+unfoldable pub shownAt : List ℕ → ℕ → List (Outward ℕ)
+shownAt b at = cond (eqb (getD b at 0) 0) (shown (eventAt b at)) []
+
+-- those of n answers, from the record i on
+unfoldable pub eventsFrom : List ℕ → ℕ → ℕ → List (Outward ℕ)
+eventsFrom b zero i = []
+eventsFrom b (suc n) i = shownAt b (answerSize * i) ++ eventsFrom b n (i + 1)
+
+-- the events that bytes show
+unfoldable pub eventsIn : List ℕ → List (Outward ℕ)
+eventsIn b = eventsFrom b (length b / answerSize) 0

@@ -1,0 +1,52 @@
+// A run: a start, and a list of steps put to the group one after another, with an answer to each. What is promised of the answers, demand 3, is
+// part of its contract.
+mod turns;
+
+use views::refusal::Refusal;
+use views::refusal::Verdict;
+ghost use mathlib.Core.Path.{_≡_};
+ghost use Rattle.group.specs.Calls.{ranges};
+ghost use Rattle.runs.specs.Runs.{paired, Ran};
+
+// Bytes of a step's record, and of an answer's.
+pub const STEP: usize = 13;
+
+pub const ANSWER: usize = 17;
+
+// Whole records of steps, and room for one answer to each; the lengths in bytes.
+fn pair(steps: usize, answers: usize) -> bool
+    ensures { λ r. ⌜ r ≡ paired steps answers ⌝ }
+{
+    if steps % STEP != 0 {
+        return false;
+    }
+    if answers % ANSWER != 0 {
+        return false;
+    }
+    answers / ANSWER == steps / STEP
+}
+
+// A group of so many members with a first view begins, and takes every step in turn; each has its answer.
+pub fn run(
+    list: &mut [u8],
+    all: &mut [u8],
+    queues: &mut [u8],
+    members: u8,
+    first: u8,
+    steps: &[u8],
+    answers: &mut [u8],
+) -> Verdict
+    ensures { λ r. ⌜ Ran members first (ranges (now (list .entry)) (now (all .entry)) (now (queues .entry))) (now (steps .entry)) (now (answers .entry)) (ranges (now (list .exit)) (now (all .exit)) (now (queues .exit))) (now (answers .exit)) r ⌝ }
+{
+    if !pair(steps.len(), answers.len()) {
+        return Verdict::Refused(Refusal::RecordsUnsound);
+    }
+    let v = group::begin::start(list, all, queues, members, first);
+    match v {
+        Verdict::Refused(r) => Verdict::Refused(r),
+        Verdict::Accepted => {
+            turns::each(list, all, queues, steps, answers);
+            Verdict::Accepted
+        }
+    }
+}
