@@ -80,3 +80,8 @@ pace:
 	rt check pace stride
 	echo 20000 | bash -c 'time target/bin/pace'
 	echo 500 | bash -c 'time target/bin/stride'
+
+# The wrong answers that the gate leaves out for time.
+.PHONY: edits
+edits:
+	tests/edits.sh
