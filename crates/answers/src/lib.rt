@@ -1,0 +1,83 @@
+// What a call of the C interface gives out: its number, the event in lent bytes, the length of a message in lent bytes; and small numbers taken from
+// wider ones.
+ghost use mathlib.Core.Path.{_≡_};
+ghost use Prim.Native.Nat.{_≤_, _<_};
+ghost use lib.ListN.{length};
+ghost use Rattle.views.specs.Refusals.{numberOf, codeOf};
+ghost use Rattle.acts.specs.Replies.{left};
+ghost use Rattle.answers.specs.Answers.{eventSize, lengthSize, eventBytes, lengthBytes, narrowed};
+use acts::Event;
+use acts::Reply;
+use views::refusal;
+use views::refusal::Refusal;
+use views::refusal::Verdict;
+
+// Bytes of an event, and of the length of a message.
+pub const EVENT: usize = 16;
+
+pub const LENGTH: usize = 4;
+
+// 0 for accepted, or the refusal's number.
+pub fn code(v: Verdict) -> u32
+    ensures { λ r. ⌜ r ≡ codeOf v ⌝ }
+{
+    refusal::code(v) as u32
+}
+
+// The refusal's number.
+pub fn refused(r: Refusal) -> u32
+    ensures { λ x. ⌜ x ≡ numberOf r ⌝ }
+{
+    refusal::number(r) as u32
+}
+
+// The number in one byte, or another number that stands for all that are too large for it.
+pub fn narrow(x: u32, other: u8) -> u8
+    ensures { λ r. ⌜ r ≡ narrowed other x ⌝ }
+{
+    if 256 <= x {
+        return other;
+    }
+    (x % 256) as u8
+}
+
+// The event: its kind, the member, the view's identifier and set, the sender, the entry number.
+pub fn put_event(out: &mut [u8], e: Event)
+    requires { ⌜ length (now out) ≡ eventSize ⌝ }
+    ensures { λ _. ⌜ now (out .exit) ≡ eventBytes e ⌝ }
+{
+    out[0] = e.kind;
+    out[1] = e.member.0;
+    slots::store_view(out, 2, e.view);
+    out[7] = e.sender.0;
+    numbers::put_number(out, 8, 8, e.entry);
+}
+
+// The number of a call that gives an event out: a refusal leaves the bytes.
+pub fn answer(out: &mut [u8], r: Reply) -> u32
+    requires { ⌜ length (now out) ≡ eventSize ⌝ }
+    ensures { λ x. ⌜ (x ≡ codeOf (r .verdict)) × (now (out .exit) ≡ left (r .verdict) (eventBytes (r .event)) (now (out .entry))) ⌝ }
+{
+    let v = r.verdict;
+    match v {
+        Verdict::Refused(why) => refused(why),
+        Verdict::Accepted => {
+            put_event(out, r.event);
+            0
+        }
+    }
+}
+
+// The number of a call that gives the length n of a message out: a refusal leaves the bytes.
+pub fn measure(out: &mut [u8], v: Verdict, n: usize) -> u32
+    requires { ⌜ length (now out) ≡ lengthSize ⌝ }
+    ensures { λ x. ⌜ (x ≡ codeOf v) × (now (out .exit) ≡ left v (lengthBytes n) (now (out .entry))) ⌝ }
+{
+    match v {
+        Verdict::Refused(why) => refused(why),
+        Verdict::Accepted => {
+            numbers::put_number(out, 0, LENGTH, n as u64);
+            0
+        }
+    }
+}

@@ -1,0 +1,37 @@
+// The whole group.
+use views::refusal::Refusal;
+
+#[no_mangle]
+pub extern "C" fn dvs_group_start(
+    list: &mut [u8],
+    books: &mut [u8],
+    queues: &mut [u8],
+    members: u32,
+    first_set: u32,
+) -> u32 {
+    let v = group::begin::start(
+        list,
+        books,
+        queues,
+        answers::narrow(members, 0),
+        answers::narrow(first_set, 0),
+    );
+    answers::code(v)
+}
+
+#[no_mangle]
+pub extern "C" fn dvs_group_step(
+    list: &mut [u8],
+    books: &mut [u8],
+    queues: &mut [u8],
+    kind: u32,
+    first: u32,
+    second: u64,
+    event: &mut [u8],
+) -> u32 {
+    if event.len() != answers::EVENT {
+        return answers::refused(Refusal::RecordsUnsound);
+    }
+    let r = group::step::step(list, books, queues, answers::narrow(kind, 0), first, second);
+    answers::answer(event, r)
+}

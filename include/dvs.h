@@ -1,0 +1,200 @@
+/*
+ * dvs.h: primary views for up to eight register servers, after the service DVS of MIT-LCS-TR-873.
+ *
+ * The library keeps no memory of its own, calls nothing and never blocks. The host lends byte ranges, each as a pointer and a length in bytes, and
+ * gives plain numbers. A call answers any bytes, any lengths and any numbers:
+ *
+ *   0            accepted: the lent ranges are what the step makes of them;
+ *   1 to 43      refused by one number (DVS_REFUSED_...), and every lent byte is as it was.
+ *
+ * What is asked of the host is what C asks of it: a pointer is good for its length (it may be null where the length is 0), ranges of one call do not
+ * overlap unless both are const, and no two threads use one range at a time.
+ *
+ * A range whose length this header fixes (a book, an event, ...) gets DVS_REFUSED_RECORDS_UNSOUND, before anything else, where it has another length.
+ * Every byte of every range is described in docs/LAYOUT.md; numbers in them are big-endian. A set of members is a number with bit 0 for member 0.
+ */
+#ifndef DVS_H
+#define DVS_H
+
+#include <stddef.h>
+#include <stdint.h>
+
+#ifdef __cplusplus
+extern "C" {
+#endif
+
+/* ---- limits */
+
+#define DVS_MEMBERS 8u   /* members of a group: 0 to 7 */
+#define DVS_VIEWS 32u    /* views in a group's life, the first included; views in an info message */
+#define DVS_OPEN 31u     /* open views of a member */
+#define DVS_OUTGOING 16u /* messages outgoing in a member */
+#define DVS_WAITING 8u   /* messages waiting for a member in a view */
+#define DVS_ORDERED 128u /* messages ordered in a view */
+#define DVS_LONGEST 167u /* bytes of the longest message */
+
+/* ---- lengths of lent ranges, in bytes */
+
+#define DVS_BOOK_SIZE 5234u                                          /* a member's book */
+#define DVS_EVENT_SIZE 16u                                           /* an event that a call gives out */
+#define DVS_LENGTH_SIZE 4u                                           /* the length of a message that a call gives out */
+#define DVS_MESSAGE_SIZE 174u                                        /* a message's record */
+#define DVS_VIEW_SIZE 5u                                             /* a view record: identifier 4, set 1 */
+#define DVS_LIST_SIZE(views) (DVS_VIEW_SIZE * (size_t)(views))       /* a group's list with room for 1 to 32 views */
+#define DVS_BOOKS_SIZE 41872u                                        /* a group's eight books */
+#define DVS_QUEUES_SIZE(views) (64u + 32841u * (size_t)(views))      /* a group's queues, for a list with room for as many views */
+
+/* ---- places in an event: DVS_EVENT_SIZE bytes. What an event does not have is 0. */
+
+#define DVS_EVENT_KIND 0u   /* 1 byte: the step's kind (DVS_STEP_...), 0 for a step that is no outward event */
+#define DVS_EVENT_MEMBER 1u /* 1 byte: the member */
+#define DVS_EVENT_VIEW 2u   /* 4 bytes: the client view's identifier */
+#define DVS_EVENT_SET 6u    /* 1 byte: its set, of attempt alone */
+#define DVS_EVENT_SENDER 7u /* 1 byte: the sender, of hand and safe */
+#define DVS_EVENT_ENTRY 8u  /* 8 bytes: the entry number, of send, hand and safe */
+
+/* ---- places in a message's record: DVS_MESSAGE_SIZE bytes */
+
+#define DVS_MESSAGE_KIND 0u   /* 1 byte: DVS_CLIENT, DVS_INFO, DVS_REGISTERED or DVS_TOLD */
+#define DVS_MESSAGE_VIEW 1u   /* 4 bytes: the identifier of the view sent in */
+#define DVS_MESSAGE_NUMBER 5u /* 8 bytes: the entry number of client, the count of told; 0, and not looked at, of the others */
+#define DVS_MESSAGE_COUNT 13u /* 1 byte: the number of views: 1 to 32 of info, 0 of the others */
+#define DVS_MESSAGE_VIEWS 14u /* 32 view records, of which so many count: the settled view first, then the open ones, identifiers rising */
+
+#define DVS_CLIENT 1u
+#define DVS_INFO 2u
+#define DVS_REGISTERED 3u
+#define DVS_TOLD 4u
+
+/* ---- the steps of a group */
+
+#define DVS_STEP_CREATE 1u   /* first: identifier, second: set */
+#define DVS_STEP_JOIN 2u     /* first: member, second: identifier */
+#define DVS_STEP_PASS 3u     /* first: member */
+#define DVS_STEP_ORDER 4u    /* first: member, second: identifier */
+#define DVS_STEP_DELIVER 5u  /* first: member */
+#define DVS_STEP_ATTEMPT 6u  /* first: member; event */
+#define DVS_STEP_REGISTER 7u /* first: member; event */
+#define DVS_STEP_SEND 8u     /* first: member, second: entry number; event */
+#define DVS_STEP_HAND 9u     /* first: member; event */
+#define DVS_STEP_TELL 10u    /* first: member */
+#define DVS_STEP_SAFE 11u    /* first: member; event */
+#define DVS_STEP_COLLECT 12u /* first: member */
+
+/* ---- refusals; docs/REFUSALS.md has a section for each */
+
+#define DVS_ACCEPTED 0u
+#define DVS_REFUSED_MEMBERS_OUT_OF_RANGE 1u
+#define DVS_REFUSED_FIRST_SET_UNFIT 2u
+#define DVS_REFUSED_LIST_LENGTH 3u
+#define DVS_REFUSED_RECORDS_UNSOUND 4u
+#define DVS_REFUSED_UNKNOWN_STEP 5u
+#define DVS_REFUSED_NO_SUCH_MEMBER 6u
+#define DVS_REFUSED_SET_UNFIT 7u
+#define DVS_REFUSED_IDENTIFIER_NOT_ABOVE 8u
+#define DVS_REFUSED_LIST_FULL 9u
+#define DVS_REFUSED_NO_SUCH_VIEW 10u
+#define DVS_REFUSED_NOT_IN_SET 11u
+#define DVS_REFUSED_NOT_ABOVE_CARRIER 12u
+#define DVS_REFUSED_NO_CARRIER_VIEW 13u
+#define DVS_REFUSED_NONE_OUTGOING 14u
+#define DVS_REFUSED_WAITING_FULL 15u
+#define DVS_REFUSED_ORDER_FULL 16u
+#define DVS_REFUSED_NONE_WAITING 17u
+#define DVS_REFUSED_NONE_TO_DELIVER 18u
+#define DVS_REFUSED_NOT_ABOVE_CLIENT 19u
+#define DVS_REFUSED_INFO_MISSING 20u
+#define DVS_REFUSED_TEST_FAILED 21u
+#define DVS_REFUSED_NO_CLIENT_VIEW 22u
+#define DVS_REFUSED_ALREADY_REGISTERED 23u
+#define DVS_REFUSED_OUTGOING_FULL 24u
+#define DVS_REFUSED_NONE_TO_HAND 25u
+#define DVS_REFUSED_CLIENT_NOT_CARRIER 26u
+#define DVS_REFUSED_NOTHING_NEW_TO_TELL 27u
+#define DVS_REFUSED_NONE_TO_REPORT 28u
+#define DVS_REFUSED_TOLD_TOO_LOW 29u
+#define DVS_REFUSED_NOT_ABOVE_SETTLED 30u
+#define DVS_REFUSED_REGISTRATION_MISSING 31u
+#define DVS_REFUSED_ENDS_EARLY 32u
+#define DVS_REFUSED_UNKNOWN_KIND 33u
+#define DVS_REFUSED_SECTION_COUNT 34u
+#define DVS_REFUSED_EMPTY_SET 35u
+#define DVS_REFUSED_NOT_RISING 36u
+#define DVS_REFUSED_TOLD_OUT_OF_RANGE 37u
+#define DVS_REFUSED_BYTES_LEFT_OVER 38u
+#define DVS_REFUSED_BUFFER_TOO_SHORT 39u
+#define DVS_REFUSED_LINE_UNREADABLE 40u /* of the bench alone */
+#define DVS_REFUSED_ANOTHER_VIEW 41u
+#define DVS_REFUSED_SENDER_NOT_IN_VIEW 42u
+#define DVS_REFUSED_TOO_MANY_OPEN 43u
+
+/*
+ * ---- the member by itself: one office's part, over a carrier of the host's own
+ *
+ * The book has DVS_BOOK_SIZE bytes. After dvs_start it is changed by these calls alone; a book of any other bytes is answered too, by 4 where it is no
+ * sound book. The refusals stand in the order in which they are checked; 4 and then 6 come before them in every call but dvs_start.
+ */
+
+/* The book of member `own` in a group of `members`, with the first view, identifier 0, of `first_set`. 4, 1, 2, 6. */
+uint32_t dvs_start(uint8_t *book, size_t book_size, uint32_t members, uint32_t first_set, uint32_t own);
+
+/* The carrier gave this member a view: it becomes the carrier view, and outgoing holds one info. 7, 11, 12. */
+uint32_t dvs_join(uint8_t *book, size_t book_size, uint32_t view, uint32_t set);
+
+/* The first outgoing message goes to the front of `buffer`, and its length to `length` (DVS_LENGTH_SIZE bytes). DVS_LONGEST bytes hold any message;
+ * what lies behind the message in the buffer stays. 13, 14, 39. */
+uint32_t dvs_pass(uint8_t *book, size_t book_size, uint8_t *buffer, size_t buffer_size, uint8_t *length, size_t length_size);
+
+/* The next message of the carrier view's order, from `sender`, is taken. 13, 32 to 38, 7, 41, 42, 16, 43. */
+uint32_t dvs_deliver(uint8_t *book, size_t book_size, const uint8_t *bytes, size_t bytes_size, uint32_t sender);
+
+/* The carrier view is attempted: it becomes the client view. 13, 19, 20, 21, 43. */
+uint32_t dvs_attempt(uint8_t *book, size_t book_size, uint8_t *event, size_t event_size);
+
+/* The client registers in the client view. 22, 23, 24. */
+uint32_t dvs_register(uint8_t *book, size_t book_size, uint8_t *event, size_t event_size);
+
+/* The client sends an entry number in the client view. 22, 24. */
+uint32_t dvs_send(uint8_t *book, size_t book_size, uint64_t entry, uint8_t *event, size_t event_size);
+
+/* The next entry of the client view is given to the client. 22, 25. */
+uint32_t dvs_hand(uint8_t *book, size_t book_size, uint8_t *event, size_t event_size);
+
+/* The others are told how many entries the client has. 22, 26, 27, 24. */
+uint32_t dvs_tell(uint8_t *book, size_t book_size);
+
+/* The next entry that every client of the view has is reported safe. 22, 26, 28, 29. */
+uint32_t dvs_safe(uint8_t *book, size_t book_size, uint8_t *event, size_t event_size);
+
+/* The carrier view, registered by all its members, becomes settled. 13, 30, 31. */
+uint32_t dvs_collect(uint8_t *book, size_t book_size);
+
+/*
+ * ---- messages: the bytes that go over the line, and a record of DVS_MESSAGE_SIZE bytes
+ */
+
+/* Reads one message, which the bytes must be as a whole; every byte of the record is written. 4, 32 to 34 as the bytes come, then 35 to 38. */
+uint32_t dvs_read(const uint8_t *bytes, size_t bytes_size, uint8_t *message, size_t message_size);
+
+/* Writes the record's message to the front of `buffer`, and its length to `length` (DVS_LENGTH_SIZE bytes). 4, 33 to 37, 39. */
+uint32_t dvs_write(const uint8_t *message, size_t message_size, uint8_t *buffer, size_t buffer_size, uint8_t *length, size_t length_size);
+
+/*
+ * ---- the whole group: all members and the carrier between them, in three ranges
+ *
+ * The list has room for 1 to 32 views and DVS_LIST_SIZE of that many bytes, the queues DVS_QUEUES_SIZE of as many, the books DVS_BOOKS_SIZE.
+ */
+
+/* A group of `members` begins with the first view, identifier 0, of `first_set`; every byte of the three ranges is written. 4, 1, 2, 3. */
+uint32_t dvs_group_start(uint8_t *list, size_t list_size, uint8_t *books, size_t books_size, uint8_t *queues, size_t queues_size, uint32_t members,
+                         uint32_t first_set);
+
+/* One step of any kind (DVS_STEP_...) with its operands, 0 for those it does not have. An accepted step writes the event. 4, 5, 6, then as the kind. */
+uint32_t dvs_group_step(uint8_t *list, size_t list_size, uint8_t *books, size_t books_size, uint8_t *queues, size_t queues_size, uint32_t kind,
+                        uint32_t first, uint64_t second, uint8_t *event, size_t event_size);
+
+#ifdef __cplusplus
+}
+#endif
+
+#endif
