@@ -1,5 +1,7 @@
 // The whole group.
 use views::refusal::Refusal;
+ghost use Rattle.group.specs.Calls.{ranges, asked};
+ghost use Rattle.dvs.specs.Exports.{Begins, Steps};
 
 #[no_mangle]
 pub extern "C" fn dvs_group_start(
@@ -8,7 +10,9 @@ pub extern "C" fn dvs_group_start(
     queues: &mut [u8],
     members: u32,
     first_set: u32,
-) -> u32 {
+) -> u32
+    ensures { λ r. ⌜ Begins (ranges (now (list .entry)) (now (books .entry)) (now (queues .entry))) members «first_set» (ranges (now (list .exit)) (now (books .exit)) (now (queues .exit))) r ⌝ }
+{
     let v = group::begin::start(
         list,
         books,
@@ -28,7 +32,9 @@ pub extern "C" fn dvs_group_step(
     first: u32,
     second: u64,
     event: &mut [u8],
-) -> u32 {
+) -> u32
+    ensures { λ r. ⌜ Steps (ranges (now (list .entry)) (now (books .entry)) (now (queues .entry))) (asked kind first second) (ranges (now (list .exit)) (now (books .exit)) (now (queues .exit))) (now (event .entry)) (now (event .exit)) r ⌝ }
+{
     if event.len() != answers::EVENT {
         return answers::refused(Refusal::RecordsUnsound);
     }

@@ -2,9 +2,12 @@
 use views::refusal::Refusal;
 use views::refusal::Verdict;
 use wire::format;
+ghost use Rattle.dvs.specs.Exports.{Reads, Writes};
 
 #[no_mangle]
-pub extern "C" fn dvs_read(bytes: &[u8], message: &mut [u8]) -> u32 {
+pub extern "C" fn dvs_read(bytes: &[u8], message: &mut [u8]) -> u32
+    ensures { λ r. ⌜ Reads (now (bytes .entry)) (now (message .entry)) (now (message .exit)) r ⌝ }
+{
     if message.len() != messages::RECORD {
         return answers::refused(Refusal::RecordsUnsound);
     }
@@ -21,7 +24,9 @@ pub extern "C" fn dvs_read(bytes: &[u8], message: &mut [u8]) -> u32 {
 }
 
 #[no_mangle]
-pub extern "C" fn dvs_write(message: &[u8], buffer: &mut [u8], length: &mut [u8]) -> u32 {
+pub extern "C" fn dvs_write(message: &[u8], buffer: &mut [u8], length: &mut [u8]) -> u32
+    ensures { λ r. ⌜ Writes (now (message .entry)) (now (buffer .entry)) (now (buffer .exit)) (now (length .entry)) (now (length .exit)) r ⌝ }
+{
     if message.len() != messages::RECORD {
         return answers::refused(Refusal::RecordsUnsound);
     }
