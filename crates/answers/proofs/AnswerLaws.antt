@@ -5,23 +5,24 @@ use Prim.Native.Nat.{ℕ, _+_, _%_, _<_, _≤_}
 use native.Mathlib.Omega.{arith}
 use lib.ListN.{length, set, drop, length-append}
 use lib.Seq.{drop-length}
-use borrow.Author.Tests.{lt-ltb, le-ltb}
+use borrow.Author.Tests.{eq-eqb, ne-eqb, lt-ltb, le-ltb}
 use Rattle.numbers.specs.Number.{put, digits}
 use Rattle.numbers.proofs.NumberLaws.{length-digits}
 use Rattle.views.specs.declared.refusal.Refusal.{Refusal}
+use Rattle.views.specs.declared.refusal.Refusal.the-variants.{RecordsUnsound}
 use Rattle.views.specs.declared.refusal.Verdict.{Verdict}
 use Rattle.views.specs.declared.refusal.Verdict.the-variants.{Accepted, Refused}
-use Rattle.views.specs.Refusals.{numberOf, codeOf}
+use Rattle.views.specs.Refusals.{numberOf, codeOf, need}
 use Rattle.wire.specs.Format.{viewBytes}
 use Rattle.wire.specs.Writer.{overwritten}
 use Rattle.wire.proofs.SeamLaws.{byte-seam, number-seam, view-seam, length-viewBytes}
 use Rattle.slots.specs.Changes.{storeView}
 use Rattle.acts.specs.declared.Event.{Event}
 use Rattle.acts.specs.Replies.{left}
-use Rattle.answers.specs.Answers.{eventSize, eventBytes, lengthSize, lengthBytes, narrowed}
+use Rattle.answers.specs.Answers.{eventSize, eventBytes, lengthSize, lengthBytes, sized, narrowed}
 
 -- bytes as long as the buffer leave nothing of it
-pub overwritten-whole : (w b : List ℕ) → length w ≡ length b → overwritten w b ≡ w
+overwritten-whole : (w b : List ℕ) → length w ≡ length b → overwritten w b ≡ w
 overwritten-whole w b e = rw (e, drop-length b) (append-nil w)
 
 -- ---- an event
@@ -66,6 +67,16 @@ gives-refused v new b r x e h = rw e (h, refl)
 pub gives-accepted : (v : Verdict) (new b c : List ℕ) → v ≡ Accepted → c ≡ new → (0 ≡ codeOf v) × (c ≡ left v new b)
 unfolding left
 gives-accepted v new b c e h = rw e (refl, h)
+
+-- ---- a range of another length
+
+pub sized-met : (l : List ℕ) (n : ℕ) (v : Verdict) → length l ≡ n → sized l n v ≡ v
+unfolding sized need
+sized-met l n v e = rw (eq-eqb (length l) n e)
+
+pub sized-unmet : (l : List ℕ) (n : ℕ) (v : Verdict) → (length l ≡ n → ⊥) → sized l n v ≡ Refused RecordsUnsound
+unfolding sized need
+sized-unmet l n v e = rw (ne-eqb (length l) n e)
 
 -- ---- a number in one byte
 

@@ -1,9 +1,14 @@
--- The bytes in which a call gives out an event, and the length of a message; and a number that is taken in one byte.
+-- What the calls of the C interface have in common: the bytes of an event and of a message's length that a call gives out, a range that must have its
+-- length, a number that is taken in one byte.
 use mathlib.Core.Bool.{cond}
 use mathlib.Core.List.{List, _∷_, _++_}
 use Prim.Native.Nat.{ℕ}
-use lib.Dec.{ltb}
+use lib.Dec.{eqb, ltb}
+use lib.ListN.{length}
 use Rattle.numbers.specs.Number.{digits}
+use Rattle.views.specs.declared.refusal.Refusal.the-variants.{RecordsUnsound}
+use Rattle.views.specs.declared.refusal.Verdict.{Verdict}
+use Rattle.views.specs.Refusals.{need}
 use Rattle.wire.specs.Format.{viewBytes}
 use Rattle.acts.specs.declared.Event.{Event}
 
@@ -19,6 +24,10 @@ lengthSize = 4
 
 abbrev pub lengthBytes : ℕ → List ℕ
 lengthBytes n = digits 4 n
+
+-- 4, before anything else, for a range that is not of its length
+unfoldable pub sized : List ℕ → ℕ → Verdict → Verdict
+sized range n v = need (eqb (length range) n) RecordsUnsound v
 
 -- x if it fits into a byte, else another number in its place
 unfoldable pub narrowed : ℕ → ℕ → ℕ

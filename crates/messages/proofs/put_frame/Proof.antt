@@ -23,7 +23,7 @@ same-length : tie.Need-same-length
 same-length c = search needs
 
 returns : tie.Need-returns
-returns c = 
+returns c =
     let start = c .before .before .before .before .before .before .before .before .before .before .before .before .before in
     let a = start .args in
     let z : length (a .f .views .at) ≡ 32 = simp length-map at (start .good .1 .0 .1 .1 .1 .1 .0 .1 .1 .1 .0 .1 .0 .1) in

@@ -1,0 +1,120 @@
+#!/usr/bin/env python3
+"""header_check.py: holds include/dvs.h to the Rattle sources.
+
+It compares every constant, length, place and refusal number of the header, and the name and parameter list of every exported function, with
+crates/*/src. It prints each difference and exits with 1 where there is one."""
+import pathlib
+import re
+import sys
+
+ROOT = pathlib.Path(__file__).resolve().parent.parent
+WIDTHS = {'u8': 'uint8_t', 'u32': 'uint32_t', 'u64': 'uint64_t'}
+faults = []
+
+
+def source(path):
+    return (ROOT / 'crates' / path).read_text()
+
+
+def constants(path):
+    """The numbers that a source names."""
+    return {name: int(value) for name, value in re.findall(r'pub const (\w+): \w+ = (\d+);', source(path))}
+
+
+def found(pattern, text, where):
+    """The first group of the one match of a pattern."""
+    matches = re.findall(pattern, text)
+    if len(matches) != 1:
+        sys.exit('%s: %d matches of %s, where this program looks for one' % (where, len(matches), pattern))
+    return matches[0]
+
+
+def screaming(name):
+    return re.sub(r'(?<=[a-z])(?=[A-Z])', '_', name).upper()
+
+
+def expected_constants():
+    """What the header has to define, by the sources: names to numbers, or to the text of a macro's body."""
+    limits, books, groups = constants('views/src/limits.rt'), constants('books/src/lib.rt'), constants('groups/src/lib.rt')
+    answers, messages, kinds = constants('answers/src/lib.rt'), constants('messages/src/lib.rt'), constants('wire/src/format.rt')
+    wanted = {'DVS_' + name: limits[name] for name in ('MEMBERS', 'VIEWS', 'OPEN', 'OUTGOING', 'WAITING', 'ORDERED', 'LONGEST')}
+    wanted.update(DVS_BOOK_SIZE=books['SIZE'], DVS_EVENT_SIZE=answers['EVENT'], DVS_LENGTH_SIZE=answers['LENGTH'],
+                  DVS_MESSAGE_SIZE=messages['RECORD'], DVS_VIEW_SIZE=groups['VIEW'], DVS_BOOKS_SIZE=groups['BOOKS'])
+    wanted['DVS_LIST_SIZE(views)'] = '(DVS_VIEW_SIZE * (size_t)(views))'
+    wanted['DVS_QUEUES_SIZE(views)'] = '(%du + %du * (size_t)(views))' % (groups['HEAD'], groups['TABLE'])
+    # the places in an event and in a message's record, as the code stores them
+    text = source('answers/src/lib.rt')
+    view = int(found(r'store_view\(out, (\d+), e\.view\)', text, 'answers'))
+    wanted.update(DVS_EVENT_KIND=int(found(r'out\[(\d+)\] = e\.kind;', text, 'answers')),
+                  DVS_EVENT_MEMBER=int(found(r'out\[(\d+)\] = e\.member\.0;', text, 'answers')),
+                  DVS_EVENT_VIEW=view, DVS_EVENT_SET=view + 4,
+                  DVS_EVENT_SENDER=int(found(r'out\[(\d+)\] = e\.sender\.0;', text, 'answers')),
+                  DVS_EVENT_ENTRY=int(found(r'put_number\(out, (\d+), 8, e\.entry\)', text, 'answers')))
+    text = source('messages/src/lib.rt')
+    wanted.update(DVS_MESSAGE_KIND=int(found(r'out\[(\d+)\] = kind;', text, 'messages')),
+                  DVS_MESSAGE_VIEW=int(found(r'put_number\(out, (\d+), 4, view\.0 as u64\)', text, 'messages')),
+                  DVS_MESSAGE_NUMBER=int(found(r'put_number\(out, (\d+), 8, x\)', text, 'messages')),
+                  DVS_MESSAGE_COUNT=int(found(r'put_number\(out, (\d+), 1, n as u64\)', text, 'messages')),
+                  DVS_MESSAGE_VIEWS=int(found(r'store_views\(out, (\d+), list, limits::VIEWS\)', text, 'messages')))
+    wanted.update({'DVS_' + name: kinds[name] for name in ('CLIENT', 'INFO', 'REGISTERED', 'TOLD')})
+    # the steps, by the arms of the dispatcher; the refusals, by their numbers
+    arms = re.findall(r'^\s+(\d+) => .*?(\w+)\((?:list|all),', source('group/src/step.rt'), flags=re.M)
+    wanted.update({'DVS_STEP_' + name.upper(): int(number) for number, name in arms})
+    wanted['DVS_ACCEPTED'] = int(found(r'Verdict::Accepted => (\d+),', source('views/src/refusal.rt'), 'refusals'))
+    refusals = re.findall(r'Refusal::(\w+) => (\d+),', source('views/src/refusal.rt'))
+    wanted.update({'DVS_REFUSED_' + screaming(name): int(number) for name, number in refusals})
+    if len(arms) != 12 or len(refusals) != 43:
+        sys.exit('%d steps and %d refusals in the sources, where this program looks for 12 and 43' % (len(arms), len(refusals)))
+    return wanted
+
+
+def given_constants(text):
+    given = {}
+    for name, body in re.findall(r'^#define (DVS_\w+(?:\(\w+\))?)[ \t]+(\S.*?)[ \t]*$', text, flags=re.M):
+        number = re.fullmatch(r'(\d+)u', body)
+        given[name] = int(number.group(1)) if number else body
+    return given
+
+
+def expected_functions():
+    """The exported functions as C has them: a range is a pointer and its length."""
+    functions = {}
+    for path in sorted((ROOT / 'crates').glob('*/src/**/*.rt')):
+        for name, parameters, result in re.findall(r'pub extern "C" fn (\w+)\(([^)]*)\) -> (\w+)', path.read_text()):
+            listed = []
+            for parameter in filter(None, (p.strip() for p in parameters.split(','))):
+                own, kind = (part.strip() for part in parameter.split(':'))
+                if kind in ('&mut [u8]', '&[u8]'):
+                    listed += ['%suint8_t *%s' % ('' if 'mut' in kind else 'const ', own), 'size_t %s_size' % own]
+                else:
+                    listed.append('%s %s' % (WIDTHS[kind], own))
+            functions[name] = '%s %s(%s)' % (WIDTHS[result], name, ', '.join(listed))
+    return functions
+
+
+def given_functions(text):
+    functions = {}
+    for result, name, parameters in re.findall(r'^(\w+) (\w+)\(([^)]*)\);', text, flags=re.M):
+        functions[name] = '%s %s(%s)' % (result, name, ' '.join(parameters.split()))
+    return functions
+
+
+def compare(sort, wanted, given):
+    for name in sorted(wanted.keys() | given.keys()):
+        if name not in given:
+            faults.append('%s %s is not in the header: the sources have %s' % (sort, name, wanted[name]))
+        elif name not in wanted:
+            faults.append('%s %s of the header is in no source: %s' % (sort, name, given[name]))
+        elif wanted[name] != given[name]:
+            faults.append('%s %s: the header has %s, the sources %s' % (sort, name, given[name], wanted[name]))
+    return len(wanted)
+
+
+text = re.sub(r'/\*.*?\*/', '', (ROOT / 'include' / 'dvs.h').read_text(), flags=re.S)
+numbers = compare('constant', expected_constants(), given_constants(text))
+functions = compare('function', expected_functions(), given_functions(text))
+for fault in faults:
+    print(fault)
+if faults:
+    sys.exit(1)
+print('include/dvs.h agrees with the sources: %d constants, %d functions' % (numbers, functions))
