@@ -55,6 +55,11 @@ reference:
 	python3 tests/wire_vectors.py check
 	python3 tests/bench_stdin.py check
 
+# The header of the C interface against the sources.
+.PHONY: header
+header:
+	python3 tests/header_check.py
+
 # The group and the bench as a plain C++ program, with refusal 4's check in every step and without.
 .PHONY: reference-cpp
 reference-cpp: target/reference target/reference-unchecked

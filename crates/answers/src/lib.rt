@@ -1,7 +1,6 @@
 // What a call of the C interface gives out: its number, the event in lent bytes, the length of a message in lent bytes; and small numbers taken from
 // wider ones.
 ghost use mathlib.Core.Path.{_≡_};
-ghost use Prim.Native.Nat.{_≤_, _<_};
 ghost use lib.ListN.{length};
 ghost use Rattle.views.specs.Refusals.{numberOf, codeOf};
 ghost use Rattle.acts.specs.Replies.{left};

@@ -1,6 +1,6 @@
 -- `answers::measure` meets its contract: a refusal leaves the bytes, an accepted call has the length in them.
 use native.Mathlib.Omega.{arith}
-use mathlib.Core.Path.{sym, _∙_}
+use mathlib.Core.Path.{_∙_}
 use Rattle.answers.proofs.AnswerLaws.{gives-refused, gives-accepted, length-stored}
 use borrow.Author.Needs.{needs}
 use Rattle.answers.proofs.measure.Statement.{statement}

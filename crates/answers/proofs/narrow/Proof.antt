@@ -1,6 +1,6 @@
 -- `answers::narrow` meets its contract.
 use native.Mathlib.Omega.{arith}
-use mathlib.Core.Path.{sym, _∙_}
+use mathlib.Core.Path.{sym}
 use Rattle.answers.proofs.AnswerLaws.{narrowed-large, narrowed-small}
 use borrow.Author.Needs.{needs}
 use Rattle.answers.proofs.narrow.Statement.{statement}
