@@ -23,7 +23,7 @@ pub fn start(book: &mut [u8], members: u32, first_set: u32, own: u32) -> u32
 pub fn join(book: &mut [u8], view: u32, set: u32) -> u32
     ensures { λ r. ⌜ Gives (verdictOf (joinCall (viewOf view set) (now (book .entry)))) (joinBytes (viewOf view set) (now (book .entry))) (now (book .entry)) (now (book .exit)) r ⌝ }
 {
-    let r = member::calls::join(book, view, answers::narrow(set, 0));
+    let r = calls::join(book, view, answers::narrow(set, 0));
     let v = r.verdict;
     answers::code(v)
 }
@@ -32,7 +32,7 @@ pub fn join(book: &mut [u8], view: u32, set: u32) -> u32
 pub fn deliver(book: &mut [u8], bytes: &[u8], sender: u32) -> u32
     ensures { λ r. ⌜ Gives (verdictOf (deliverCall (now (bytes .entry)) sender (now (book .entry)))) (deliverBytes (now (bytes .entry)) sender (now (book .entry))) (now (book .entry)) (now (book .exit)) r ⌝ }
 {
-    let r = member::deliver::deliver(book, bytes, answers::narrow(sender, 255));
+    let r = exchange::deliver::deliver(book, bytes, answers::narrow(sender, 255));
     let v = r.verdict;
     answers::code(v)
 }
@@ -41,7 +41,7 @@ pub fn deliver(book: &mut [u8], bytes: &[u8], sender: u32) -> u32
 pub fn tell(book: &mut [u8]) -> u32
     ensures { λ r. ⌜ Gives (verdictOf (tellCall (now (book .entry)))) (tellBytes (now (book .entry))) (now (book .entry)) (now (book .exit)) r ⌝ }
 {
-    let r = member::calls::tell(book);
+    let r = calls::tell(book);
     let v = r.verdict;
     answers::code(v)
 }
@@ -50,7 +50,7 @@ pub fn tell(book: &mut [u8]) -> u32
 pub fn collect(book: &mut [u8]) -> u32
     ensures { λ r. ⌜ Gives (verdictOf (collectCall (now (book .entry)))) (collectBytes (now (book .entry))) (now (book .entry)) (now (book .exit)) r ⌝ }
 {
-    let r = member::calls::collect(book);
+    let r = calls::collect(book);
     let v = r.verdict;
     answers::code(v)
 }

@@ -11,7 +11,7 @@ pub fn attempt(book: &mut [u8], event: &mut [u8]) -> u32
     if event.len() != answers::EVENT {
         return answers::refused(Refusal::RecordsUnsound);
     }
-    let r = member::calls::attempt(book);
+    let r = calls::attempt(book);
     answers::answer(event, r)
 }
 
@@ -22,7 +22,7 @@ pub fn register(book: &mut [u8], event: &mut [u8]) -> u32
     if event.len() != answers::EVENT {
         return answers::refused(Refusal::RecordsUnsound);
     }
-    let r = member::calls::register(book);
+    let r = calls::register(book);
     answers::answer(event, r)
 }
 
@@ -33,7 +33,7 @@ pub fn send(book: &mut [u8], entry: u64, event: &mut [u8]) -> u32
     if event.len() != answers::EVENT {
         return answers::refused(Refusal::RecordsUnsound);
     }
-    let r = member::calls::send(book, entry);
+    let r = calls::send(book, entry);
     answers::answer(event, r)
 }
 
@@ -44,7 +44,7 @@ pub fn hand(book: &mut [u8], event: &mut [u8]) -> u32
     if event.len() != answers::EVENT {
         return answers::refused(Refusal::RecordsUnsound);
     }
-    let r = member::calls::hand(book);
+    let r = calls::hand(book);
     answers::answer(event, r)
 }
 
@@ -55,6 +55,6 @@ pub fn safe(book: &mut [u8], event: &mut [u8]) -> u32
     if event.len() != answers::EVENT {
         return answers::refused(Refusal::RecordsUnsound);
     }
-    let r = member::calls::safe(book);
+    let r = calls::safe(book);
     answers::answer(event, r)
 }

@@ -11,7 +11,7 @@ pub fn pass(book: &mut [u8], buffer: &mut [u8], length: &mut [u8]) -> u32
     if length.len() != answers::LENGTH {
         return answers::refused(Refusal::RecordsUnsound);
     }
-    let r = member::pass::pass(book, buffer);
+    let r = exchange::pass::pass(book, buffer);
     let v = r.verdict;
     answers::measure(length, v, r.length)
 }
