@@ -1,8 +1,12 @@
 # Thin names for the commands that matter.
-.PHONY: test run clean
+.PHONY: test gate run clean
 
-# The gate: layout, proofs, must-fail edits, programs.
-test:
+# The gate, then the library from outside: everything that has to hold.
+test: gate
+	$(MAKE) headers outside offices
+
+# Layout, the header's numbers, proofs, must-fail edits, programs.
+gate:
 	.ci/run
 
 # The bench, on document 01's whole case.
@@ -13,11 +17,14 @@ run:
 clean:
 	rm -rf target
 
-# The library for programs in C and C++, proved before it is written. Its headers are include/dvs.h and include/dvs.hpp.
+# ---- the library
+
+# For programs in C and C++, proved before it is written. Its headers are include/dvs.h and include/dvs.hpp.
 .PHONY: lib
+SOURCES := crates.txt $(shell find crates -name '*.rt' -o -name '*.antt')
 LIBRARY := target/staticlib/libdvs.a
 lib: $(LIBRARY)
-$(LIBRARY): crates.txt $(shell find crates -name '*.rt' -o -name '*.antt')
+$(LIBRARY): $(SOURCES)
 	rt staticlib dvs
 	touch $@
 
@@ -41,10 +48,59 @@ offices: target/offices
 	target/offices > target/offices.txt; status=$$?; cat target/offices.txt; exit $$status
 	diff examples/offices/expected.txt target/offices.txt
 
+# ---- tests from outside
+
+CXXFLAGS := -std=c++17 -O2 -Wall -Wextra -Werror
+
+# The headers: their numbers beside the sources', and each by itself, in each version of C and C++ and with each compiler that is here.
+.PHONY: headers
+headers:
+	python3 tests/header_check.py
+	tests/outside/headers.sh
+
+# The library beside a plain implementation in C++: every length, limit and refusal, and random cases. Once with the host's code sanitized.
+.PHONY: outside
+OUTSIDE := $(wildcard tests/outside/*.hpp tests/outside/*.cpp tests/outside/*.inc) tests/reference_group.hpp include/dvs.h
+OUTSIDE_FLAGS := $(CXXFLAGS) -Wpedantic
+outside: target/outside_test target/outside_test_sanitized
+	target/outside_test_sanitized short 1 > target/outside_sanitized.log || { cat target/outside_sanitized.log; false; }
+	target/outside_test short 2
+target/outside_test: $(OUTSIDE) $(LIBRARY)
+	$(CXX) $(OUTSIDE_FLAGS) -o $@ tests/outside/outside_test.cpp $(LIBRARY)
+target/outside_test_sanitized: $(OUTSIDE) $(LIBRARY)
+	$(CXX) $(OUTSIDE_FLAGS) -O1 -g -fsanitize=address,undefined -fno-sanitize-recover=all -o $@ tests/outside/outside_test.cpp $(LIBRARY)
+
+# The same for as long as one likes: make fuzz SECONDS=60 SEED=1.
+.PHONY: fuzz
+SECONDS := 60
+SEED := 1
+fuzz: target/outside_test
+	target/outside_test fuzz $(SECONDS) $(SEED)
+
+# One fault after another put into the library's calls: the test from outside must report each.
+.PHONY: outside-selftest
+WRAPPED := start join pass deliver attempt register send hand tell safe collect read write group_start group_step
+outside-selftest: target/outside_wrong
+	tests/damaged-guard/run.sh target/outside_wrong
+target/outside_wrong: $(OUTSIDE) tests/damaged-guard/wrong.cpp $(LIBRARY)
+	$(CXX) $(OUTSIDE_FLAGS) $(WRAPPED:%=-Wl,--wrap=dvs_%) -o $@ tests/outside/outside_test.cpp tests/damaged-guard/wrong.cpp $(LIBRARY)
+
+# One rule after another of the plain implementation changed: the test must find a difference each time. Some ten minutes.
+.PHONY: outside-strength
+outside-strength: $(LIBRARY)
+	python3 tests/damaged-guard/changed_rules.py $(LIBRARY)
+
 # The C++ wrapper and both examples, installed and linked by pkg-config, with every compiler here, in C++17 and C++20 and with sanitizers.
 .PHONY: wrapper
 wrapper: $(LIBRARY)
 	tests/wrapper.sh
+
+# The wrong answers that the gate leaves out for time.
+.PHONY: edits
+edits:
+	tests/edits.sh
+
+# ---- plain implementations beside the bench
 
 # The plain references of the group and of the member by itself and the message vectors' answers, each against its own cases.
 .PHONY: reference
@@ -55,15 +111,9 @@ reference:
 	python3 tests/wire_vectors.py check
 	python3 tests/bench_stdin.py check
 
-# The header of the C interface against the sources.
-.PHONY: header
-header:
-	python3 tests/header_check.py
-
 # The group and the bench as a plain C++ program, with refusal 4's check in every step and without.
 .PHONY: reference-cpp
 reference-cpp: target/reference target/reference-unchecked
-CXXFLAGS := -std=c++17 -O2 -Wall -Wextra -Werror
 target/reference: tests/reference.cpp tests/reference_group.hpp
 	mkdir -p target
 	$(CXX) $(CXXFLAGS) -o $@ $<
@@ -73,20 +123,28 @@ target/reference-unchecked: tests/reference.cpp tests/reference_group.hpp
 
 # The benches beside each other: every script with its answers, a random script, and one sent line by line.
 .PHONY: compare
-compare: reference-cpp
-	rt check bench
+compare: target/bin/bench reference-cpp
 	python3 tests/compare.py corpus tests/scripts target/bin/bench target/reference target/reference-unchecked
 	python3 tests/compare.py random 1 20000 target/bin/bench target/reference target/reference-unchecked
 	python3 tests/compare.py live 2 2000 target/bin/bench
+target/bin/bench: $(SOURCES)
+	rt check bench
+	touch $@
 
-# What direct calls cost: of the member by itself, on a small book, 20,000 rounds of 321 calls; of a group of five, 500 rounds of 1,161.
-.PHONY: pace
-pace:
-	rt check pace stride
-	echo 20000 | bash -c 'time target/bin/pace'
-	echo 500 | bash -c 'time target/bin/stride'
-
-# The wrong answers that the gate leaves out for time.
-.PHONY: edits
-edits:
-	tests/edits.sh
+# What the library costs beside independent implementations in C++: messages, calls of the member and of the group, lines of the bench, and how a step's
+# cost grows with what the records hold. The others are compiled by LLVM too, where it is here, and for speed: make benchmark BENCHMARK_CXX=g++ for another.
+.PHONY: benchmark
+BENCHMARK_CXX := $(or $(shell command -v clang++),$(CXX))
+BENCHMARK_DIR := target/benchmark/$(notdir $(BENCHMARK_CXX))
+BENCHMARK_OBJECTS := $(patsubst tests/benchmark/%.cpp,$(BENCHMARK_DIR)/%.o,$(wildcard tests/benchmark/*.cpp))
+STEADY := target/benchmark/steady.txt
+benchmark: $(BENCHMARK_DIR)/benchmark target/bin/bench reference-cpp $(STEADY)
+	$(BENCHMARK_DIR)/benchmark $(STEADY) target/bin/bench target/reference target/reference-unchecked
+$(BENCHMARK_DIR)/benchmark: $(BENCHMARK_OBJECTS) $(LIBRARY)
+	$(BENCHMARK_CXX) -o $@ $^
+$(BENCHMARK_DIR)/%.o: tests/benchmark/%.cpp $(wildcard tests/benchmark/*.hpp tests/benchmark/*.inc) $(OUTSIDE)
+	mkdir -p $(BENCHMARK_DIR)
+	$(BENCHMARK_CXX) $(OUTSIDE_FLAGS) -O3 -c -o $@ $<
+$(STEADY): tests/steady_script.py
+	mkdir -p target/benchmark
+	python3 tests/steady_script.py 60000 > $@

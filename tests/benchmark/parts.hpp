@@ -1,0 +1,14 @@
+// The parts of the benchmark. Each compares the sides' answers once, then times them and prints its table.
+#pragma once
+
+#include "timing.hpp"
+
+namespace benchmark {
+
+void messages();
+void members();
+void groups(const std::string& script);
+void lines(const std::string& script, const std::vector<std::string>& programs);
+void growth();
+
+}  // namespace benchmark

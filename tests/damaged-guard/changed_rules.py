@@ -1,0 +1,194 @@
+#!/usr/bin/env python3
+"""How much the test from outside sees: one rule after another of the plain implementation is changed, and the test must
+find a difference with the library each time. Some ten minutes: each change is a compilation.
+
+    python3 tests/damaged-guard/changed_rules.py LIBRARY [NUMBER ..]
+"""
+import pathlib
+import re
+import shutil
+import subprocess
+import sys
+
+ROOT = pathlib.Path(__file__).resolve().parents[2]
+WORK = ROOT / "target" / "changed-rules"
+
+
+def gone(text):
+    return text, ""
+
+
+def exchanged(first, second):
+    """Two conditions in a row, asked in the other order."""
+    return first + "\n" + second, second + "\n" + first
+
+
+IN_STEP = "return has_carrier && has_client && carrier.id == client.id;"
+POSITIONS = "handed > limit || told > limit || reported > limit"
+COMING = "if (has_carrier && coming().count > taken) return false;"
+RISING = "(i > 0 && e.view(i).id <= e.view(i - 1).id)"
+OPEN_RISING = "open[i].id <= (i ? open[i - 1] : settled).id"
+FULL = "if (in_step() && outgoings == kOutgoing) return kOutgoingFull;"
+MOVED_UP = "for (unsigned i = 0; i < outgoings; ++i) outgoing[i] = outgoing[i + 1];"
+
+# For each file what stands there, and what is put in its place: at its first occurrence.
+CHANGES = {
+    "wire.hpp": [
+        ("count >= 1 && count <= kViews", "count <= kViews"),
+        ("count <= kViews : count == 0", "count < kViews : count == 0"),
+        ("m.views[i].set == 0", "i > 0 && m.views[i].set == 0"),
+        ("m.views[i].id <= m.views[i - 1].id", "m.views[i].id < m.views[i - 1].id"),
+        gone("m.number < 1 || "),
+        ("m.number > kOrdered)", "m.number > kOrdered + 1)"),
+        ("  if (Refusal r = content(m)) return r;\n  return at == size ? kAccepted : kLeftOver;",
+         "  if (at != size) return kLeftOver;\n  return content(m);"),
+        exchanged("  if (Refusal r = content(m)) return r;", "  if (size < length(m)) return kTooShort;"),
+        ("size < length(m)", "size <= length(m)"),
+    ],
+    "member.hpp": [
+        gone("if (e.sender() >= members) return false;"),
+        ("e.sender() >= members", "e.sender() > members"),
+        gone("e.number() >= 1 && "),
+        ("e.number() <= kOrdered", "e.number() <= 255"),
+        gone("e.count() < 1 || "),
+        ("e.count() > kViews", "e.count() >= kViews"),
+        (RISING, "(i > 1 && e.view(i).id <= e.view(i - 1).id)"),
+        (RISING, "(i > 0 && e.view(i).id < e.view(i - 1).id)"),
+        gone("!known(e.view(i)) || "),
+        (IN_STEP, "return has_client && carrier.id == client.id;"),
+        (IN_STEP, "return has_carrier && carrier.id == client.id;"),
+        (IN_STEP, "return has_carrier && has_client && carrier == client;"),
+        gone("if (!in.known(settled)) return false;"),
+        (OPEN_RISING, "open[i].id < (i ? open[i - 1] : settled).id"),
+        (OPEN_RISING, "i && open[i].id <= open[i - 1].id"),
+        gone("(has_carrier && !in.known(carrier)) || "),
+        gone(" || (has_client && !in.known(client))"),
+        (POSITIONS, "handed > limit || told > limit"),
+        (POSITIONS, "handed > limit || reported > limit"),
+        (POSITIONS, "told > limit || reported > limit"),
+        ("has_client ? mine().count : 0", "mine().count"),
+        ("taken > (has_carrier ? most : 0)", "taken > most"),
+        gone(COMING),
+        (COMING, "if (coming().count > taken) return false;"),
+        (COMING, "if (has_carrier && coming().count > taken + 1) return false;"),
+        ("q < members; ++q)\n      if (tolds[q] > kOrdered)", "q < 8; ++q)\n      if (tolds[q] > kOrdered)"),
+        ("tolds[q] > kOrdered", "tolds[q] > kOrdered + 1"),
+        ("list.items[i].sender >= members", "list.items[i].sender > members"),
+        ("for (const Inward& list : inward)\n", "for (const Inward& list : {mine()})\n"),
+        gone("if (v.id <= settled.id) return;"),
+        ("open[at].id == v.id) return;", "open[at].id == v.id) { open[at] = v; return; }"),
+        ("v.id <= carrier.id", "v.id < carrier.id"),
+        ("if (has_carrier && v.id <= carrier.id)", "if (v.id <= carrier.id)"),
+        gone("inward[1 - side].count = 0;"),
+        ("taken = infos = registrations = 0;", "taken = infos = 0;"),
+        ("memset(tolds, 0, sizeof tolds);", "memset(tolds, 0, members);"),
+        (MOVED_UP, MOVED_UP + " memset(&outgoing[outgoings], 0, kSlotSize);"),
+        ("if (open[i].id == now.id) now = open[i];", ";"),
+        gone("prune(views, count, now);"),
+        ("if (count > kOpen) return kTooManyOpen;\n      settled", "if (count > kOpen + 1) return kTooManyOpen;\n      settled"),
+        ("m.views[0].id > settled.id", "m.views[0].id >= settled.id"),
+        ("carrier.id <= client.id", "carrier.id < client.id"),
+        ("if (has_client && carrier.id <= client.id)", "if (carrier.id <= client.id)"),
+        gone("if (carrier.set & ~infos) return kInfoMissing;"),
+        ("bool passes = majority(carrier.set, settled.set);", "bool passes = true;"),
+        ("passes = passes && majority", "passes = passes || majority"),
+        ("for (unsigned i = 0; i < opens; ++i) passes", "for (unsigned i = 0; i + 1 < opens; ++i) passes"),
+        gone(", registered = false"),
+        ("handed = told = reported = 0;", "handed = reported = 0;"),
+        gone("inward[side].count = 0;\n"),
+        exchanged("    if (registered) return kRegisteredAlready;", "    " + FULL),
+        (FULL, "if (outgoings == kOutgoing) return kOutgoingFull;"),
+        ("handed == 0 || handed == told", "handed == 0 || handed <= told"),
+        ("handed == 0 || handed == told", "handed == told"),
+        exchanged("    if (handed == 0 || handed == told) return kToldAlready;",
+                  "    if (outgoings == kOutgoing) return kOutgoingFull;"),
+        ("tolds[q] < reported + 1", "tolds[q] < reported"),
+        ("if ((client.set >> q & 1) && tolds", "if ((client.set >> q & 1) && q != own && tolds"),
+        ("if ((client.set >> q & 1) && tolds", "if ((carrier.set >> q & 1) && tolds"),
+        ("reported >= handed", "reported == handed"),
+        ("carrier.id <= settled.id", "carrier.id < settled.id"),
+        ("carrier.set & ~registrations", "(carrier.set & ~registrations) & ~(1u << own)"),
+        gone("prune(open, opens, settled);"),
+        exchanged("    if (carrier.id <= settled.id) return kNotAboveSettled;",
+                  "    if (carrier.set & ~registrations) return kRegistrationMissing;"),
+    ],
+    "book.hpp": [
+        gone("b[kAtRegistered] > 1 || "),
+        gone(" || b[kAtSide] > 1"),
+        ("b[kAtOpen] > kOpen ||", "b[kAtOpen] > kOpen + 1 ||"),
+        gone("b[kAtInward0] > kOrdered || "),
+    ],
+    "alone.hpp": [
+        ("m_.own < m_.members", "m_.own <= m_.members"),
+        exchanged("      if (message.view != m_.carrier.id) return kAnotherView;",
+                  "      if (sender >= kMembers || !(m_.carrier.set >> sender & 1)) return kSenderNotInView;"),
+        exchanged("      if (sender >= kMembers || !(m_.carrier.set >> sender & 1)) return kSenderNotInView;",
+                  "      if (m_.taken >= kOrdered) return kOrderFull;"),
+        ("sender >= kMembers || !(m_.carrier.set >> sender & 1)", "!(m_.carrier.set >> (sender & 31) & 1)"),
+        ("if (!set_fits(message.views[i].set, m_.members)) return kBadSet;", ";"),
+        exchanged("      if (!set_fits(set, m_.members)) return kBadSet;", "      if (!(set >> m_.own & 1)) return kNotInView;"),
+        ("put(len.at, 4, length(message));", "put(len.at, 4, length(message) << 24);"),
+    ],
+    "group.hpp": [
+        ("at[0] * kSlotSize); }", "kWaiting * kSlotSize - kSlotSize); }"),
+        ("(room() < 1 || room() > kViews || queues_.size == queues_size(room()))", "queues_.size == queues_size(room())"),
+        ("made() > room()", "made() > kViews"),
+        ("(i > 0 && view(i).id <= view(i - 1).id)", "(i > 0 && view(i).id < view(i - 1).id)"),
+        gone("!set_fits(view(i).set, members()) || "),
+        gone("if (!order(i).sound(kOrdered, in)) return false;"),
+        ("p < members(); ++p)\n        if (!waiting", "p < kMembers; ++p)\n        if (!waiting"),
+        gone(" || m_.own != p"),
+        ("at < made() ? order(at).count() : 0", "128"),
+        ("id <= view(made() - 1).id", "id < view(made() - 1).id"),
+        ("p < kMembers; ++p) waiting(made(), p)", "p < members(); ++p) waiting(made(), p)"),
+        exchanged("    if (from.count() == 0) return kNoneWaiting;", "    if (to.count() == kOrdered) return kOrderFull;"),
+        exchanged("    if (m_.outgoings == 0) return kNoneOutgoing;", "    Queue to = waiting(find(m_.carrier.id), p);\n"
+                  "    if (to.count() == kWaiting) return kWaitingFull;"),
+        exchanged("    if (!set_fits(set, members())) return kBadSet;",
+                  "    if (id <= view(made() - 1).id) return kIdentifierNotAbove;"),
+        exchanged("    if (id <= view(made() - 1).id) return kIdentifierNotAbove;",
+                  "    if (made() == room()) return kListFull;"),
+        exchanged("    if (!set_fits(first_set, members)) return kBadFirstSet;",
+                  "    if (room() < 1 || room() > kViews) return kBadListLength;"),
+        ("view(i).id != id", "view(i).id != static_cast<uint32_t>(id)"),
+        ("to.push(m_.outgoing[0]);", "m_.outgoing[0].bytes[170] = 0, to.push(m_.outgoing[0]);"),
+        ("event.size != kEventSize || !sound()", "event.size != kEventSize"),
+    ],
+}
+
+
+def difference(library, name, old, new):
+    """What the test says of the change, or None if it finds nothing."""
+    shutil.rmtree(WORK, ignore_errors=True)
+    for part in ("tests/outside", "include"):
+        shutil.copytree(ROOT / part, WORK / part)
+    shutil.copy(ROOT / "tests/reference_group.hpp", WORK / "tests")
+    path = WORK / "tests/outside" / name
+    text = path.read_text()
+    if old not in text:
+        sys.exit(f"not in {name}: {old}")
+    path.write_text(text.replace(old, new, 1))
+    program = WORK / "outside_test"
+    source = WORK / "tests/outside/outside_test.cpp"
+    subprocess.run(["c++", "-std=c++17", "-O1", "-w", "-o", program, source, library], check=True)
+    run = subprocess.run([program, "short", "1"], capture_output=True, text=True, timeout=300)
+    if run.returncode == 0:
+        return None
+    found = re.search(r"DIFFERENCE.*", run.stdout)
+    return found.group(0)[:100] if found else f"status {run.returncode}"
+
+
+def main(library, *numbers):
+    changes = [(name, old, new) for name, pairs in CHANGES.items() for old, new in pairs]
+    missed = 0
+    for number in map(int, numbers) if numbers else range(len(changes)):
+        name, old, new = changes[number]
+        found = difference(library, name, old, new)
+        missed += found is None
+        print(f"{number} {name}: {found or 'NOT FOUND: ' + repr(old) + ' -> ' + repr(new)}", flush=True)
+    print(f"{len(changes)} changes, {missed} not found")
+    return 1 if missed else 0
+
+
+if __name__ == "__main__":
+    sys.exit(main(*sys.argv[1:]))

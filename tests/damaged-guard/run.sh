@@ -1,0 +1,46 @@
+#!/usr/bin/env bash
+# Puts one fault after another into the library's calls and asks the test from outside to report each.
+# Its argument is the test linked with wrong.cpp. Without a fault that program must find nothing.
+set -uo pipefail
+ulimit -c 0
+program=$1
+failed=0 reported=0
+"$program" fuzz 1 1 > /dev/null || { echo "a difference without a fault"; exit 1; }
+
+try() { # function fault range
+  # The braces keep the shell's own word about a signal away.
+  { WRONG_FUNCTION=$1 WRONG_FAULT=$2 WRONG_RANGE=$3 "$program" short 1 > "$program.log" 2>&1; } 2> /dev/null
+  local status=$?
+  # A write outside is stopped by a signal; any other fault is printed, of the function that has it.
+  if [ "$2" = outside ] && [ $status -gt 128 ] || grep -q "^DIFFERENCE in $1" "$program.log"; then
+    reported=$((reported + 1))
+  else
+    echo "NOT REPORTED: $1 $2 in range $3 (status $status)"
+    failed=1
+  fi
+}
+
+while read -r function ranges; do
+  try "$function" answer 0
+  for range in $(seq 0 $((ranges - 1))); do
+    for fault in accepted refused outside; do try "$function" $fault "$range"; done
+  done
+done <<END
+dvs_start 1
+dvs_join 1
+dvs_pass 3
+dvs_deliver 1
+dvs_attempt 2
+dvs_register 2
+dvs_send 2
+dvs_hand 2
+dvs_tell 1
+dvs_safe 2
+dvs_collect 1
+dvs_read 1
+dvs_write 2
+dvs_group_start 3
+dvs_group_step 4
+END
+echo "$reported faults reported"
+exit $failed

@@ -1,0 +1,164 @@
+// Every exported function, called with the plain implementation beside it: the same number must come out, and every byte
+// of every lent range must be the same afterwards.
+#pragma once
+
+#include <initializer_list>
+
+#include "../../include/dvs.h"
+#include "group.hpp"
+#include "tally.hpp"
+
+namespace outside {
+
+class Calls {
+  using Numbers = std::initializer_list<uint64_t>;
+  using Ranges = std::initializer_list<Lent*>;
+
+  static void print_call(Function f, Ranges ranges, Numbers numbers) {
+    printf("%s", kPromises[f].name);
+    for (uint64_t n : numbers) printf(" %" PRIu64, n);
+    for (Lent* lent : ranges) printf(" %s[%zu]", lent->name(), lent->size());
+    printf("\n");
+  }
+
+  [[noreturn]] void report(Function f, Ranges ranges, Numbers numbers, uint32_t theirs, uint32_t mine) {
+    printf("\nDIFFERENCE in ");
+    print_call(f, ranges, numbers);
+    printf("  the library answers %" PRIu32 ", expected %" PRIu32 "\n", theirs, mine);
+    for (Lent* lent : ranges)
+      if (!lent->same() || lent->before()) print_difference(*lent);
+    tally.say_again();
+  }
+
+  template <class Theirs, class Mine>
+  uint32_t both(Function f, Ranges ranges, Numbers numbers, Theirs theirs, Mine mine) {
+    for (Lent* lent : ranges) lent->remember();
+    if (tally.verbose) print_call(f, ranges, numbers);
+    uint32_t answer = theirs(), expected = mine();
+    if (tally.verbose) printf("  %" PRIu32 "\n", answer);
+    bool same = answer == expected;
+    uint64_t bytes = 0;
+    for (Lent* lent : ranges) same = same && lent->same(), bytes += lent->size();
+    if (!same) report(f, ranges, numbers, answer, expected);
+    tally.count(f, expected, bytes);
+    return expected;
+  }
+
+ public:
+  Tally& tally;
+  // What calls are lent besides books and a group's ranges. Their contents are whatever the last call left.
+  Lent event{"event", 64}, buffer{"buffer", 512}, length{"length", 16}, bytes{"bytes", 1024}, record{"message", 256};
+
+  explicit Calls(Tally& t) : tally(t) { usual(); }
+
+  // The lengths that are right, with the contents there are.
+  void usual() {
+    event.resize(DVS_EVENT_SIZE, kBack), length.resize(DVS_LENGTH_SIZE, kBack), bytes.resize(0, kBack);
+    buffer.resize(DVS_LONGEST, kBack), record.resize(DVS_MESSAGE_SIZE, kBack);
+    for (Lent* lent : {&event, &length, &buffer, &record}) lent->copy_to_theirs();
+  }
+
+  uint32_t start(Lent& book, uint32_t members, uint32_t first_set, uint32_t own) {
+    return both(kFnStart, {&book}, {members, first_set, own},
+                [&] { return dvs_start(book.theirs(), book.size(), members, first_set, own); },
+                [&] { return plain::Alone(book.range()).start(members, first_set, own); });
+  }
+  uint32_t join(Lent& book, uint32_t view, uint32_t set) {
+    return both(kFnJoin, {&book}, {view, set}, [&] { return dvs_join(book.theirs(), book.size(), view, set); },
+                [&] { return plain::Alone(book.range()).join(view, set); });
+  }
+  uint32_t pass(Lent& book) {
+    return both(kFnPass, {&book, &buffer, &length}, {},
+                [&] {
+                  return dvs_pass(book.theirs(), book.size(), buffer.theirs(), buffer.size(), length.theirs(),
+                                  length.size());
+                },
+                [&] { return plain::Alone(book.range()).pass(buffer.range(), length.range()); });
+  }
+  uint32_t deliver(Lent& book, uint32_t sender) {
+    return both(kFnDeliver, {&book, &bytes}, {sender},
+                [&] { return dvs_deliver(book.theirs(), book.size(), bytes.theirs(), bytes.size(), sender); },
+                [&] { return plain::Alone(book.range()).deliver(bytes.mine(), bytes.size(), sender); });
+  }
+  uint32_t attempt(Lent& book) {
+    return both(kFnAttempt, {&book, &event}, {},
+                [&] { return dvs_attempt(book.theirs(), book.size(), event.theirs(), event.size()); },
+                [&] { return plain::Alone(book.range()).attempt(event.range()); });
+  }
+  uint32_t enroll(Lent& book) {
+    return both(kFnRegister, {&book, &event}, {},
+                [&] { return dvs_register(book.theirs(), book.size(), event.theirs(), event.size()); },
+                [&] { return plain::Alone(book.range()).enroll(event.range()); });
+  }
+  uint32_t send(Lent& book, uint64_t entry) {
+    return both(kFnSend, {&book, &event}, {entry},
+                [&] { return dvs_send(book.theirs(), book.size(), entry, event.theirs(), event.size()); },
+                [&] { return plain::Alone(book.range()).send(entry, event.range()); });
+  }
+  uint32_t hand(Lent& book) {
+    return both(kFnHand, {&book, &event}, {},
+                [&] { return dvs_hand(book.theirs(), book.size(), event.theirs(), event.size()); },
+                [&] { return plain::Alone(book.range()).hand(event.range()); });
+  }
+  uint32_t tell(Lent& book) {
+    return both(kFnTell, {&book}, {}, [&] { return dvs_tell(book.theirs(), book.size()); },
+                [&] { return plain::Alone(book.range()).tell(); });
+  }
+  uint32_t safe(Lent& book) {
+    return both(kFnSafe, {&book, &event}, {},
+                [&] { return dvs_safe(book.theirs(), book.size(), event.theirs(), event.size()); },
+                [&] { return plain::Alone(book.range()).safe(event.range()); });
+  }
+  uint32_t collect(Lent& book) {
+    return both(kFnCollect, {&book}, {}, [&] { return dvs_collect(book.theirs(), book.size()); },
+                [&] { return plain::Alone(book.range()).collect(); });
+  }
+
+  uint32_t read() {
+    return both(kFnRead, {&bytes, &record}, {},
+                [&] { return dvs_read(bytes.theirs(), bytes.size(), record.theirs(), record.size()); },
+                [&]() -> uint32_t {
+                  plain::Message m;
+                  if (record.size() != plain::kRecordSize) return plain::kUnsound;
+                  if (plain::Refusal r = plain::read(bytes.mine(), bytes.size(), m)) return r;
+                  plain::store_record(m, record.mine());
+                  return plain::kAccepted;
+                });
+  }
+  uint32_t write() {
+    return both(kFnWrite, {&record, &buffer, &length}, {},
+                [&] {
+                  return dvs_write(record.theirs(), record.size(), buffer.theirs(), buffer.size(), length.theirs(),
+                                   length.size());
+                },
+                [&]() -> uint32_t {
+                  if (record.size() != plain::kRecordSize || length.size() != plain::kLengthSize) return plain::kUnsound;
+                  plain::Message m = plain::load_record(record.mine());
+                  if (plain::Refusal r = plain::write(m, buffer.mine(), buffer.size())) return r;
+                  plain::put(length.mine(), 4, plain::length(m));
+                  return plain::kAccepted;
+                });
+  }
+
+  uint32_t group_start(Lent& list, Lent& books, Lent& queues, uint32_t members, uint32_t first_set) {
+    return both(kFnGroupStart, {&list, &books, &queues}, {members, first_set},
+                [&] {
+                  return dvs_group_start(list.theirs(), list.size(), books.theirs(), books.size(), queues.theirs(),
+                                         queues.size(), members, first_set);
+                },
+                [&] { return plain::Group(list.range(), books.range(), queues.range()).start(members, first_set); });
+  }
+  uint32_t group_step(Lent& list, Lent& books, Lent& queues, uint32_t kind, uint32_t first, uint64_t second) {
+    auto f = static_cast<Function>(kFnStepOther + (kind >= 1 && kind <= 12 ? kind : 0));
+    return both(f, {&list, &books, &queues, &event}, {kind, first, second},
+                [&] {
+                  return dvs_group_step(list.theirs(), list.size(), books.theirs(), books.size(), queues.theirs(),
+                                        queues.size(), kind, first, second, event.theirs(), event.size());
+                },
+                [&] {
+                  return plain::Group(list.range(), books.range(), queues.range()).step(kind, first, second, event.range());
+                });
+  }
+};
+
+}  // namespace outside

@@ -1,0 +1,155 @@
+// Every length of every lent range from 0 to more than the right one, null for those of length 0, and numbers at and
+// beyond every limit. The same each time.
+#pragma once
+
+#include "calls.hpp"
+#include "damage.hpp"
+#include "generate.hpp"
+
+namespace outside {
+
+constexpr uint32_t kWords[] = {0, 1, 2, 3, 7, 8, 9, 15, 16, 31, 32, 127, 128, 254, 255, 256, 257, 511, 65535, 65536,
+                               0x7fffffff, 0x80000000, 0xfffffffe, 0xffffffff};
+constexpr uint64_t kLongs[] = {0, 1, 3, 7, 8, 255, 256, 257, 0xffffffff, 0x100000000, 0x100000001, 0x100000003,
+                               0x7fffffffffffffff, 0x8000000000000000, 0xffffffffffffffff};
+
+class Edges {
+  Calls& c_;
+  Random r_{1};
+  Lent book_{"book", plain::kBookSize + 64};
+  Lent list_{"list", 5 * 40}, books_{"books", plain::kBooksSize + 64, false};
+  Lent queues_{"queues", plain::queues_size(plain::kViews + 2) + 64, false};
+
+  // A range of another length with the contents it had; the rest is noise.
+  void cut(Lent& lent, size_t size, bool null) {
+    lent.resize(size, null && size == 0 ? kNull : size % 2 ? kFront : kBack);
+    lent.copy_to_theirs();
+  }
+
+  void all_calls() {
+    c_.join(book_, 1, 3), c_.pass(book_), c_.deliver(book_, 0), c_.attempt(book_), c_.enroll(book_), c_.send(book_, 5);
+    c_.hand(book_), c_.tell(book_), c_.safe(book_), c_.collect(book_);
+  }
+
+  void book_lengths() {
+    for (size_t size = 0; size <= plain::kBookSize + 20; ++size) {
+      cut(book_, plain::kBookSize, false);
+      c_.start(book_, 2, 3, 0);
+      for (unsigned null = 0; null < (size == 0 ? 2 : 1); ++null) {
+        cut(book_, size, null == 1);
+        all_calls(), c_.start(book_, 2, 3, 0);
+      }
+    }
+  }
+
+  void other_lengths() {
+    for (size_t size = 0; size <= 64; ++size) {
+      for (unsigned null = 0; null < (size == 0 ? 2 : 1); ++null) {
+        for (bool sound : {true, false}) {
+          c_.usual(), cut(book_, plain::kBookSize, false), c_.start(book_, 2, 3, 0);
+          if (!sound) book_.poke(0, 0);
+          cut(c_.event, size, null == 1), cut(c_.length, size <= 16 ? size : 4, null == 1);
+          cut(c_.bytes, size, null == 1), cut(c_.buffer, size, null == 1);
+          all_calls();
+          cut(c_.length, 4, false);
+          c_.join(book_, 2, 3), c_.pass(book_), c_.pass(book_);
+        }
+      }
+    }
+    c_.usual();
+    for (size_t size = 0; size <= plain::kRecordSize + 20; ++size)
+      for (unsigned null = 0; null < 2; ++null) cut(c_.record, size, null == 1), c_.read(), c_.write();
+    c_.usual();
+    for (size_t size = 0; size <= 16; ++size) {
+      plain::Message registered;
+      registered.kind = plain::kRegistered;
+      plain::store_record(registered, c_.record.mine()), c_.record.copy_to_theirs();
+      cut(c_.length, size, true), c_.write();
+      cut(c_.length, 4, true), cut(c_.buffer, size, true), c_.write();
+    }
+    c_.usual();
+  }
+
+  void numbers() {
+    cut(book_, plain::kBookSize, false);
+    for (uint32_t members = 0; members <= 9; ++members)
+      for (uint32_t set = 0; set <= 257; ++set)
+        for (uint32_t own = 0; own <= 9; ++own) c_.start(book_, members, set, own);
+    for (uint32_t a : kWords)
+      for (uint32_t b : kWords)
+        for (uint32_t c : kWords) c_.start(book_, a, b, c);
+    for (uint32_t id : kWords)
+      for (uint32_t set : kWords)
+        for (uint32_t own : {0u, 7u}) c_.start(book_, 8, 0x81, own), c_.join(book_, id, set), c_.join(book_, id, set);
+    for (uint32_t sender : kWords) {
+      c_.start(book_, 8, 0x83, 7), c_.join(book_, 1, 0x83), c_.pass(book_);
+      c_.bytes.set(c_.buffer.mine(), plain::get(c_.length.mine(), 4), kBack);
+      c_.deliver(book_, sender);
+    }
+    for (uint64_t entry : kLongs) {
+      c_.start(book_, 1, 1, 0), c_.send(book_, entry), c_.pass(book_);
+      c_.bytes.set(c_.buffer.mine(), plain::get(c_.length.mine(), 4), kBack);
+      c_.deliver(book_, 0), c_.hand(book_);
+    }
+  }
+
+  void group_lengths() {
+    auto lend = [&](size_t list, size_t books, size_t queues) {
+      cut(list_, list, true), cut(books_, books, true), cut(queues_, queues, true);
+    };
+    auto calls = [&] {
+      c_.group_step(list_, books_, queues_, plain::kSend, 0, 5), c_.group_step(list_, books_, queues_, 13, 255, 0);
+      c_.group_start(list_, books_, queues_, 2, 3), c_.group_start(list_, books_, queues_, 9, 0);
+      c_.group_start(list_, books_, queues_, 2, 4);
+    };
+    auto fresh = [&] { lend(10, plain::kBooksSize, plain::queues_size(2)), c_.group_start(list_, books_, queues_, 2, 3); };
+    for (size_t list = 0; list <= 5 * 36; ++list) {
+      fresh();
+      // The queues of the list's own room, and of another. Long ones are tried at whole records alone.
+      for (size_t room : {list / 5, size_t{1}})
+        if (room <= 34 && (room < 4 || list % 5 == 0)) lend(list, plain::kBooksSize, plain::queues_size(room)), calls();
+    }
+    for (size_t books = 0; books <= plain::kBooksSize + 20; books += books < 40 || books + 40 > plain::kBooksSize ? 1 : 13)
+      fresh(), lend(10, books, plain::queues_size(2)), calls();
+    for (size_t queues = 0; queues <= plain::queues_size(3) + 20; queues += queues < 80 ? 1 : 499)
+      fresh(), lend(10, plain::kBooksSize, queues), calls();
+    for (size_t room = 1; room <= 3; ++room)
+      for (size_t off = 0; off <= 40; ++off)
+        fresh(), lend(10, plain::kBooksSize, plain::queues_size(room) + off - 20), calls();
+    for (size_t event = 0; event <= 40; ++event) {
+      fresh(), cut(c_.event, event, true), calls();
+      books_.poke(0, 0), calls();
+    }
+    c_.usual();
+  }
+
+  void group_numbers() {
+    cut(list_, 10, false), cut(books_, plain::kBooksSize, false), cut(queues_, plain::queues_size(2), false);
+    for (uint32_t members : kWords)
+      for (uint32_t set : kWords) c_.group_start(list_, books_, queues_, members, set);
+    c_.group_start(list_, books_, queues_, 3, 7);
+    for (uint32_t kind : kWords)
+      for (uint32_t first : kWords)
+        for (uint64_t second : {uint64_t{0}, uint64_t{1}, UINT64_MAX})
+          c_.group_step(list_, books_, queues_, kind, first, second);
+    for (uint32_t kind = 0; kind <= 13; ++kind)
+      for (uint32_t first : kWords)
+        for (uint64_t second : kLongs) c_.group_step(list_, books_, queues_, kind, first, second);
+  }
+
+ public:
+  explicit Edges(Calls& c) : c_(c) {
+    for (Lent* lent : {&book_, &list_, &books_, &c_.event, &c_.length, &c_.bytes, &c_.buffer, &c_.record}) {
+      uint8_t noise[64];
+      r_.fill(noise, sizeof noise);
+      memcpy(lent->mine(), noise, lent == &c_.length ? 16 : 64);
+    }
+  }
+
+  void run() {
+    c_.usual();
+    book_lengths(), other_lengths(), numbers(), group_lengths(), group_numbers();
+  }
+};
+
+}  // namespace outside

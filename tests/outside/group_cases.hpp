@@ -1,0 +1,215 @@
+// Cases of the whole group: histories from a start, and groups that no steps need have left; both are damaged now and
+// then. A history that was not damaged is put to tests/reference_group.hpp too, a third implementation.
+#pragma once
+
+#include <memory>
+
+#include "../reference_group.hpp"
+#include "calls.hpp"
+#include "damage.hpp"
+#include "generate.hpp"
+
+namespace outside {
+
+class GroupCases {
+  Calls& c_;
+  Lent list_{"list", 256}, books_{"books", plain::kBooksSize, false};
+  Lent queues_{"queues", plain::queues_size(plain::kViews), false};
+  std::unique_ptr<reference::Group> third_ = std::make_unique<reference::Group>();
+  bool clean_ = false;  // whether the third implementation has made the same steps
+
+  size_t room() const { return list_.size() / plain::kViewSize; }
+  unsigned members() { return books_.mine()[plain::kAtMembers]; }
+  unsigned made() { return queues_.mine()[0]; }
+  View view(unsigned i) { return plain::get_view(list_.mine() + plain::kViewSize * i); }
+
+  void lend(Random& r, unsigned room) {
+    list_.resize(plain::kViewSize * room, r.chance(500) ? kFront : kBack);
+    books_.resize(plain::kBooksSize, r.chance(500) ? kFront : kBack);
+    queues_.resize(plain::queues_size(room), r.chance(500) ? kFront : kBack);
+    c_.event.resize(plain::kEventSize, r.chance(500) ? kFront : kBack);
+    c_.event.copy_to_theirs();
+  }
+
+  // Small most of the time: every byte of the ranges is compared after every call.
+  static unsigned some_room(Random& r) {
+    if (r.chance(700)) return r.between(1, 2);
+    if (r.chance(800)) return r.between(3, 4);
+    return r.chance(800) ? r.between(5, 9) : r.between(10, 32);
+  }
+
+  // The event that the third implementation showed, as bytes.
+  static void store_third(const reference::Reply& reply, uint8_t* event) {
+    static const uint8_t kinds[] = {0, plain::kAttempt, plain::kRegister, plain::kSend, plain::kHand, plain::kSafe};
+    plain::Event e;
+    e.kind = kinds[reply.event], e.member = reply.member, e.view = reply.id, e.entry = reply.number;
+    (reply.event == reference::kAttempted ? e.set : e.sender) = reply.who;
+    e.store(event);
+  }
+
+  uint32_t call(uint32_t kind, uint32_t first, uint64_t second) {
+    uint32_t answer = c_.group_step(list_, books_, queues_, kind, first, second);
+    if (!clean_ || kind > 255) return answer;
+    reference::Reply reply = third_->step(static_cast<uint8_t>(kind), first, second);
+    uint8_t event[plain::kEventSize];
+    store_third(reply, event);
+    bool same_event = answer != plain::kAccepted || memcmp(event, c_.event.mine(), sizeof event) == 0;
+    if (reply.refusal == answer && same_event) return answer;
+    printf("\nDIFFERENCE of tests/reference_group.hpp in step %u %u %" PRIu64 ": %u, expected %u\n", kind, first, second,
+           reply.refusal, answer);
+    c_.tally.say_again();
+  }
+
+  // One step of a kind, with operands that fit more often than not.
+  uint32_t step(Random& r, unsigned kind, bool wide) {
+    uint32_t first = r.below(members() <= 8 ? members() : 8);
+    uint64_t second = 0;
+    if (kind == plain::kCreate) {
+      uint64_t id = view(made() - 1 < room() ? made() - 1 : 0).id + uint64_t{1} + (r.chance(800) ? 0 : r.below(1000));
+      first = id <= UINT32_MAX && r.chance(960) ? static_cast<uint32_t>(id) : r.chance(500) ? view(0).id : r.odd_word();
+      second = wide || r.chance(300) ? r.wide_set(members() - 1 < 8 ? members() : 8) : 1 + r.below(255);
+      if (r.chance(20)) second = r.odd_long();
+    } else if (kind == plain::kJoin || kind == plain::kOrder) {
+      unsigned at = made() - 1 < room() ? made() : 1;
+      second = view(r.chance(700) ? at - 1 : r.below(at)).id;
+      if (kind == plain::kOrder && r.chance(900)) find_waiting(r, first, second);
+      if (r.chance(20)) second = r.chance(300) ? second | uint64_t{1} << 32 : r.odd_long();
+    } else if (kind == plain::kSend || r.chance(100)) {
+      second = r.odd_long();
+    }
+    if (r.chance(10)) first = kind == plain::kCreate ? r.odd_word() : r.chance(500) ? members() : r.odd_word();
+    return call(kind, first, second);
+  }
+
+  // A member and a view where some message waits, if a few looks find one.
+  void find_waiting(Random& r, uint32_t& p, uint64_t& id) {
+    for (unsigned n = 0; n < 6; ++n) {
+      unsigned i = r.below(made() <= room() ? made() : 1), q = r.below(8);
+      size_t at = plain::kQueuesHead + plain::kTableSize * i + plain::kOrderSize + plain::kWaitingSize * q;
+      if (queues_.mine()[at] == 0) continue;
+      p = q, id = view(i).id;
+      return;
+    }
+  }
+
+  // What is outgoing anywhere is passed, ordered and taken by all, as far as a few steps of each member go.
+  void flow(Random& r) {
+    for (unsigned p = 0; p < members(); ++p) {
+      while (r.chance(800) && call(plain::kPass, p, 0) == plain::kAccepted) {
+      }
+      View carrier = plain::get_view(books_.mine() + plain::kBookSize * p + plain::kAtCarrier + 1);
+      while (r.chance(900) && call(plain::kOrder, p, carrier.id) == plain::kAccepted) {
+      }
+    }
+    for (unsigned p = 0; p < members(); ++p)
+      while (r.chance(950) && call(plain::kDeliver, p, 0) == plain::kAccepted) {
+      }
+  }
+
+  // All members do one step, or go to the newest view.
+  void together(Random& r) {
+    static const uint32_t kinds[] = {plain::kJoin,     plain::kJoin, plain::kAttempt, plain::kAttempt,
+                                     plain::kRegister, plain::kHand, plain::kTell,    plain::kSafe,
+                                     plain::kCollect};
+    uint32_t kind = r.one_of(kinds);
+    for (unsigned p = 0; p < members(); ++p)
+      if (r.chance(950)) call(kind, p, kind == plain::kJoin ? view(made() - 1).id : 0);
+  }
+
+  // A few bytes changed, a step made; a refused step's damage is taken back.
+  void damaged(Random& r) {
+    struct { Lent* lent; size_t at; uint8_t was; } changes[8];
+    unsigned count = 0;
+    auto change = [&](Lent& lent, size_t at, uint8_t value) {
+      changes[count++] = {&lent, at, lent.mine()[at]};
+      lent.poke(at, value);
+    };
+    for (unsigned n = r.chance(700) ? 1 : r.between(1, 4); n > 0; --n) {
+      unsigned which = r.below(10);
+      if (which == 0 && made() > 1 && made() <= room() && r.chance(500)) {
+        // An identifier like its neighbour's: its last bytes are all that most of them differ in.
+        size_t at = plain::kViewSize * r.between(1, made() - 1) + 3;
+        change(list_, at, static_cast<uint8_t>(list_.mine()[at - plain::kViewSize] + r.below(2)));
+      } else if (which == 0) {
+        size_t at = r.below(list_.size());
+        change(list_, at, other_byte(r, list_.mine()[at]));
+      } else if (which < 6) {
+        size_t book = plain::kBookSize * r.below(members() <= 8 && r.chance(900) ? members() : 8);
+        size_t at = book + book_place(r, books_.mine() + book);
+        change(books_, at, other_byte(r, books_.mine()[at]));
+      } else {
+        size_t at = queues_place(r, queues_.mine(), room());
+        uint8_t was = queues_.mine()[at];
+        change(queues_, at, at == 0 && r.chance(500) ? static_cast<uint8_t>(room() + 1) : other_byte(r, was));
+      }
+    }
+    bool was_clean = clean_;
+    clean_ = false;
+    uint32_t answer = r.chance(50) ? call(r.odd_word(), r.odd_word(), r.odd_long()) : step(r, r.between(1, 12), true);
+    if (answer == plain::kAccepted) return;
+    clean_ = was_clean;
+    while (count-- > 0) changes[count].lent->poke(changes[count].at, changes[count].was);
+  }
+
+ public:
+  explicit GroupCases(Calls& c) : c_(c) {}
+
+  enum Style { kBalanced, kFilling, kMaking, kStyles };
+
+  void history(Random& r) {
+    static const unsigned weights[kStyles][12] = {
+        // create, join, pass, order, deliver, attempt, register, send, hand, tell, safe, collect
+        {3, 12, 24, 24, 40, 10, 8, 14, 14, 8, 10, 8},
+        {1, 3, 30, 30, 30, 3, 2, 34, 14, 3, 8, 1},
+        {10, 30, 30, 30, 50, 20, 2, 2, 2, 1, 1, 3},
+    };
+    unsigned style = r.below(kStyles), members = r.between(1, style == kMaking ? 4 : 8), sum = 0;
+    for (unsigned w : weights[style]) sum += w;
+    bool many = style == kMaking && r.chance(100);
+    lend(r, many ? r.between(20, 32) : style == kBalanced ? r.between(2, 5) : some_room(r));
+    for (Lent* lent : {&list_, &books_, &queues_}) r.fill(lent->mine(), lent->size()), lent->copy_to_theirs();
+    bool wide = r.chance(700);
+    auto first = wide ? static_cast<uint8_t>((1u << members) - 1) : r.set(members);
+    c_.group_start(list_, books_, queues_, members, first);
+    third_->start(members, first, room());
+    clean_ = true;
+    unsigned length = r.chance(800) ? 200 : 2000;
+    for (unsigned n = 0; n < length; ++n) {
+      unsigned which = 0, at = r.below(sum);
+      while (at >= weights[style][which]) at -= weights[style][which++];
+      if (step(r, which + 1, wide) == plain::kUnsound) return;
+      if (r.chance(40)) flow(r);
+      if (r.chance(60)) together(r);
+      if (r.chance(40)) damaged(r);
+      if (r.chance(5)) call(r.chance(500) ? r.below(2) * 13 : r.odd_word(), r.odd_word(), r.odd_long());
+    }
+  }
+
+  // A sound group that no steps need have left.
+  void made_up(Random& r) {
+    lend(r, some_room(r));
+    clean_ = false;
+    random_group(r, list_.range(), books_.range(), queues_.range());
+    for (Lent* lent : {&list_, &books_, &queues_}) lent->copy_to_theirs();
+    for (unsigned n = r.between(10, 60); n > 0; --n) {
+      if (step(r, r.between(1, 12), true) == plain::kUnsound) return;
+      if (r.chance(500)) damaged(r);
+    }
+  }
+
+  // Bytes that mean nothing, or little.
+  void noise(Random& r) {
+    lend(r, r.between(1, 3));
+    clean_ = false;
+    for (Lent* lent : {&list_, &books_, &queues_}) r.fill(lent->mine(), lent->size());
+    if (r.chance(800)) books_.mine()[0] = static_cast<uint8_t>(r.between(1, 8));
+    if (r.chance(800)) queues_.mine()[0] = static_cast<uint8_t>(r.between(1, 3));
+    for (Lent* lent : {&list_, &books_, &queues_}) lent->copy_to_theirs();
+    for (unsigned n = r.between(1, 4); n > 0; --n)
+      call(r.chance(900) ? r.between(1, 12) : r.odd_word(), r.below(9), r.odd_long());
+    uint32_t members = r.chance(800) ? r.between(1, 8) : r.odd_word();
+    c_.group_start(list_, books_, queues_, members, r.chance(800) ? r.between(1, 255) : r.odd_word());
+  }
+};
+
+}  // namespace outside

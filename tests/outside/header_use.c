@@ -1,0 +1,37 @@
+/* All that include/dvs.h names, used once: compiled as C and as C++, never run. An array of length -1 is an error. */
+#include "dvs.h"
+
+#define HOLDS(name, claim) typedef char name[(claim) ? 1 : -1]
+
+HOLDS(limits, DVS_MEMBERS == 8 && DVS_VIEWS == 32 && DVS_OPEN == DVS_VIEWS - 1);
+HOLDS(queue_limits, DVS_OUTGOING == 16 && DVS_WAITING == 8 && DVS_ORDERED == 128);
+HOLDS(longest, DVS_LONGEST == 7 + DVS_VIEW_SIZE * DVS_VIEWS);
+HOLDS(record, DVS_MESSAGE_VIEWS == DVS_MESSAGE_COUNT + 1);
+HOLDS(record_size, DVS_MESSAGE_VIEWS + DVS_VIEW_SIZE * DVS_VIEWS == DVS_MESSAGE_SIZE);
+HOLDS(record_places, DVS_MESSAGE_KIND == 0 && DVS_MESSAGE_VIEW == 1 && DVS_MESSAGE_NUMBER == 5 && DVS_MESSAGE_COUNT == 13);
+HOLDS(event, DVS_EVENT_ENTRY + 8 == DVS_EVENT_SIZE && DVS_EVENT_SENDER == 7 && DVS_EVENT_SET == 6 && DVS_EVENT_VIEW == 2);
+HOLDS(event_front, DVS_EVENT_KIND == 0 && DVS_EVENT_MEMBER == 1 && DVS_LENGTH_SIZE == 4);
+HOLDS(books, DVS_BOOKS_SIZE == DVS_MEMBERS * DVS_BOOK_SIZE);
+HOLDS(list, DVS_LIST_SIZE(32) == 160);
+HOLDS(queues, DVS_QUEUES_SIZE(32) == 64 + 32 * (1 + 128 * 171 + 8 * (1 + 8 * 171)));
+HOLDS(kinds, DVS_CLIENT == 1 && DVS_INFO == 2 && DVS_REGISTERED == 3 && DVS_TOLD == 4);
+HOLDS(steps_to_4, DVS_STEP_CREATE == 1 && DVS_STEP_JOIN == 2 && DVS_STEP_PASS == 3 && DVS_STEP_ORDER == 4);
+HOLDS(steps_to_8, DVS_STEP_DELIVER == 5 && DVS_STEP_ATTEMPT == 6 && DVS_STEP_REGISTER == 7 && DVS_STEP_SEND == 8);
+HOLDS(steps_to_12, DVS_STEP_HAND == 9 && DVS_STEP_TELL == 10 && DVS_STEP_SAFE == 11 && DVS_STEP_COLLECT == 12);
+
+static const unsigned refusals[] = {
+#include "refusals.inc"
+};
+HOLDS(refusals_numbered, sizeof refusals / sizeof refusals[0] == DVS_REFUSED_TOO_MANY_OPEN + 1);
+
+unsigned use(uint8_t *at, size_t size);
+
+unsigned use(uint8_t *at, size_t size) {
+  uint32_t sum = refusals[size % 44];
+  sum += dvs_start(at, size, 1, 1, 0) + dvs_join(at, size, 1, 1) + dvs_pass(at, size, at, size, at, size);
+  sum += dvs_deliver(at, size, at, size, 0) + dvs_attempt(at, size, at, size) + dvs_register(at, size, at, size);
+  sum += dvs_send(at, size, 1, at, size) + dvs_hand(at, size, at, size) + dvs_tell(at, size) + dvs_safe(at, size, at, size);
+  sum += dvs_collect(at, size) + dvs_read(at, size, at, size) + dvs_write(at, size, at, size, at, size);
+  sum += dvs_group_start(at, size, at, size, at, size, 1, 1);
+  return sum + dvs_group_step(at, size, at, size, at, size, 1, 1, 1, at, size);
+}

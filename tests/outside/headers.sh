@@ -1,0 +1,29 @@
+#!/usr/bin/env bash
+# Compiles each header of include/ alone and twice in one file, and a file that uses all that dvs.h names, in every version
+# of C and C++ that a host may use, with every compiler that is here.
+set -euo pipefail
+cd "$(dirname "${BASH_SOURCE[0]}")/../.."
+flags="-fsyntax-only -Wall -Wextra -Wpedantic -Werror -I include"
+count=0
+
+try() { # compiler language version header
+  printf '#include "%s"\n' "$4" "$4" | "$1" -x "$2" -std="$3" $flags -
+  count=$((count + 1))
+}
+
+use() { # compiler language version
+  "$1" -x "$2" -std="$3" $flags tests/outside/header_use.c
+  count=$((count + 1))
+}
+
+for compilers in "gcc g++" "clang clang++"; do
+  read -r c cxx <<< "$compilers"
+  command -v "$c" "$cxx" > /dev/null || { echo "no $c here"; continue; }
+  for version in c99 c11 c17; do try "$c" c $version dvs.h; use "$c" c $version; done
+  for version in c++17 c++20; do
+    try "$cxx" c++ $version dvs.h
+    use "$cxx" c++ $version
+    [ ! -e include/dvs.hpp ] || try "$cxx" c++ $version dvs.hpp
+  done
+done
+echo "$count compilations"
