@@ -88,7 +88,7 @@ pub fn collect(b: &mut [u8]) -> Reply
 }
 
 // More than 31 open views are refused, with the record as it was.
-fn few_open(s: Stepped, h: Book) -> Stepped
+pub fn few_open(s: Stepped, h: Book) -> Stepped
     ensures { λ r. ⌜ r ≡ fewStepped s h ⌝ }
 {
     let verdict = s.verdict;
