@@ -1,0 +1,50 @@
+// The step on a book's bytes: the record is loaded, lent, and stored where the step was accepted. The queues stay as they are.
+use crate::Step;
+use crate::lend;
+use acts::speak;
+use views::Member;
+use views::View;
+use views::ViewId;
+use views::refusal::Refusal;
+use views::refusal::Verdict;
+ghost use mathlib.Core.Bool.{true};
+ghost use mathlib.Core.Path.{_≡_};
+ghost use Rattle.books.specs.Books.{bytesSound};
+ghost use Rattle.lent.specs.Loans.{viewOf, stepIn, changeOf, changeBytes};
+
+// The step of a kind's number and a view, with what the book says of itself.
+fn asked(b: &[u8], kind: u8, view: View) -> Step
+    requires { ⌜ bytesSound (now b) ≡ true ⌝ }
+    ensures { λ r. ⌜ r ≡ stepIn (now (b .entry)) kind view ⌝ }
+{
+    let side = b[books::SIDE] as usize;
+    let member = Member(b[books::SELF]);
+    Step {
+        kind,
+        members: b[books::MEMBERS],
+        member,
+        view,
+        outgoing: b[books::OUTGOING],
+        inward: b[books::INWARD + books::APART * side],
+    }
+}
+
+// One step of any kind number on the record of any bytes; the view is for a join.
+pub fn change(b: &mut [u8], kind: u8, id: u32, set: u8) -> Verdict
+    ensures { λ r. ⌜ (r ≡ changeOf (now (b .entry)) kind (viewOf id set) .verdict) × (now (b .exit) ≡ changeBytes (now (b .entry)) kind (viewOf id set)) ⌝ }
+{
+    if !audit::sound(b) {
+        return Verdict::Refused(Refusal::RecordsUnsound);
+    }
+    let h = books::load(b);
+    let v = View {
+        id: ViewId(id),
+        set,
+    };
+    let t = asked(b, kind, v);
+    let s = lend(h, t);
+    let e = acts::no_event();
+    let r = speak::keep(b, s, e);
+    let verdict = r.verdict;
+    verdict
+}
