@@ -1,14 +1,14 @@
 /*
  * dvs.h: primary views for up to eight register servers, after the service DVS of MIT-LCS-TR-873.
  *
- * The library keeps no memory of its own, calls nothing and never blocks. The host lends byte ranges, each as a pointer and a length in bytes, and
- * gives plain numbers. A call answers any bytes, any lengths and any numbers:
+ * The library keeps no memory of its own, calls nothing but C's memcpy, memmove and memset, and never blocks; some 5 KB of stack are enough. The host
+ * lends byte ranges, each as a pointer and a length in bytes, and gives plain numbers. A call answers any bytes, any lengths and any numbers:
  *
  *   0            accepted: the lent ranges are what the step makes of them;
  *   1 to 43      refused by one number (DVS_REFUSED_...), and every lent byte is as it was.
  *
- * What is asked of the host is what C asks of it: a pointer is good for its length (it may be null where the length is 0), ranges of one call do not
- * overlap unless both are const, and no two threads use one range at a time.
+ * What is asked of the host is what C asks of it: a pointer is good for its length (it may be null where the length is 0), the ranges of one call do
+ * not overlap, and no two threads use one range at a time.
  *
  * A range whose length this header fixes (a book, an event, ...) gets DVS_REFUSED_RECORDS_UNSOUND, before anything else, where it has another length.
  * Every byte of every range is described in docs/LAYOUT.md; numbers in them are big-endian. A set of members is a number with bit 0 for member 0.
@@ -40,9 +40,30 @@ extern "C" {
 #define DVS_LENGTH_SIZE 4u                                           /* the length of a message that a call gives out */
 #define DVS_MESSAGE_SIZE 174u                                        /* a message's record */
 #define DVS_VIEW_SIZE 5u                                             /* a view record: identifier 4, set 1 */
-#define DVS_LIST_SIZE(views) (DVS_VIEW_SIZE * (size_t)(views))       /* a group's list with room for 1 to 32 views */
+#define DVS_LIST_SIZE(views) (DVS_VIEW_SIZE * DVS_COUNT(views))      /* a group's list with room for 1 to 32 views */
 #define DVS_BOOKS_SIZE 41872u                                        /* a group's eight books */
-#define DVS_QUEUES_SIZE(views) (64u + 32841u * (size_t)(views))      /* a group's queues, for a list with room for as many views */
+#define DVS_QUEUES_SIZE(views) (64u + 32841u * DVS_COUNT(views))     /* a group's queues, for a list with room for as many views */
+
+#ifdef __cplusplus
+#define DVS_COUNT(views) (static_cast<size_t>(views))
+#else
+#define DVS_COUNT(views) ((size_t)(views))
+#endif
+
+/* ---- places in a book that a host may want to look at; of a book that was started and changed by the calls alone. docs/LAYOUT.md has all of them */
+
+#define DVS_BOOK_MEMBERS 0u     /* 1 byte: the number of members */
+#define DVS_BOOK_SELF 1u        /* 1 byte: the member's own number */
+#define DVS_BOOK_SETTLED 2u     /* a view record: the settled view */
+#define DVS_BOOK_CARRIER 7u     /* 1 byte, 1 if there is a carrier view; then its view record */
+#define DVS_BOOK_CLIENT 13u     /* 1 byte, 1 if there is a client view; then its view record */
+#define DVS_BOOK_REGISTERED 19u /* 1 byte: 1 if registered in the client view */
+#define DVS_BOOK_HANDED 20u     /* 1 byte: how many entries of the client view were handed out */
+#define DVS_BOOK_TOLD 21u       /* 1 byte: the number last told */
+#define DVS_BOOK_REPORTED 22u   /* 1 byte: how many were reported safe */
+#define DVS_BOOK_TAKEN 23u      /* 1 byte: how many messages of the carrier view were taken */
+#define DVS_BOOK_OPENS 35u      /* 1 byte, the number of open views; then their view records */
+#define DVS_BOOK_OUTGOING 191u  /* 1 byte: the number of outgoing messages */
 
 /* ---- places in an event: DVS_EVENT_SIZE bytes. What an event does not have is 0. */
 
@@ -145,16 +166,17 @@ uint32_t dvs_join(uint8_t *book, size_t book_size, uint32_t view, uint32_t set);
  * what lies behind the message in the buffer stays. 13, 14, 39. */
 uint32_t dvs_pass(uint8_t *book, size_t book_size, uint8_t *buffer, size_t buffer_size, uint8_t *length, size_t length_size);
 
-/* The next message of the carrier view's order, from `sender`, is taken. 13, 32 to 38, 7, 41, 42, 16, 43. */
+/* The next message of the carrier view's order, from `sender`, is taken. To give every member of a view each message once and in one order is the
+ * carrier's duty: a message given twice is taken twice. A view has 128 messages of all kinds. 13, 32 to 38, 7, 41, 42, 16, 43. */
 uint32_t dvs_deliver(uint8_t *book, size_t book_size, const uint8_t *bytes, size_t bytes_size, uint32_t sender);
 
 /* The carrier view is attempted: it becomes the client view. 13, 19, 20, 21, 43. */
 uint32_t dvs_attempt(uint8_t *book, size_t book_size, uint8_t *event, size_t event_size);
 
-/* The client registers in the client view. 22, 23, 24. */
+/* The client registers in the client view. Where that is not the carrier view any more it is accepted and no message goes out. 22, 23, 24. */
 uint32_t dvs_register(uint8_t *book, size_t book_size, uint8_t *event, size_t event_size);
 
-/* The client sends an entry number in the client view. 22, 24. */
+/* The client sends an entry number in the client view. Where that is not the carrier view any more it is accepted and no message goes out. 22, 24. */
 uint32_t dvs_send(uint8_t *book, size_t book_size, uint64_t entry, uint8_t *event, size_t event_size);
 
 /* The next entry of the client view is given to the client. 22, 25. */
@@ -173,10 +195,12 @@ uint32_t dvs_collect(uint8_t *book, size_t book_size);
  * ---- messages: the bytes that go over the line, and a record of DVS_MESSAGE_SIZE bytes
  */
 
-/* Reads one message, which the bytes must be as a whole; every byte of the record is written. 4, 32 to 34 as the bytes come, then 35 to 38. */
+/* Reads one message, which the bytes must be as a whole; every byte of the record is written, 0 where the message has nothing. 4, 32 to 34 as the
+ * bytes come, then 35 to 38. */
 uint32_t dvs_read(const uint8_t *bytes, size_t bytes_size, uint8_t *message, size_t message_size);
 
-/* Writes the record's message to the front of `buffer`, and its length to `length` (DVS_LENGTH_SIZE bytes). 4, 33 to 37, 39. */
+/* Writes the record's message to the front of `buffer`, and its length to `length` (DVS_LENGTH_SIZE bytes). Places that the message does not use are
+ * not looked at. 4, 33 to 37, 39. */
 uint32_t dvs_write(const uint8_t *message, size_t message_size, uint8_t *buffer, size_t buffer_size, uint8_t *length, size_t length_size);
 
 /*
@@ -185,7 +209,8 @@ uint32_t dvs_write(const uint8_t *message, size_t message_size, uint8_t *buffer,
  * The list has room for 1 to 32 views and DVS_LIST_SIZE of that many bytes, the queues DVS_QUEUES_SIZE of as many, the books DVS_BOOKS_SIZE.
  */
 
-/* A group of `members` begins with the first view, identifier 0, of `first_set`; every byte of the three ranges is written. 4, 1, 2, 3. */
+/* A group of `members` begins with the first view, identifier 0, of `first_set`; every byte of the three ranges is written. 4, 1, 2, 3;
+ * of a list with room for no view or for more than 32, which gets 3, the queues have no length that could be asked. */
 uint32_t dvs_group_start(uint8_t *list, size_t list_size, uint8_t *books, size_t books_size, uint8_t *queues, size_t queues_size, uint32_t members,
                          uint32_t first_set);
 

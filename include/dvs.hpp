@@ -398,20 +398,21 @@ class BookReader {
  public:
   constexpr explicit BookReader(Bytes book) noexcept : book_(book) {}
 
-  constexpr std::uint32_t members() const noexcept { return detail::byte(book_, 0); }
-  constexpr Member own() const noexcept { return static_cast<Member>(detail::byte(book_, 1)); }
-  constexpr View settled() const noexcept { return detail::view(book_, 2); }
-  constexpr std::optional<View> carrier() const noexcept { return view_if(7); }
-  constexpr std::optional<View> client() const noexcept { return view_if(13); }
-  constexpr bool registered() const noexcept { return detail::byte(book_, 19) == 1; }
-  constexpr unsigned handed() const noexcept { return detail::byte(book_, 20); }
-  constexpr unsigned told() const noexcept { return detail::byte(book_, 21); }
-  constexpr unsigned reported() const noexcept { return detail::byte(book_, 22); }
-  constexpr unsigned taken() const noexcept { return detail::byte(book_, 23); }
-  constexpr unsigned outgoing() const noexcept { return detail::byte(book_, 191); }
+  constexpr std::uint32_t members() const noexcept { return detail::byte(book_, DVS_BOOK_MEMBERS); }
+  constexpr Member own() const noexcept { return static_cast<Member>(detail::byte(book_, DVS_BOOK_SELF)); }
+  constexpr View settled() const noexcept { return detail::view(book_, DVS_BOOK_SETTLED); }
+  constexpr std::optional<View> carrier() const noexcept { return view_if(DVS_BOOK_CARRIER); }
+  constexpr std::optional<View> client() const noexcept { return view_if(DVS_BOOK_CLIENT); }
+  constexpr bool registered() const noexcept { return detail::byte(book_, DVS_BOOK_REGISTERED) == 1; }
+  constexpr unsigned handed() const noexcept { return detail::byte(book_, DVS_BOOK_HANDED); }
+  constexpr unsigned told() const noexcept { return detail::byte(book_, DVS_BOOK_TOLD); }
+  constexpr unsigned reported() const noexcept { return detail::byte(book_, DVS_BOOK_REPORTED); }
+  constexpr unsigned taken() const noexcept { return detail::byte(book_, DVS_BOOK_TAKEN); }
+  constexpr unsigned outgoing() const noexcept { return detail::byte(book_, DVS_BOOK_OUTGOING); }
   constexpr ViewList open() const noexcept {
     ViewList views;
-    for (std::size_t i = 0; i < detail::byte(book_, 35) && i < DVS_OPEN; ++i) views.push_back(detail::view(book_, 36 + DVS_VIEW_SIZE * i));
+    const std::size_t count = detail::byte(book_, DVS_BOOK_OPENS);
+    for (std::size_t i = 0; i < count && i < DVS_OPEN; ++i) views.push_back(detail::view(book_, DVS_BOOK_OPENS + 1 + DVS_VIEW_SIZE * i));
     return views;
   }
   // Whether the view that the carrier gave last is the one that the member attempted last: only then does it work in a primary view now.

@@ -9,6 +9,7 @@ import sys
 
 ROOT = pathlib.Path(__file__).resolve().parent.parent
 WIDTHS = {'u8': 'uint8_t', 'u32': 'uint32_t', 'u64': 'uint64_t'}
+BOOK_PLACES = ('MEMBERS', 'SELF', 'SETTLED', 'CARRIER', 'CLIENT', 'REGISTERED', 'HANDED', 'TOLD', 'REPORTED', 'TAKEN', 'OPENS', 'OUTGOING')
 faults = []
 
 
@@ -40,8 +41,10 @@ def expected_constants():
     wanted = {'DVS_' + name: limits[name] for name in ('MEMBERS', 'VIEWS', 'OPEN', 'OUTGOING', 'WAITING', 'ORDERED', 'LONGEST')}
     wanted.update(DVS_BOOK_SIZE=books['SIZE'], DVS_EVENT_SIZE=answers['EVENT'], DVS_LENGTH_SIZE=answers['LENGTH'],
                   DVS_MESSAGE_SIZE=messages['RECORD'], DVS_VIEW_SIZE=groups['VIEW'], DVS_BOOKS_SIZE=groups['BOOKS'])
-    wanted['DVS_LIST_SIZE(views)'] = '(DVS_VIEW_SIZE * (size_t)(views))'
-    wanted['DVS_QUEUES_SIZE(views)'] = '(%du + %du * (size_t)(views))' % (groups['HEAD'], groups['TABLE'])
+    wanted['DVS_LIST_SIZE(views)'] = '(DVS_VIEW_SIZE * DVS_COUNT(views))'
+    wanted['DVS_QUEUES_SIZE(views)'] = '(%du + %du * DVS_COUNT(views))' % (groups['HEAD'], groups['TABLE'])
+    wanted['DVS_COUNT(views)'] = '((size_t)(views))'  # as C has it, the last of the two
+    wanted.update({'DVS_BOOK_' + name: books[name] for name in BOOK_PLACES})
     # the places in an event and in a message's record, as the code stores them
     text = source('answers/src/lib.rt')
     view = int(found(r'store_view\(out, (\d+), e\.view\)', text, 'answers'))

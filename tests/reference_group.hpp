@@ -189,7 +189,7 @@ inline bool Group::sound_book(const Book& b) const {
       if (list.places[i].sender >= members) return false;
   }
   if (b.taken > (b.has_carrier ? channels[find(b.carrier.id)].order.count : 0)) return false;
-  if (b.inward[b.in_step() ? b.side : 1 - b.side].count > b.taken) return false;
+  if (b.has_carrier && b.inward[b.in_step() ? b.side : 1 - b.side].count > b.taken) return false;
   unsigned inward = b.has_client ? b.inward[b.side].count : 0;
   if (b.handed > inward || b.told > inward || b.reported > inward) return false;
   for (unsigned q = 0; q < members; ++q)

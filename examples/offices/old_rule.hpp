@@ -22,7 +22,8 @@ inline std::optional<dvs::View> first_passing(const dvs::BookReader &book, dvs::
 // An attempt by that rule, played on the library: where it refuses and the old rule would not have, the held views that the old rule did not look at
 // are taken out of the book's bytes for the call and put back behind it. No host should do this.
 inline dvs::Result<dvs::Event> attempt(dvs::Book &book) {
-  constexpr std::size_t kSettled = 2, kCarrier = 8, kOpenCount = 35, kOpen = 36, kOpenEnd = kOpen + DVS_VIEW_SIZE * DVS_OPEN;  // docs/LAYOUT.md
+  constexpr std::size_t kSettled = DVS_BOOK_SETTLED, kCarrier = DVS_BOOK_CARRIER + 1, kOpenCount = DVS_BOOK_OPENS;
+  constexpr std::size_t kOpen = kOpenCount + 1, kOpenEnd = kOpen + DVS_VIEW_SIZE * DVS_OPEN;
   const dvs::Result<dvs::Event> answer = book.attempt();
   if (answer.refusal() != dvs::Refusal::test_failed) return answer;
   const std::optional<dvs::View> passing = first_passing(book.look(), book.look().carrier()->set);
