@@ -1,0 +1,60 @@
+#!/usr/bin/env python3
+"""documents_check.py: whether the documents name files that are there, and docs/TRUST.md counts their lines right.
+
+    python3 tests/documents_check.py          says what is wrong, and exits with 1 where something is
+    python3 tests/documents_check.py write    puts the right counts into docs/TRUST.md"""
+import pathlib
+import re
+import sys
+
+ROOT = pathlib.Path(__file__).resolve().parent.parent
+DOCUMENTS = [ROOT / 'README.md'] + sorted((ROOT / 'docs').glob('*.md'))
+TRUST = ROOT / 'docs' / 'TRUST.md'
+faults = []
+
+
+def files_of(cell):
+    """The files that a table's first cell names: a path, then names beside it, or in the folder of another crate."""
+    paths, folder = [], None
+    for name in re.findall(r'`([^`]+)`', cell):
+        path = ROOT / name if name.startswith('crates/') else ROOT / 'crates' / name if '/' in name else folder / name
+        folder = path.parent
+        paths.append(path)
+    return paths
+
+
+def lines(path):
+    return len(path.read_text().splitlines())
+
+
+def counted(text):
+    """The text with the right counts, and their sum."""
+    total, rows = 0, []
+    for row in text.split('\n'):
+        cells = row.split(' | ')
+        if row.startswith('| `crates/') and len(cells) == 3 and re.fullmatch(r'[\d,]+', cells[1]):
+            missing = [p for p in files_of(cells[0]) if not p.is_file()]
+            faults.extend('docs/TRUST.md names %s, which is not there' % p.relative_to(ROOT) for p in missing)
+            count = sum(lines(p) for p in files_of(cells[0]) if p.is_file())
+            total += count
+            row = ' | '.join([cells[0], str(count), cells[2]])
+        rows.append(row)
+    return re.sub(r'all of them, [\d,]+ lines', 'all of them, {:,} lines'.format(total), '\n'.join(rows))
+
+
+text = TRUST.read_text()
+right = counted(text)
+if sys.argv[1:] == ['write']:
+    TRUST.write_text(right)
+elif right != text:
+    faults.append('docs/TRUST.md has wrong counts of lines: python3 tests/documents_check.py write')
+for document in DOCUMENTS:
+    for link in re.findall(r'\]\(([^)#]+)\)', document.read_text()):
+        if not link.startswith('http') and not (document.parent / link).exists():
+            faults.append('%s links to %s, which is not there' % (document.relative_to(ROOT), link))
+    for name in re.findall(r'`((?:crates|tests|examples|include|docs)/[\w./-]+\.\w+)`', document.read_text()):
+        if not (ROOT / name).exists():
+            faults.append('%s names %s, which is not there' % (document.relative_to(ROOT), name))
+for fault in faults:
+    print(fault)
+sys.exit(1 if faults else 0)
