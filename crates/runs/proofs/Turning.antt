@@ -1,16 +1,18 @@
 -- The steps of a run, one turn after another: what is done so far, and what it leaves to do.
 use mathlib.Core.Path.{_≡_, sym, ap, _∙_}
 use mathlib.Core.List.{List, _∷_, _++_, append-assoc, append-nil}
-use Prim.Native.Nat.{ℕ, suc, _+_, _-_, _*_, _/_, _<_, _≤_}
+use Prim.Native.Nat.{ℕ, suc, _+_, _-_, _*_, _/_, _^_, _<_, _≤_}
 use native.Mathlib.Omega.{arith}
-use lib.ListN.{length, take, drop, length-append}
+use lib.ListN.{length, getD, take, drop, length-append}
 use lib.Seq.{length-take-le, take-at, take-all}
+use Rattle.numbers.specs.Number.{get}
 use Rattle.views.proofs.Members.{in-nil, top, pop}
 use Rattle.rules.specs.Data.{Step}
 use Rattle.acts.specs.declared.Reply.{Reply}
 use Rattle.groups.specs.Groups.{Ranges}
 use Rattle.groups.specs.Steps.{stepRanges, stepReply, lastRanges, repliesOf}
 use Rattle.groups.specs.Promises.{Given, AllGiven}
+use Rattle.group.specs.Calls.{asked, Went}
 use Rattle.runs.specs.Records.{stepSize, stepAt, stepsFrom, stepsIn, answerSize, answerBytes, answersBytes}
 use Rattle.runs.specs.Parts.{answered, Fits, AllFit, Wrote, Asked, Turned, Turns}
 use Rattle.runs.proofs.Answers.{length-answer, length-answered}
@@ -20,6 +22,12 @@ pub same-ranges : (x y : Ranges) → x .list ≡ y .list → x .books ≡ y .boo
 same-ranges x y p q r = λ i. record { list = p i; books = q i; queues = r i }
 
 -- ---- one step
+
+-- a step was put whose operands are those that its record holds
+pub asked-as-held : (b : List ℕ) (at first second : ℕ) → getD b at 0 < 256 → first ≡ get b (at + 1) 4 → second ≡ get b (at + 5) 8 → first < 256 ^ 4 → second < 256 ^ 8
+    → (r d : Ranges) (x : Reply) → Went r (asked (getD b at 0) first second) d x → Asked r (stepAt b at) d x
+unfolding stepAt
+asked-as-held b at first second k e f m n r d x w = rw (← e, ← f) (record { went = w; given = record { kind = k; first = m; second = n } })
 
 pub turned : (r : Ranges) (c : Step) (d : Ranges) (x : Reply) (a : List ℕ) (at : ℕ) (e : List ℕ) → Asked r c d x → Wrote a at x e → Turned r c a at d e
 turned r c d x a at e s w = record {

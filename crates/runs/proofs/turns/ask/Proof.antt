@@ -1,6 +1,6 @@
 -- `runs::turns::ask` meets its contract: what is read is the step in the record, with operands within their widths.
 use native.Mathlib.Omega.{arith}
-use Rattle.runs.specs.Records.{stepAt}
+use Rattle.runs.proofs.Turning.{asked-as-held}
 use borrow.Author.Needs.{needs}
 use Rattle.runs.proofs.turns.ask.Statement.{statement}
 use Rattle.runs.proofs.turns.ask.Tie as tie
@@ -36,8 +36,12 @@ same-length-3 : tie.Need-same-length-3
 same-length-3 c = search needs
 
 returns : tie.Need-returns
-unfolding stepAt
-returns c = record { went = rw (← c .before .before .before .before .before .before .before .before .before .before .before .get-number .ensures .0, ← c .before .before .before .before .before .before .before .before .before .before .get-number2 .ensures .0) (c .before .before .before .before .before .before .step .ensures); given = record { kind = omega (arith, c .before .before .before .before .before .before .before .before .before .before .before .before .before .shared-slice-known .given (c .before .before .before .before .before .before .before .before .before .before .before .before .before .before .before .before .before .args .at)); first = omega (arith, c .before .before .before .before .before .before .before .before .before .before .before .get-number .ensures .0, c .before .before .before .before .before .before .before .before .before .before .before .get-number .ensures .1); second = omega (arith, c .before .before .before .before .before .before .before .before .before .before .get-number2 .ensures .0, c .before .before .before .before .before .before .before .before .before .before .get-number2 .ensures .1) } }
+returns c =
+    let a = c .before .before .before .before .before .before .before .before .before .before .before .before .before .before .before .before .before .args in
+    let kind = c .before .before .before .before .before .before .before .before .before .before .before .before .before .shared-slice-known .given (a .at) in
+    let first = c .before .before .before .before .before .before .before .before .before .before .before .get-number .ensures in
+    let second = c .before .before .before .before .before .before .before .before .before .before .get-number2 .ensures in
+    asked-as-held (a .steps .now) (a .at) _ _ (omega (arith, kind)) (first .0) (second .0) (first .1) (second .1) _ _ _ (c .before .before .before .before .before .before .step .ensures)
 
 pub ask-spec : {M : Type 1} → statement M
 ask-spec =
