@@ -21,6 +21,7 @@ use Rattle.wire.proofs.SeamLaws.{length-viewBytes}
 use Rattle.acts.specs.declared.Event.{Event}
 use Rattle.acts.specs.declared.Reply.{Reply}
 use Rattle.groups.specs.Promises.{shown, shownBy, eventsShown}
+use Rattle.answers.specs.Answers.{eventBytes}
 use Rattle.runs.specs.Records.{answerSize, answerBytes, answersBytes, eventAt, shownAt, eventsFrom, eventsIn}
 use Rattle.runs.specs.Parts.{Fits, AllFit}
 use Rattle.runs.proofs.Numbers.{never-0}
@@ -41,7 +42,7 @@ module _ (x : Reply) (q : List ℕ) where
   head = codeOf (x .verdict) ∷ (x .event .kind ∷ (x .event .member .0 ∷ []))
 
   view-back : idOf (x .event .view) < 256 ^ 4 → viewIn bytes 3 ≡ x .event .view
-  unfolding answerBytes viewBytes
+  unfolding answerBytes eventBytes viewBytes
   view-back f =
       let e = x .event in
       let g = digits 4 (idOf (e .view)) in
@@ -54,7 +55,7 @@ module _ (x : Reply) (q : List ℕ) where
       rw (id, set)
 
   sender-back : getD bytes 8 0 ≡ x .event .sender .0
-  unfolding answerBytes
+  unfolding answerBytes eventBytes
   sender-back =
       let e = x .event in
       let front = head ++ viewBytes (e .view) in
@@ -63,7 +64,7 @@ module _ (x : Reply) (q : List ℕ) where
       rw whole (getD-at front (e .sender .0) (digits 8 (e .entry) ++ q) 0 8 n)
 
   entry-back : x .event .entry < 256 ^ 8 → get bytes 9 8 ≡ x .event .entry
-  unfolding answerBytes
+  unfolding answerBytes eventBytes
   entry-back f =
       let e = x .event in
       let front = (head ++ viewBytes (e .view)) ++ (e .sender .0 ∷ []) in
@@ -87,7 +88,7 @@ module _ (p : List ℕ) (x : Reply) (q : List ℕ) (f : Fits x) where
       rw (id, set) (view-back x q (f .view))
 
   event-back : eventAt all (length p) ≡ x .event
-  unfolding eventAt answerBytes
+  unfolding eventAt answerBytes eventBytes
   event-back =
       let kind : getD all (length p + 1) 0 ≡ x .event .kind = byte-at 1 in
       let member : getD all (length p + 2) 0 ≡ x .event .member .0 = byte-at 2 in
@@ -96,7 +97,7 @@ module _ (p : List ℕ) (x : Reply) (q : List ℕ) (f : Fits x) where
       rw (kind, member, sender, entry, view-at)
 
   code-at : getD all (length p) 0 ≡ codeOf (x .verdict)
-  unfolding answerBytes
+  unfolding answerBytes eventBytes
   code-at = let z : length p ≡ length p + 0 = omega arith in ap (λ (k : ℕ). getD all k 0) z ∙ byte-at 0
 
   answer-shows : shownAt all (length p) ≡ shownBy (x .verdict) (x .event)

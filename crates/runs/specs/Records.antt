@@ -4,15 +4,15 @@ use mathlib.Core.List.{List, [], _∷_, _++_}
 use Prim.Native.Nat.{ℕ, zero, suc, _+_, _*_, _/_}
 use lib.Dec.{eqb}
 use lib.ListN.{length, getD}
-use Rattle.numbers.specs.Number.{get, digits}
+use Rattle.numbers.specs.Number.{get}
 use Rattle.views.specs.Refusals.{codeOf}
-use Rattle.wire.specs.Format.{viewBytes}
 use Rattle.wire.specs.Reader.{viewIn}
 use Rattle.rules.specs.Data.{Step, Event as Outward}
 use Rattle.acts.specs.declared.Event.{Event}
 use Rattle.acts.specs.declared.Reply.{Reply}
 use Rattle.acts.specs.Replies.{happened}
 use Rattle.groups.specs.Promises.{shown}
+use Rattle.answers.specs.Answers.{eventSize, eventBytes}
 
 -- ---- steps: kind 1 byte, first operand 4, second operand 8
 
@@ -32,16 +32,13 @@ stepsFrom b (suc n) i = stepAt b (stepSize * i) ∷ stepsFrom b n (i + 1)
 unfoldable pub stepsIn : List ℕ → List Step
 stepsIn b = stepsFrom b (length b / stepSize) 0
 
--- ---- answers: the refusal's number 1 byte, 0 for accepted; then the event, 0 where there is none:
--- ---- kind 1, member 1, view 5 (identifier 4, set 1), sender 1, entry number 8
+-- ---- answers: the refusal's number 1 byte, 0 for accepted; then the event, 0 where there is none
 
 abbrev pub answerSize : ℕ
-answerSize = 17
+answerSize = 1 + eventSize
 
 unfoldable pub answerBytes : Reply → List ℕ
-answerBytes x =
-    let e = x .event in
-    codeOf (x .verdict) ∷ (e .kind ∷ (e .member .0 ∷ (viewBytes (e .view) ++ (e .sender .0 ∷ digits 8 (e .entry)))))
+answerBytes x = codeOf (x .verdict) ∷ eventBytes (x .event)
 
 unfoldable pub answersBytes : List Reply → List ℕ
 answersBytes [] = []

@@ -11,7 +11,7 @@ ghost use Rattle.runs.specs.Runs.{paired, Ran};
 // Bytes of a step's record, and of an answer's.
 pub const STEP: usize = 13;
 
-pub const ANSWER: usize = 17;
+pub const ANSWER: usize = 1 + answers::EVENT;
 
 // Whole records of steps, and room for one answer to each; the lengths in bytes.
 fn pair(steps: usize, answers: usize) -> bool

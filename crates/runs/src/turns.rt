@@ -14,13 +14,8 @@ fn put(b: &mut [u8], at: usize, x: Reply)
 {
     let v = x.verdict;
     let e = x.event;
-    let view = e.view;
     b[at] = views::refusal::code(v);
-    b[at + 1] = e.kind;
-    b[at + 2] = e.member.0;
-    slots::store_view(b, at + 3, view);
-    b[at + 8] = e.sender.0;
-    numbers::put_number(b, at + 9, 8, e.entry);
+    answers::put_event(&mut b[at + 1..at + super::ANSWER], e);
 }
 
 // The step in the record at a place is put to the group.
