@@ -3,8 +3,9 @@
 #
 #     tests/edits.sh [CRATE...]
 #
-# They stand on functions that other crates call and no host does: a contract of theirs that said too little would fail the proofs above it, so
-# the gate keeps two for each function that a host may call, document 01's wrong programs and traps, and wrong definitions.
+# An edit costs a check of its whole crate, and the gate is to end in 20 minutes. It keeps document 01's six wrong programs and five traps, wrong
+# definitions of the rules and of the calls, and at least one wrong answer of each function that a host may call. Here are the second ones, and those of
+# functions that other crates call and no host does: a contract of theirs that said too little would fail the proofs above it.
 set -euo pipefail
 cd "$(dirname "${BASH_SOURCE[0]}")/.."
 copy=target/edits
