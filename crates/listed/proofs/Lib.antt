@@ -1,9 +1,6 @@
-pub mod Again
 pub mod BytesLaws
 pub mod CreateLaws
 pub mod Fits
 pub mod ListLaws
-pub mod Share
-pub mod SliceLaws
 pub mod StartLaws
 pub mod StepLaws

@@ -1,15 +1,15 @@
 -- A start put to the records: it begins with the first view, and behind it is none.
-use mathlib.Core.Path.{_≡_, refl, sym, _∙_, ap, subst}
+use mathlib.Core.Path.{_≡_, refl, sym, _∙_, ap}
 use mathlib.Core.Bool.{Bool, true, false}
-use mathlib.Core.Logic.{_≢_, inl, inr}
-use mathlib.Core.List.{List, [], _∷_}
-use Prim.Native.Nat.{ℕ, zero, suc, _+_, _-_, _*_, _/_, _%_, _^_, _≤_, _<_}
+use mathlib.Core.Logic.{inr}
+use mathlib.Core.List.{List}
+use Prim.Native.Nat.{ℕ, zero, suc, _+_, _-_, _*_, _%_, _≤_, _<_}
 use native.Mathlib.Decide.{decLe}
 use native.Mathlib.Omega.{arith}
 use borrow.Author.Tests.{lt-leb, le-leb, eq-eqb}
 use lib.Dec.{eqb, leb, lit<}
-use lib.ListN.{length, getD, set, replicate, length-set, length-replicate, getD-replicate, List·getD-eq-default}
-use lib.Seq.{ext-getD, getD-set-same, getD-set-other}
+use lib.ListN.{length, getD, replicate, length-replicate, getD-replicate, List·getD-eq-default}
+use lib.Seq.{ext-getD}
 use Rattle.numbers.specs.Number.{get}
 use Rattle.views.specs.declared.View.{View}
 use Rattle.views.specs.declared.list.Views.{Views}
@@ -25,7 +25,7 @@ use Rattle.wire.specs.Format.{viewsBytes}
 use Rattle.wire.specs.Reader.{viewIn, viewsIn}
 use Rattle.wire.proofs.ReaderLaws.{length-viewsIn}
 use Rattle.wire.proofs.SeamLaws.{length-viewsBytes}
-use Rattle.rules.specs.Data.{Group, Result, refused, accepted, need}
+use Rattle.rules.specs.Data.{Group, Result, refused, need}
 use Rattle.rules.specs.Sound.{conditions}
 use Rattle.rules.specs.Group.{firstView, fits, start}
 use Rattle.slots.specs.Changes.{storeView}
@@ -40,37 +40,10 @@ use Rattle.group.specs.Calls.{ranges}
 use Rattle.listed.specs.declared.calls.Begun.{Begun}
 use Rattle.listed.specs.Calls.{rangesOf, leftViews, Began}
 use Rattle.listed.specs.Parts.{bytesIn, rangesIn, fromOf, BegunBy}
-use Rattle.listed.specs.Slices.{laid}
+use Rattle.slices.specs.Slices.{laid}
+use Rattle.slices.proofs.SliceLaws.{laid-length, laid-here, laid-behind}
 use Rattle.listed.proofs.BytesLaws.{short-bytes, long-length}
 use Rattle.listed.proofs.ListLaws.{views-at}
-
--- ---- the records that are laid
-
-laid-length : (k : ℕ) (l : List View) (i : ℕ) (v : View) → length (laid k l i v) ≡ length l
-unfolding laid
-laid-length zero l i v = refl
-laid-length (suc k) l i v = laid-length k (set l i v) (i + 1) noView ∙ length-set l i v
-
--- below the place nothing changes
-laid-below : (k : ℕ) (l : List View) (i j : ℕ) (v : View) → j < i → getD (laid k l i v) j noView ≡ getD l j noView
-unfolding laid
-laid-below zero l i j v h = refl
-laid-below (suc k) l i j v h = laid-below k (set l i v) (i + 1) j noView (omega (arith, h)) ∙ getD-set-other l i j v noView (λ e. omega (arith, e, h))
-
-laid-here : (k : ℕ) (l : List View) (i : ℕ) (v : View) → i < length l → getD (laid (suc k) l i v) i noView ≡ v
-unfolding laid
-laid-here k l i v h = laid-below k (set l i v) (i + 1) i noView (omega arith) ∙ getD-set-same l i v noView h
-
-laid-behind : (k : ℕ) (l : List View) (i j : ℕ) (v : View) → i < j → j < i + k → j < length l → getD (laid k l i v) j noView ≡ noView
-unfolding laid
-laid-behind zero l i j v a b c = absurd (omega (arith, a, b))
-laid-behind (suc zero) l i j v a b c = absurd (omega (arith, a, b))
-laid-behind (suc (suc k)) l i j v a b c =
-    let n : j < length (set l i v) = let m : length (set l i v) ≡ length l = length-set l i v in omega (arith, m, c) in
-    elim (decLe j (i + 1)) [ yes h ↦ next n (omega arith) | no h ↦ laid-behind (suc k) (set l i v) (i + 1) j noView (omega arith) (omega (arith, b)) n ]
-  where
-    next : j < length (set l i v) → j ≡ i + 1 → getD (laid (suc k) (set l i v) (i + 1) noView) j noView ≡ noView
-    next n e = ap (λ (m : ℕ). getD (laid (suc k) (set l i v) (i + 1) noView) m noView) e ∙ laid-here k (set l i v) (i + 1) noView (omega (arith, n, e))
 
 -- ---- the bytes of a start
 

@@ -1,6 +1,5 @@
 // The whole group with its list as a slice of records, the books and the queues as lent bytes: its start, and one step of any kind.
 // The list is taken by value and put to the group as bytes; what a step or a start does to it is put back.
-use crate::slice;
 use acts::Reply;
 use views::View;
 use views::ViewId;
@@ -132,9 +131,9 @@ pub fn step(
 ) -> Reply
     ensures { λ r. ⌜ Went (now (list .entry)) (now (books .entry)) (now (queues .entry)) (asked kind first second) (now (list .exit)) (now (books .exit)) (now (queues .exit)) r ⌝ }
 {
-    let l = slice::listed(list);
+    let l = slices::listed(list);
     let s = step_by(l, books, queues, kind, first, second);
-    slice::put(list, s.at, s.view);
+    slices::put(list, s.at, s.view);
     s.reply
 }
 
@@ -148,8 +147,8 @@ pub fn start(
 ) -> Verdict
     ensures { λ r. ⌜ Began (now (list .entry)) (now (books .entry)) (now (queues .entry)) members first (now (list .exit)) (now (books .exit)) (now (queues .exit)) r ⌝ }
 {
-    let l = slice::listed(list);
+    let l = slices::listed(list);
     let s = start_by(l, books, queues, members, first);
-    slice::lay(list, s.at, s.view);
+    slices::lay(list, s.at, s.view);
     s.verdict
 }

@@ -1,6 +1,5 @@
 // The list by itself, as a slice of records of which the first ones are made: a view is looked up by its identifier, and the
 // next view is filled. Of a list that is too long for a group the first 32 records count.
-use crate::slice;
 use views::View;
 use views::ViewId;
 use views::limits;
@@ -49,7 +48,7 @@ fn found(l: Views, made: usize, id: ViewId) -> Lookup
 pub fn lookup(list: &[View], made: usize, id: ViewId) -> Lookup
     ensures { λ r. ⌜ r ≡ findOf (id .0) (madeIn made (now (list .entry))) ⌝ }
 {
-    let l = slice::listed(list);
+    let l = slices::listed(list);
     found(l, made, id)
 }
 
@@ -115,8 +114,8 @@ fn create_by(l: Views, made: usize, id: ViewId, set: u8, members: u8) -> Creatio
 pub fn create(list: &mut [View], made: usize, id: ViewId, set: u8, members: u8) -> Verdict
     ensures { λ r. ⌜ Created (now (list .entry)) made (id .0) set members (now (list .exit)) r ⌝ }
 {
-    let l = slice::listed(list);
+    let l = slices::listed(list);
     let c = create_by(l, made, id, set, members);
-    slice::put(list, c.at, c.view);
+    slices::put(list, c.at, c.view);
     c.verdict
 }

@@ -1,4 +1,3 @@
 // The group with its list as a slice of view records that the host lends.
 pub mod calls;
 pub mod create;
-pub mod slice;

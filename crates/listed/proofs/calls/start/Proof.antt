@@ -52,25 +52,25 @@ use Rattle.views.specs.declared.refusal.Verdict.{Verdict}
 use Rattle.views.proofs.refusal.Verdict as P
 use Rattle.views.proofs.refusal.Verdict.Laws as P′
 use Rattle.listed.specs.declared.calls.Begun.{Begun}
-use Rattle.listed.specs.Slices.{laid}
+use Rattle.slices.specs.Slices.{laid}
 use Rattle.listed.specs.Parts.{BegunBy}
 use Rattle.listed.specs.Calls.{Began}
-use Rattle.listed.proofs.Share.{KeptShared, shares-out, comes-home}
+use Rattle.slices.proofs.Share.{KeptShared, shares-out, comes-home}
 use Rattle.listed.proofs.StartLaws.{begun-began}
 use Rattle.listed.proofs.calls.Begun as S
 use Rattle.listed.proofs.calls.Begun.Laws as S′
-use Rattle.listed.proofs.slice.listed as li
-use Rattle.listed.proofs.slice.listed.Symbol as li-def
-use Rattle.listed.proofs.slice.listed.Symbol.{name as #listed·slice·listed}
-use Rattle.listed.proofs.slice.listed.Met as li-thm
+use Rattle.slices.proofs.listed as li
+use Rattle.slices.proofs.listed.Symbol as li-def
+use Rattle.slices.proofs.listed.Symbol.{name as #slices·listed}
+use Rattle.slices.proofs.listed.Met as li-thm
 use Rattle.listed.proofs.calls.start_by as sb
 use Rattle.listed.proofs.calls.start_by.Symbol as sb-def
 use Rattle.listed.proofs.calls.start_by.Symbol.{name as #listed·calls·start-by}
 use Rattle.listed.proofs.calls.start_by.Met as sb-thm
-use Rattle.listed.proofs.slice.lay as pu
-use Rattle.listed.proofs.slice.lay.Symbol as pu-def
-use Rattle.listed.proofs.slice.lay.Symbol.{name as #listed·slice·lay}
-use Rattle.listed.proofs.slice.lay.Met as pu-thm
+use Rattle.slices.proofs.lay as pu
+use Rattle.slices.proofs.lay.Symbol as pu-def
+use Rattle.slices.proofs.lay.Symbol.{name as #slices·lay}
+use Rattle.slices.proofs.lay.Met as pu-thm
 use Rattle.listed.proofs.calls.start.Key.{name as #listed·calls·start}
 use Rattle.listed.proofs.calls.start as at
 use Rattle.listed.proofs.calls.start.Statement as stated
@@ -198,7 +198,7 @@ module _ {M : Type 1} (𝓤 : URA M) (H : Heap 𝓤) (A : Atoms 𝓤) (W : Given
   abbrev Lasts′ : Type 0
   Lasts′ = List View × (Unit {0} × (Unit {0} × Unit {0}))
 
-  module _ (C : Calls 𝓤 H) (Λ : Loops 𝓤 H) (fm : FmC 𝓤 H (W .laws) C) (known-listed : Triple 𝓤 (C #listed·slice·listed) (Listed 𝓤 H A mem run)) (known-start : Triple 𝓤 (C #listed·calls·start-by) (StartBy 𝓤 H A mem run)) (known-lay : Triple 𝓤 (C #listed·slice·lay) (Lay 𝓤 H A mem run)) where
+  module _ (C : Calls 𝓤 H) (Λ : Loops 𝓤 H) (fm : FmC 𝓤 H (W .laws) C) (known-listed : Triple 𝓤 (C #slices·listed) (Listed 𝓤 H A mem run)) (known-start : Triple 𝓤 (C #listed·calls·start-by) (StartBy 𝓤 H A mem run)) (known-lay : Triple 𝓤 (C #slices·lay) (Lay 𝓤 H A mem run)) where
     walk : Room VT (length ys) → Room u8 (length bs) → Room u8 (length qs) → ent 𝓤 (onEntry 𝓤 H A at.signature (κ, (κ₁, (κ₂, tt))) (q, (q₁, (q₂, tt))) a vals) (WpFn 𝓤 H C Λ code.function (v₀ ∷ v₁ ∷ v₂ ∷ vint w8 k ∷ vint w8 f ∷ []) Post)
     walk gy gb gq =
         qed W ((‵ (flft κ q) ⊛ ‵ (flft κ₁ q₁) ⊛ ‵ (flft κ₂ q₂) ⊛ ‵ ftrue) ∷ ‵ (owns (MutSlice (named 0) κ VT ∷ MutSlice (named 1) κ₁ u8 ∷ MutSlice (named 2) κ₂ u8 ∷ u8 ∷ u8 ∷ []) a vals) ∷ []) ∵
@@ -260,14 +260,14 @@ module _ {M : Type 1} (𝓤 : URA M) (H : Heap 𝓤) (A : Atoms 𝓤) (W : Given
         by ! (exits (r .verdict) (EL.val P.the-type P′.the-laws (r .verdict)) (ws .0) (zs .1 .0) (zs .1 .1 .0) (begun-began ys bs qs k f l e (zs .1 .0) (zs .1 .1 .0) r by-value (ws .0) e′) l₀′ l₁′ l₂′ (LL.owed S.the-type S′.the-laws r _ gr .0))))))))))))))))))))))))))))))))))))))
 
 module _ {M : Type 1} (𝓤 : URA M) (H : Heap 𝓤) (A : Atoms 𝓤) (W : Given 𝓤 H A) (mem : Memory → SProp 𝓤) (run : Routine → Fun 𝓤) where
-  at-walks : (C : Calls 𝓤 H) (Λ : Loops 𝓤 H) → FmC 𝓤 H (W .laws) C → Triple 𝓤 (C #listed·slice·listed) (Listed 𝓤 H A mem run) → Triple 𝓤 (C #listed·calls·start-by) (StartBy 𝓤 H A mem run) → Triple 𝓤 (C #listed·slice·lay) (Lay 𝓤 H A mem run) → Walks 𝓤 H A at.ended stayed (WpFn 𝓤 H C Λ code.function) (at.clauses 𝓤 H A mem run)
+  at-walks : (C : Calls 𝓤 H) (Λ : Loops 𝓤 H) → FmC 𝓤 H (W .laws) C → Triple 𝓤 (C #slices·listed) (Listed 𝓤 H A mem run) → Triple 𝓤 (C #listed·calls·start-by) (StartBy 𝓤 H A mem run) → Triple 𝓤 (C #slices·lay) (Lay 𝓤 H A mem run) → Walks 𝓤 H A at.ended stayed (WpFn 𝓤 H C Λ code.function) (at.clauses 𝓤 H A mem run)
   at-walks C Λ fm known-listed known-start known-lay = walked 𝓤 H A at.ended stayed (at.clauses 𝓤 H A mem run) (WpFn 𝓤 H C Λ code.function) (λ κs. (slice-vals, (slice-vals, (slice-vals, (uint-vals w8, (uint-vals w8, tt))))))
       (λ κs. (mut-slice-tells (named 0) (κs .0) VT, (mut-slice-tells (named 1) (κs .1 .0) u8, (mut-slice-tells (named 2) (κs .1 .1 .0) u8, (uint-tells w8, (uint-tells w8, tt))))))
       (λ κs qs bounds a g are. via 𝓤 _ (fst∗ 𝓤 _ (emp 𝓤)) (walk 𝓤 H A W mem run (κs .0) (κs .1 .0) (κs .1 .1 .0) (qs .0) (qs .1 .0) (qs .1 .1 .0) (a .0 .ptr .0) (a .0 .ptr .1) (a .0 .name) (a .0 .now) (a .1 .0 .ptr .0) (a .1 .0 .ptr .1) (a .1 .0 .name) (a .1 .0 .now)
       (a .1 .1 .0 .ptr .0) (a .1 .1 .0 .ptr .1) (a .1 .1 .0 .name) (a .1 .1 .0 .now) (a .1 .1 .1 .0) (a .1 .1 .1 .1 .0) (are .1 .1 .1 .0 .1) (are .1 .1 .1 .1 .0 .1)
       C Λ fm known-listed known-start known-lay (are .0 .0 .1) (are .1 .0 .0 .1) (are .1 .1 .0 .0 .1)))
 
-at-meets : {M : Type 1} (𝓤 : URA M) (H : Heap 𝓤) (A : Atoms 𝓤) (W : Given 𝓤 H A) (mem : Memory → SProp 𝓤) (run : Routine → Fun 𝓤) (𝓣 : Tables 𝓤 H) → Triple 𝓤 (𝓣 .C #listed·slice·listed) (Listed 𝓤 H A mem run) → Triple 𝓤 (𝓣 .C #listed·calls·start-by) (StartBy 𝓤 H A mem run) → Triple 𝓤 (𝓣 .C #listed·slice·lay) (Lay 𝓤 H A mem run)
+at-meets : {M : Type 1} (𝓤 : URA M) (H : Heap 𝓤) (A : Atoms 𝓤) (W : Given 𝓤 H A) (mem : Memory → SProp 𝓤) (run : Routine → Fun 𝓤) (𝓣 : Tables 𝓤 H) → Triple 𝓤 (𝓣 .C #slices·listed) (Listed 𝓤 H A mem run) → Triple 𝓤 (𝓣 .C #listed·calls·start-by) (StartBy 𝓤 H A mem run) → Triple 𝓤 (𝓣 .C #slices·lay) (Lay 𝓤 H A mem run)
     → Meets 𝓤 H A at.signature (WpFn 𝓤 H (𝓣 .C) (𝓣 .Λ) code.function) (at.spec 𝓤 H A mem run)
 at-meets 𝓤 H A W mem run 𝓣 known-listed known-start known-lay = walk-meets 𝓤 H A at.ended stayed W
     (goes-gave-slice 𝓤 H A W 3 0 tt (plain (λ _. VT)), (goes-gave-slice 𝓤 H A W 3 1 tt (plain (λ _. u8)), (goes-gave-slice 𝓤 H A W 3 2 tt (plain (λ _. u8)), (goes-none 𝓤 H A W 3 (λ _. u8) yes (λ κs x f. refl), (goes-none 𝓤 H A W 3 (λ _. u8) yes (λ κs x f. refl), tt)))))
@@ -280,6 +280,6 @@ start-spec 𝓤 H 𝓜 𝓖 𝓡 =
     entered 𝓤 H (tripleOf 𝓤 H (𝓖 .A) at.signature (at.spec 𝓤 H (𝓖 .A) (𝓜 .mem) (𝓡 .run)))
     (tables 𝓤 H 𝓜 𝓡 code.env .C) (tables 𝓤 H 𝓜 𝓡 code.env .Λ) #listed·calls·start code.function (code.unfolded 𝓤 H 𝓜 𝓡)
     (at-meets 𝓤 H (𝓖 .A) (givenOf 𝓤 H 𝓜 𝓖) (𝓜 .mem) (𝓡 .run) (tablesOf 𝓤 H 𝓜 (tables 𝓤 H 𝓜 𝓡 code.env))
-    (cited 𝓤 H (Listed 𝓤 H (𝓖 .A) (𝓜 .mem) (𝓡 .run)) 𝓜 𝓡 code.env #listed·slice·listed li-def.routine code.calls-listed·slice·listed (li-thm.met 𝓤 H 𝓜 𝓖 𝓡))
+    (cited 𝓤 H (Listed 𝓤 H (𝓖 .A) (𝓜 .mem) (𝓡 .run)) 𝓜 𝓡 code.env #slices·listed li-def.routine code.calls-slices·listed (li-thm.met 𝓤 H 𝓜 𝓖 𝓡))
     (cited 𝓤 H (StartBy 𝓤 H (𝓖 .A) (𝓜 .mem) (𝓡 .run)) 𝓜 𝓡 code.env #listed·calls·start-by sb-def.routine code.calls-listed·calls·start-by (sb-thm.met 𝓤 H 𝓜 𝓖 𝓡))
-    (cited 𝓤 H (Lay 𝓤 H (𝓖 .A) (𝓜 .mem) (𝓡 .run)) 𝓜 𝓡 code.env #listed·slice·lay pu-def.routine code.calls-listed·slice·lay (pu-thm.met 𝓤 H 𝓜 𝓖 𝓡)))
+    (cited 𝓤 H (Lay 𝓤 H (𝓖 .A) (𝓜 .mem) (𝓡 .run)) 𝓜 𝓡 code.env #slices·lay pu-def.routine code.calls-slices·lay (pu-thm.met 𝓤 H 𝓜 𝓖 𝓡)))

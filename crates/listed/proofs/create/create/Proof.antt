@@ -55,22 +55,22 @@ use Rattle.views.proofs.refusal.Verdict as P
 use Rattle.views.proofs.refusal.Verdict.Laws as P′
 use Rattle.listed.specs.declared.create.Creation.{Creation}
 use Rattle.listed.specs.Creates.{CreatedBy, Created}
-use Rattle.listed.proofs.Share.{KeptShared, shares-out, comes-home}
+use Rattle.slices.proofs.Share.{KeptShared, shares-out, comes-home}
 use Rattle.listed.proofs.CreateLaws.{created-in}
 use Rattle.listed.proofs.create.Creation as S
 use Rattle.listed.proofs.create.Creation.Laws as S′
-use Rattle.listed.proofs.slice.listed as li
-use Rattle.listed.proofs.slice.listed.Symbol as li-def
-use Rattle.listed.proofs.slice.listed.Symbol.{name as #listed·slice·listed}
-use Rattle.listed.proofs.slice.listed.Met as li-thm
+use Rattle.slices.proofs.listed as li
+use Rattle.slices.proofs.listed.Symbol as li-def
+use Rattle.slices.proofs.listed.Symbol.{name as #slices·listed}
+use Rattle.slices.proofs.listed.Met as li-thm
 use Rattle.listed.proofs.create.create_by as cb
 use Rattle.listed.proofs.create.create_by.Symbol as cb-def
 use Rattle.listed.proofs.create.create_by.Symbol.{name as #listed·create·create-by}
 use Rattle.listed.proofs.create.create_by.Met as cb-thm
-use Rattle.listed.proofs.slice.put as pu
-use Rattle.listed.proofs.slice.put.Symbol as pu-def
-use Rattle.listed.proofs.slice.put.Symbol.{name as #listed·slice·put}
-use Rattle.listed.proofs.slice.put.Met as pu-thm
+use Rattle.slices.proofs.put as pu
+use Rattle.slices.proofs.put.Symbol as pu-def
+use Rattle.slices.proofs.put.Symbol.{name as #slices·put}
+use Rattle.slices.proofs.put.Met as pu-thm
 use Rattle.listed.proofs.create.create.Key.{name as #listed·create·create}
 use Rattle.listed.proofs.create.create as at
 use Rattle.listed.proofs.create.create.Statement as stated
@@ -181,7 +181,7 @@ module _ {M : Type 1} (𝓤 : URA M) (H : Heap 𝓤) (A : Atoms 𝓤) (W : Given
   abbrev Lasts′ : Type 0
   Lasts′ = List View × (Unit {0} × (Unit {0} × Unit {0}))
 
-  module _ (C : Calls 𝓤 H) (Λ : Loops 𝓤 H) (fm : FmC 𝓤 H (W .laws) C) (known-listed : Triple 𝓤 (C #listed·slice·listed) (Listed 𝓤 H A mem run)) (known-make : Triple 𝓤 (C #listed·create·create-by) (CreateBy 𝓤 H A mem run)) (known-put : Triple 𝓤 (C #listed·slice·put) (Put 𝓤 H A mem run)) where
+  module _ (C : Calls 𝓤 H) (Λ : Loops 𝓤 H) (fm : FmC 𝓤 H (W .laws) C) (known-listed : Triple 𝓤 (C #slices·listed) (Listed 𝓤 H A mem run)) (known-make : Triple 𝓤 (C #listed·create·create-by) (CreateBy 𝓤 H A mem run)) (known-put : Triple 𝓤 (C #slices·put) (Put 𝓤 H A mem run)) where
     walk : Room VT (length ys) → ent 𝓤 (onEntry 𝓤 H A at.signature (κ, tt) (q, tt) a vals) (WpFn 𝓤 H C Λ code.function (v₀ ∷ vint w64 m ∷ val g ∷ vint w8 k ∷ vint w8 f ∷ []) Post)
     walk gy =
         qed W ((‵ (flft κ q) ⊛ ‵ ftrue) ∷ ‵ (owns (MutSlice (named 0) κ VT ∷ usize ∷ IT ∷ u8 ∷ u8 ∷ []) a vals) ∷ []) ∵ split ! $ move ! (2 ∷ []) $ fsplit ! $ keep ! (0 ∷ 2 ∷ []) $
@@ -232,13 +232,13 @@ module _ {M : Type 1} (𝓤 : URA M) (H : Heap 𝓤) (A : Atoms 𝓤) (W : Given
         by ! (exits (r .verdict) (EL.val P.the-type P′.the-laws (r .verdict)) (ws .0) (created-in ys m (g .0) k f l e r by-value (ws .0) e′) l₀′ (LL.owed S.the-type S′.the-laws r _ gr .0)))))))))))))))))))))))))))))))
 
 module _ {M : Type 1} (𝓤 : URA M) (H : Heap 𝓤) (A : Atoms 𝓤) (W : Given 𝓤 H A) (mem : Memory → SProp 𝓤) (run : Routine → Fun 𝓤) where
-  at-walks : (C : Calls 𝓤 H) (Λ : Loops 𝓤 H) → FmC 𝓤 H (W .laws) C → Triple 𝓤 (C #listed·slice·listed) (Listed 𝓤 H A mem run) → Triple 𝓤 (C #listed·create·create-by) (CreateBy 𝓤 H A mem run) → Triple 𝓤 (C #listed·slice·put) (Put 𝓤 H A mem run) → Walks 𝓤 H A at.ended stayed (WpFn 𝓤 H C Λ code.function) (at.clauses 𝓤 H A mem run)
+  at-walks : (C : Calls 𝓤 H) (Λ : Loops 𝓤 H) → FmC 𝓤 H (W .laws) C → Triple 𝓤 (C #slices·listed) (Listed 𝓤 H A mem run) → Triple 𝓤 (C #listed·create·create-by) (CreateBy 𝓤 H A mem run) → Triple 𝓤 (C #slices·put) (Put 𝓤 H A mem run) → Walks 𝓤 H A at.ended stayed (WpFn 𝓤 H C Λ code.function) (at.clauses 𝓤 H A mem run)
   at-walks C Λ fm known-listed known-make known-put = walked 𝓤 H A at.ended stayed (at.clauses 𝓤 H A mem run) (WpFn 𝓤 H C Λ code.function) (λ κs. (slice-vals, (uint-vals w64, (LL.vals I.the-type I′.the-laws, (uint-vals w8, (uint-vals w8, tt))))))
       (λ κs. (mut-slice-tells (named 0) (κs .0) VT, (uint-tells w64, (LL.tells I.the-type I′.the-laws, (uint-tells w8, (uint-tells w8, tt))))))
       (λ κs qs bounds a g are. via 𝓤 _ (fst∗ 𝓤 _ (emp 𝓤)) (walk 𝓤 H A W mem run (κs .0) (qs .0) (a .0 .ptr .0) (a .0 .ptr .1) (a .0 .name) (a .0 .now) (a .1 .0) (a .1 .1 .0) (a .1 .1 .1 .0) (a .1 .1 .1 .1 .0) (are .1 .0 .1) (are .1 .1 .0) (are .1 .1 .1 .0 .1) (are .1 .1 .1 .1 .0 .1)
       C Λ fm known-listed known-make known-put (are .0 .0 .1)))
 
-at-meets : {M : Type 1} (𝓤 : URA M) (H : Heap 𝓤) (A : Atoms 𝓤) (W : Given 𝓤 H A) (mem : Memory → SProp 𝓤) (run : Routine → Fun 𝓤) (𝓣 : Tables 𝓤 H) → Triple 𝓤 (𝓣 .C #listed·slice·listed) (Listed 𝓤 H A mem run) → Triple 𝓤 (𝓣 .C #listed·create·create-by) (CreateBy 𝓤 H A mem run) → Triple 𝓤 (𝓣 .C #listed·slice·put) (Put 𝓤 H A mem run)
+at-meets : {M : Type 1} (𝓤 : URA M) (H : Heap 𝓤) (A : Atoms 𝓤) (W : Given 𝓤 H A) (mem : Memory → SProp 𝓤) (run : Routine → Fun 𝓤) (𝓣 : Tables 𝓤 H) → Triple 𝓤 (𝓣 .C #slices·listed) (Listed 𝓤 H A mem run) → Triple 𝓤 (𝓣 .C #listed·create·create-by) (CreateBy 𝓤 H A mem run) → Triple 𝓤 (𝓣 .C #slices·put) (Put 𝓤 H A mem run)
     → Meets 𝓤 H A at.signature (WpFn 𝓤 H (𝓣 .C) (𝓣 .Λ) code.function) (at.spec 𝓤 H A mem run)
 at-meets 𝓤 H A W mem run 𝓣 known-listed known-make known-put = walk-meets 𝓤 H A at.ended stayed W
     (goes-gave-slice 𝓤 H A W 1 0 tt (plain (λ _. VT)), (goes-none 𝓤 H A W 1 (λ _. usize) yes (λ κs x f. refl), (goes-none 𝓤 H A W 1 (λ _. IT) yes (λ κs x f. refl), (goes-none 𝓤 H A W 1 (λ _. u8) yes (λ κs x f. refl), (goes-none 𝓤 H A W 1 (λ _. u8) yes (λ κs x f. refl), tt)))))
@@ -251,6 +251,6 @@ create-spec 𝓤 H 𝓜 𝓖 𝓡 =
     entered 𝓤 H (tripleOf 𝓤 H (𝓖 .A) at.signature (at.spec 𝓤 H (𝓖 .A) (𝓜 .mem) (𝓡 .run)))
     (tables 𝓤 H 𝓜 𝓡 code.env .C) (tables 𝓤 H 𝓜 𝓡 code.env .Λ) #listed·create·create code.function (code.unfolded 𝓤 H 𝓜 𝓡)
     (at-meets 𝓤 H (𝓖 .A) (givenOf 𝓤 H 𝓜 𝓖) (𝓜 .mem) (𝓡 .run) (tablesOf 𝓤 H 𝓜 (tables 𝓤 H 𝓜 𝓡 code.env))
-    (cited 𝓤 H (Listed 𝓤 H (𝓖 .A) (𝓜 .mem) (𝓡 .run)) 𝓜 𝓡 code.env #listed·slice·listed li-def.routine code.calls-listed·slice·listed (li-thm.met 𝓤 H 𝓜 𝓖 𝓡))
+    (cited 𝓤 H (Listed 𝓤 H (𝓖 .A) (𝓜 .mem) (𝓡 .run)) 𝓜 𝓡 code.env #slices·listed li-def.routine code.calls-slices·listed (li-thm.met 𝓤 H 𝓜 𝓖 𝓡))
     (cited 𝓤 H (CreateBy 𝓤 H (𝓖 .A) (𝓜 .mem) (𝓡 .run)) 𝓜 𝓡 code.env #listed·create·create-by cb-def.routine code.calls-listed·create·create-by (cb-thm.met 𝓤 H 𝓜 𝓖 𝓡))
-    (cited 𝓤 H (Put 𝓤 H (𝓖 .A) (𝓜 .mem) (𝓡 .run)) 𝓜 𝓡 code.env #listed·slice·put pu-def.routine code.calls-listed·slice·put (pu-thm.met 𝓤 H 𝓜 𝓖 𝓡)))
+    (cited 𝓤 H (Put 𝓤 H (𝓖 .A) (𝓜 .mem) (𝓡 .run)) 𝓜 𝓡 code.env #slices·put pu-def.routine code.calls-slices·put (pu-thm.met 𝓤 H 𝓜 𝓖 𝓡)))

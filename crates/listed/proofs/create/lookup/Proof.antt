@@ -50,10 +50,10 @@ use Rattle.views.proofs.list.Lookup as P
 use Rattle.views.proofs.list.Lookup.Laws as P′
 use Rattle.listed.specs.Creates.{madeIn}
 use Rattle.listed.proofs.CreateLaws.{placed-first}
-use Rattle.listed.proofs.slice.listed as li
-use Rattle.listed.proofs.slice.listed.Symbol as li-def
-use Rattle.listed.proofs.slice.listed.Symbol.{name as #listed·slice·listed}
-use Rattle.listed.proofs.slice.listed.Met as li-thm
+use Rattle.slices.proofs.listed as li
+use Rattle.slices.proofs.listed.Symbol as li-def
+use Rattle.slices.proofs.listed.Symbol.{name as #slices·listed}
+use Rattle.slices.proofs.listed.Met as li-thm
 use Rattle.listed.proofs.create.found as fo
 use Rattle.listed.proofs.create.found.Symbol as fo-def
 use Rattle.listed.proofs.create.found.Symbol.{name as #listed·create·found}
@@ -138,7 +138,7 @@ module _ {M : Type 1} (𝓤 : URA M) (H : Heap 𝓤) (A : Atoms 𝓤) (W : Given
   goes-found l u =
       qed W (‵ (LT .own l (u ∷ [])) ∷ []) ∵ nothing ! $ owned ! IT (Is IT) (LL.makes I.the-type I′.the-plain 𝓤 H A) g _ gg $ fjoin ! $ owned ! usize (Is usize) (uint-makes 𝓤 H A W w64) m _ (refl, gm) $ fjoin ! $ move ! (1 ∷ 0 ∷ []) $ fjoin ! $ nothing ! $ join ! $ frame ! $ done !
 
-  module _ (C : Calls 𝓤 H) (Λ : Loops 𝓤 H) (fm : FmC 𝓤 H (W .laws) C) (known-listed : Triple 𝓤 (C #listed·slice·listed) (Listed 𝓤 H A mem run)) (known-found : Triple 𝓤 (C #listed·create·found) (Among 𝓤 H A mem run)) where
+  module _ (C : Calls 𝓤 H) (Λ : Loops 𝓤 H) (fm : FmC 𝓤 H (W .laws) C) (known-listed : Triple 𝓤 (C #slices·listed) (Listed 𝓤 H A mem run)) (known-found : Triple 𝓤 (C #listed·create·found) (Among 𝓤 H A mem run)) where
     walk : Room VT (length ys) → ent 𝓤 (onEntry 𝓤 H A at.signature (κ, tt) (q, tt) a vals) (WpFn 𝓤 H C Λ code.function (s ∷ vint w64 m ∷ val g ∷ []) Post)
     walk gn =
         qed W ((‵ (flft κ q) ⊛ ‵ ftrue) ∷ ‵ (owns (ShrSlice (named 0) κ VT ∷ usize ∷ IT ∷ []) a vals) ∷ []) ∵ move ! (1 ∷ []) $ fsplit ! $
@@ -164,11 +164,11 @@ module _ {M : Type 1} (𝓤 : URA M) (H : Heap 𝓤) (A : Atoms 𝓤) (W : Given
         keep ! (1 ∷ 2 ∷ 0 ∷ []) $ by ! (exits r w (f ∙ ap (λ (t : List View). findOf (g .0) (take m t)) (ap listOf e ∙ placed-first ys))))))))))))))))
 
 module _ {M : Type 1} (𝓤 : URA M) (H : Heap 𝓤) (A : Atoms 𝓤) (W : Given 𝓤 H A) (mem : Memory → SProp 𝓤) (run : Routine → Fun 𝓤) where
-  at-walks : (C : Calls 𝓤 H) (Λ : Loops 𝓤 H) → FmC 𝓤 H (W .laws) C → Triple 𝓤 (C #listed·slice·listed) (Listed 𝓤 H A mem run) → Triple 𝓤 (C #listed·create·found) (Among 𝓤 H A mem run) → Walks 𝓤 H A at.ended stayed (WpFn 𝓤 H C Λ code.function) (at.clauses 𝓤 H A mem run)
+  at-walks : (C : Calls 𝓤 H) (Λ : Loops 𝓤 H) → FmC 𝓤 H (W .laws) C → Triple 𝓤 (C #slices·listed) (Listed 𝓤 H A mem run) → Triple 𝓤 (C #listed·create·found) (Among 𝓤 H A mem run) → Walks 𝓤 H A at.ended stayed (WpFn 𝓤 H C Λ code.function) (at.clauses 𝓤 H A mem run)
   at-walks C Λ fm known-listed known-found = walked 𝓤 H A at.ended stayed (at.clauses 𝓤 H A mem run) (WpFn 𝓤 H C Λ code.function) (λ κs. (slice-vals, (uint-vals w64, (LL.vals I.the-type I′.the-laws, tt)))) (λ κs. (shr-slice-tells (named 0) (κs .0) VT, (uint-tells w64, (LL.tells I.the-type I′.the-laws, tt))))
       (λ κs qs bounds a g are. via 𝓤 _ (fst∗ 𝓤 _ (emp 𝓤)) (walk 𝓤 H A W mem run (κs .0) (qs .0) (a .0 .ptr .0) (a .0 .ptr .1) (a .0 .name) (a .0 .now) (a .1 .0) (a .1 .1 .0) (are .1 .0 .1) (are .1 .1 .0) C Λ fm known-listed known-found (are .0 .0 .1)))
 
-at-meets : {M : Type 1} (𝓤 : URA M) (H : Heap 𝓤) (A : Atoms 𝓤) (W : Given 𝓤 H A) (mem : Memory → SProp 𝓤) (run : Routine → Fun 𝓤) (𝓣 : Tables 𝓤 H) → Triple 𝓤 (𝓣 .C #listed·slice·listed) (Listed 𝓤 H A mem run) → Triple 𝓤 (𝓣 .C #listed·create·found) (Among 𝓤 H A mem run)
+at-meets : {M : Type 1} (𝓤 : URA M) (H : Heap 𝓤) (A : Atoms 𝓤) (W : Given 𝓤 H A) (mem : Memory → SProp 𝓤) (run : Routine → Fun 𝓤) (𝓣 : Tables 𝓤 H) → Triple 𝓤 (𝓣 .C #slices·listed) (Listed 𝓤 H A mem run) → Triple 𝓤 (𝓣 .C #listed·create·found) (Among 𝓤 H A mem run)
     → Meets 𝓤 H A at.signature (WpFn 𝓤 H (𝓣 .C) (𝓣 .Λ) code.function) (at.spec 𝓤 H A mem run)
 at-meets 𝓤 H A W mem run 𝓣 known-listed known-found = walk-meets 𝓤 H A at.ended stayed W (goes-none-slice 𝓤 H A W 1 (0 ∷ []) tt (plain (λ _. VT)) yes, (goes-none 𝓤 H A W 1 (λ _. usize) yes (λ κs x f. refl), (goes-none 𝓤 H A W 1 (λ _. IT) yes (λ κs x f. refl), tt)))
     (at.clauses 𝓤 H A mem run) (WpFn 𝓤 H (𝓣 .C) (𝓣 .Λ) code.function) (WpFn-mono 𝓤 H (W .laws) 𝓣 code.function) (at-walks 𝓤 H A W mem run (𝓣 .C) (𝓣 .Λ) (fmOf 𝓤 H (W .laws) 𝓣) known-listed known-found)
@@ -179,5 +179,5 @@ lookup-spec 𝓤 H 𝓜 𝓖 𝓡 =
     entered 𝓤 H (tripleOf 𝓤 H (𝓖 .A) at.signature (at.spec 𝓤 H (𝓖 .A) (𝓜 .mem) (𝓡 .run)))
     (tables 𝓤 H 𝓜 𝓡 code.env .C) (tables 𝓤 H 𝓜 𝓡 code.env .Λ) #listed·create·lookup code.function (code.unfolded 𝓤 H 𝓜 𝓡)
     (at-meets 𝓤 H (𝓖 .A) (givenOf 𝓤 H 𝓜 𝓖) (𝓜 .mem) (𝓡 .run) (tablesOf 𝓤 H 𝓜 (tables 𝓤 H 𝓜 𝓡 code.env))
-    (cited 𝓤 H (Listed 𝓤 H (𝓖 .A) (𝓜 .mem) (𝓡 .run)) 𝓜 𝓡 code.env #listed·slice·listed li-def.routine code.calls-listed·slice·listed (li-thm.met 𝓤 H 𝓜 𝓖 𝓡))
+    (cited 𝓤 H (Listed 𝓤 H (𝓖 .A) (𝓜 .mem) (𝓡 .run)) 𝓜 𝓡 code.env #slices·listed li-def.routine code.calls-slices·listed (li-thm.met 𝓤 H 𝓜 𝓖 𝓡))
     (cited 𝓤 H (Among 𝓤 H (𝓖 .A) (𝓜 .mem) (𝓡 .run)) 𝓜 𝓡 code.env #listed·create·found fo-def.routine code.calls-listed·create·found (fo-thm.met 𝓤 H 𝓜 𝓖 𝓡)))

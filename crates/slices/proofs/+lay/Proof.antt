@@ -1,4 +1,4 @@
--- `slice::lay` meets its contract: a walk of its MIR, by hand, and an induction on the places left. The slice is lent again to `put`, for a lifetime that is made for the call, and comes back; then it is given up to the call of `lay` itself.
+-- `slices::lay` meets its contract: a walk of its MIR, by hand, and an induction on the places left. The slice is lent again to `put`, for a lifetime that is made for the call, and comes back; then it is given up to the call of `lay` itself.
 -- Assumes nothing.
 use mathlib.Core.Path.{_≡_, refl, sym, ap, subst, _∙_}
 use Prim.Native.Nat.{ℕ, _<_, _≤_, _^_, _+_, _-_}
@@ -49,17 +49,17 @@ use Rattle.views.proofs.View as T
 use Rattle.views.proofs.View.Laws as T′
 use Rattle.views.proofs.ViewId as I
 use Rattle.views.proofs.ViewId.Laws as I′
-use Rattle.listed.specs.Slices.{laid}
-use Rattle.listed.proofs.SliceLaws.{laid-last, laid-step}
-use Rattle.listed.proofs.Again.{LentAgain, lends-again, comes-back}
-use Rattle.listed.proofs.slice.put as pu
-use Rattle.listed.proofs.slice.put.Symbol as pu-def
-use Rattle.listed.proofs.slice.put.Symbol.{name as #listed·slice·put}
-use Rattle.listed.proofs.slice.put.Met as pu-thm
-use Rattle.listed.proofs.slice.lay as at
-use Rattle.listed.proofs.slice.lay.Key.{name as #listed·slice·lay}
-use Rattle.listed.proofs.slice.+lay as cycle
-use Rattle.listed.proofs.slice.+lay.Code as code
+use Rattle.slices.specs.Slices.{laid}
+use Rattle.slices.proofs.SliceLaws.{laid-last, laid-step}
+use Rattle.slices.proofs.Again.{LentAgain, lends-again, comes-back}
+use Rattle.slices.proofs.put as pu
+use Rattle.slices.proofs.put.Symbol as pu-def
+use Rattle.slices.proofs.put.Symbol.{name as #slices·put}
+use Rattle.slices.proofs.put.Met as pu-thm
+use Rattle.slices.proofs.lay as at
+use Rattle.slices.proofs.lay.Key.{name as #slices·lay}
+use Rattle.slices.proofs.+lay as cycle
+use Rattle.slices.proofs.+lay.Code as code
 
 abbrev VT : RattleType
 VT = T.the-row
@@ -149,8 +149,8 @@ module _ {M : Type 1} (𝓤 : URA M) (H : Heap 𝓤) (A : Atoms 𝓤) (W : Given
       qed W (‵ (flft κ q) ∷ ‵ (Own κ γ zs) ∷ []) ∵ nothing ! $ owned ! VT (Is VT) (LL.makes T.the-type T′.the-plain 𝓤 H A) noView _ empty-is $ fjoin ! $ owned ! usize (Is usize) (uint-makes 𝓤 H A W w64) (i + 1) _ (refl, g) $ fjoin ! $
       move ! (2 ∷ 0 ∷ []) $ fjoin ! $ nothing ! $ move ! (2 ∷ 0 ∷ []) $ join ! $ join ! $ frame ! $ done !
 
-  module _ (C : Calls 𝓤 H) (Λ : Loops 𝓤 H) (fm : FmC 𝓤 H (W .laws) C) (known : Triple 𝓤 (C #listed·slice·put) (Put 𝓤 H A mem run))
-      (self : (y : Lay 𝓤 H A mem run .Ghost) → left 𝓤 H A mem run y < maxViews - i → ent 𝓤 (Lay 𝓤 H A mem run .pre y) (C #listed·slice·lay (Lay 𝓤 H A mem run .args y) (Lay 𝓤 H A mem run .post y))) where
+  module _ (C : Calls 𝓤 H) (Λ : Loops 𝓤 H) (fm : FmC 𝓤 H (W .laws) C) (known : Triple 𝓤 (C #slices·put) (Put 𝓤 H A mem run))
+      (self : (y : Lay 𝓤 H A mem run .Ghost) → left 𝓤 H A mem run y < maxViews - i → ent 𝓤 (Lay 𝓤 H A mem run .pre y) (C #slices·lay (Lay 𝓤 H A mem run .args y) (Lay 𝓤 H A mem run .post y))) where
     walk : Room VT (length ys) → ent 𝓤 (onEntry 𝓤 H A at.signature (κ, tt) (q, tt) a vals) (WpFn 𝓤 H C Λ code.lay-function (s ∷ vint w64 i ∷ val v ∷ []) Post)
     walk gn =
         qed W ((‵ (flft κ q) ⊛ ‵ ftrue) ∷ ‵ (owns (MutSlice (named 0) κ VT ∷ usize ∷ VT ∷ []) a vals) ∷ []) ∵ split ! $ move ! (2 ∷ []) $ fsplit ! $ keep ! (0 ∷ 2 ∷ []) $
@@ -202,8 +202,8 @@ module _ {M : Type 1} (𝓤 : URA M) (H : Heap 𝓤) (A : Atoms 𝓤) (W : Given
         keep ! (0 ∷ 1 ∷ []) $ by ! (exits (zs′ .0) (e′ ∙ ap (λ (m : List View). laid (maxViews - (i + 1)) m (i + 1) noView) e ∙ laid-step ys i v (nleb→lt maxViews i small)) (l′ ∙ l))))))))))))))))))))))))))))))
 
 -- below is used at an instance with places of its own: all that is asked of it is that fewer are left
-module _ {M : Type 1} (𝓤 : URA M) (H : Heap 𝓤) (A : Atoms 𝓤) (W : Given 𝓤 H A) (mem : Memory → SProp 𝓤) (run : Routine → Fun 𝓤) (𝓣 : Tables 𝓤 H) (known : Triple 𝓤 (𝓣 .C #listed·slice·put) (Put 𝓤 H A mem run)) where
-  at-one : (y : Lay 𝓤 H A mem run .Ghost) → ((z : Lay 𝓤 H A mem run .Ghost) → left 𝓤 H A mem run z < left 𝓤 H A mem run y → ent 𝓤 (Lay 𝓤 H A mem run .pre z) (𝓣 .C #listed·slice·lay (Lay 𝓤 H A mem run .args z) (Lay 𝓤 H A mem run .post z)))
+module _ {M : Type 1} (𝓤 : URA M) (H : Heap 𝓤) (A : Atoms 𝓤) (W : Given 𝓤 H A) (mem : Memory → SProp 𝓤) (run : Routine → Fun 𝓤) (𝓣 : Tables 𝓤 H) (known : Triple 𝓤 (𝓣 .C #slices·put) (Put 𝓤 H A mem run)) where
+  at-one : (y : Lay 𝓤 H A mem run .Ghost) → ((z : Lay 𝓤 H A mem run .Ghost) → left 𝓤 H A mem run z < left 𝓤 H A mem run y → ent 𝓤 (Lay 𝓤 H A mem run .pre z) (𝓣 .C #slices·lay (Lay 𝓤 H A mem run .args z) (Lay 𝓤 H A mem run .post z)))
       → ent 𝓤 (Lay 𝓤 H A mem run .pre y) (WpFn 𝓤 H (𝓣 .C) (𝓣 .Λ) code.lay-function (Lay 𝓤 H A mem run .args y) (Lay 𝓤 H A mem run .post y))
   at-one y self =
       walk-meets-at 𝓤 H A at.ended stayed W (goes-gave-slice 𝓤 H A W 1 0 tt (plain (λ _. VT)), (goes-none 𝓤 H A W 1 (λ _. usize) yes (λ κs x f. refl), (goes-none 𝓤 H A W 1 (λ _. VT) yes (λ κs x f. refl), tt)))
@@ -221,7 +221,7 @@ unfolding code.lay-routine tablesOf
     let mem = 𝓜 .mem in
     let run = 𝓡 .run in
     let 𝓣 = tablesOf 𝓤 H 𝓜 (tables 𝓤 H 𝓜 𝓡 code.env) in
-    let known = cited 𝓤 H (Put 𝓤 H A mem run) 𝓜 𝓡 code.env #listed·slice·put pu-def.routine code.calls-listed·slice·put (pu-thm.met 𝓤 H 𝓜 𝓖 𝓡) in
+    let known = cited 𝓤 H (Put 𝓤 H A mem run) 𝓜 𝓡 code.env #slices·put pu-def.routine code.calls-slices·put (pu-thm.met 𝓤 H 𝓜 𝓖 𝓡) in
     mutual-elim 𝓤 H A (cycle.functions 𝓤 H A mem run) _<_ (Nat·lt-wfRel .wf) (measured 𝓤 H A (record { signature = at.signature; run = run code.lay-routine; spec = at.spec 𝓤 H A mem run }) (left 𝓤 H A mem run))
     (λ t below. at-on 𝓤 H A at.signature (at.spec 𝓤 H A mem run) (WpFn 𝓤 H (𝓣 .C) (𝓣 .Λ) code.lay-function) (run code.lay-routine) (code.lay-unfolded 𝓤 H 𝓜 𝓡) (left 𝓤 H A mem run) t (λ y e.
     at-one 𝓤 H A (givenOf 𝓤 H 𝓜 𝓖) mem run 𝓣 known y (λ z lt. below (left 𝓤 H A mem run z) (subst (λ (m : ℕ). left 𝓤 H A mem run z < m) e lt) z refl)))

@@ -1,15 +1,16 @@
--- The whole list by value: place after place it is the list in its places.
+-- The whole list by value: place after place it is the list in its places. A list laid afresh, place by place.
 use mathlib.Core.Path.{_≡_, refl, sym, _∙_, ap}
 use mathlib.Core.List.{List, [], _∷_, _++_, append-assoc}
 use Prim.Native.Nat.{ℕ, zero, suc, _+_, _-_, _≤_, _<_}
+use native.Mathlib.Decide.{decLe}
 use native.Mathlib.Omega.{arith}
-use lib.ListN.{length, getD, set, take, drop, replicate, length-append}
-use lib.Seq.{set-at}
+use lib.ListN.{length, getD, set, take, drop, replicate, length-append, length-set}
+use lib.Seq.{set-at, getD-set-same, getD-set-other}
 use Rattle.views.specs.declared.View.{View}
 use Rattle.views.specs.declared.list.Views.{Views}
 use Rattle.views.specs.Limits.{maxViews}
 use Rattle.views.specs.Lists.{noView, places, placed}
-use Rattle.listed.specs.Slices.{blank, withView, gathered, laid}
+use Rattle.slices.specs.Slices.{blank, withView, gathered, laid}
 
 -- one more place below the last
 falls : (i : ℕ) → i < maxViews → maxViews - i ≡ suc (maxViews - (i + 1))
@@ -31,6 +32,34 @@ laid-last l i v h = let e : maxViews - i ≡ 0 = omega arith in rw e refl
 pub laid-step : (l : List View) (i : ℕ) (v : View) → i < maxViews → laid (maxViews - (i + 1)) (set l i v) (i + 1) noView ≡ laid (maxViews - i) l i v
 unfolding laid
 laid-step l i v h = rw (falls i h) refl
+
+-- ---- the records that are laid
+
+pub laid-length : (k : ℕ) (l : List View) (i : ℕ) (v : View) → length (laid k l i v) ≡ length l
+unfolding laid
+laid-length zero l i v = refl
+laid-length (suc k) l i v = laid-length k (set l i v) (i + 1) noView ∙ length-set l i v
+
+-- below the place nothing changes
+pub laid-below : (k : ℕ) (l : List View) (i j : ℕ) (v : View) → j < i → getD (laid k l i v) j noView ≡ getD l j noView
+unfolding laid
+laid-below zero l i j v h = refl
+laid-below (suc k) l i j v h = laid-below k (set l i v) (i + 1) j noView (omega (arith, h)) ∙ getD-set-other l i j v noView (λ e. omega (arith, e, h))
+
+pub laid-here : (k : ℕ) (l : List View) (i : ℕ) (v : View) → i < length l → getD (laid (suc k) l i v) i noView ≡ v
+unfolding laid
+laid-here k l i v h = laid-below k (set l i v) (i + 1) i noView (omega arith) ∙ getD-set-same l i v noView h
+
+pub laid-behind : (k : ℕ) (l : List View) (i j : ℕ) (v : View) → i < j → j < i + k → j < length l → getD (laid k l i v) j noView ≡ noView
+unfolding laid
+laid-behind zero l i j v a b c = absurd (omega (arith, a, b))
+laid-behind (suc zero) l i j v a b c = absurd (omega (arith, a, b))
+laid-behind (suc (suc k)) l i j v a b c =
+    let n : j < length (set l i v) = let m : length (set l i v) ≡ length l = length-set l i v in omega (arith, m, c) in
+    elim (decLe j (i + 1)) [ yes h ↦ next n (omega arith) | no h ↦ laid-behind (suc k) (set l i v) (i + 1) j noView (omega arith) (omega (arith, b)) n ]
+  where
+    next : j < length (set l i v) → j ≡ i + 1 → getD (laid (suc k) (set l i v) (i + 1) noView) j noView ≡ noView
+    next n e = ap (λ (m : ℕ). getD (laid (suc k) (set l i v) (i + 1) noView) m noView) e ∙ laid-here k (set l i v) (i + 1) noView (omega (arith, n, e))
 
 -- ---- all places
 

@@ -1,4 +1,4 @@
--- `slice::listed` meets its contract: a walk of its MIR, by hand. The slice can be copied: one copy goes to `gather`, one stays for the exit.
+-- `slices::listed` meets its contract: a walk of its MIR, by hand. The slice can be copied: one copy goes to `gather`, one stays for the exit.
 -- Assumes nothing.
 use mathlib.Core.Path.{_≡_, refl, ap, _∙_}
 use Prim.Native.Nat.{ℕ, _<_, _^_, _-_}
@@ -44,20 +44,20 @@ use Rattle.views.specs.Lists.{placed}
 use Rattle.views.proofs.View as T
 use Rattle.views.proofs.list.Views as L
 use Rattle.views.proofs.list.Views.Laws as L′
-use Rattle.listed.specs.Slices.{blank, gathered}
-use Rattle.listed.proofs.SliceLaws.{gathered-whole}
-use Rattle.listed.proofs.slice.empty as em
-use Rattle.listed.proofs.slice.empty.Symbol as em-def
-use Rattle.listed.proofs.slice.empty.Symbol.{name as #listed·slice·empty}
-use Rattle.listed.proofs.slice.empty.Met as em-thm
-use Rattle.listed.proofs.slice.gather as ga
-use Rattle.listed.proofs.slice.gather.Symbol as ga-def
-use Rattle.listed.proofs.slice.gather.Symbol.{name as #listed·slice·gather}
-use Rattle.listed.proofs.slice.gather.Met as ga-thm
-use Rattle.listed.proofs.slice.listed.Key.{name as #listed·slice·listed}
-use Rattle.listed.proofs.slice.listed as at
-use Rattle.listed.proofs.slice.listed.Statement as stated
-use Rattle.listed.proofs.slice.listed.Code as code
+use Rattle.slices.specs.Slices.{blank, gathered}
+use Rattle.slices.proofs.SliceLaws.{gathered-whole}
+use Rattle.slices.proofs.empty as em
+use Rattle.slices.proofs.empty.Symbol as em-def
+use Rattle.slices.proofs.empty.Symbol.{name as #slices·empty}
+use Rattle.slices.proofs.empty.Met as em-thm
+use Rattle.slices.proofs.gather as ga
+use Rattle.slices.proofs.gather.Symbol as ga-def
+use Rattle.slices.proofs.gather.Symbol.{name as #slices·gather}
+use Rattle.slices.proofs.gather.Met as ga-thm
+use Rattle.slices.proofs.listed.Key.{name as #slices·listed}
+use Rattle.slices.proofs.listed as at
+use Rattle.slices.proofs.listed.Statement as stated
+use Rattle.slices.proofs.listed.Code as code
 
 abbrev VT : RattleType
 VT = T.the-row
@@ -125,7 +125,7 @@ module _ {M : Type 1} (𝓤 : URA M) (H : Heap 𝓤) (A : Atoms 𝓤) (W : Given
       qed W ((‵ (flft κ q) ⊛ ‵ ftrue) ∷ ‵ Own ∷ ‵ (LT .own d (w ∷ [])) ∷ []) ∵
       nothing ! $ move ! (3 ∷ 0 ∷ []) $ fjoin ! $ owned ! usize (Is usize) (uint-makes 𝓤 H A W w64) 0 _ (refl, lit< tt) $ fjoin ! $ move ! (2 ∷ 0 ∷ []) $ fjoin ! $ move ! (1 ∷ 0 ∷ []) $ join ! $ frame ! $ done !
 
-  module _ (C : Calls 𝓤 H) (Λ : Loops 𝓤 H) (fm : FmC 𝓤 H (W .laws) C) (known-empty : Triple 𝓤 (C #listed·slice·empty) (Empty 𝓤 H A mem run)) (known-gather : Triple 𝓤 (C #listed·slice·gather) (Gather 𝓤 H A mem run)) where
+  module _ (C : Calls 𝓤 H) (Λ : Loops 𝓤 H) (fm : FmC 𝓤 H (W .laws) C) (known-empty : Triple 𝓤 (C #slices·empty) (Empty 𝓤 H A mem run)) (known-gather : Triple 𝓤 (C #slices·gather) (Gather 𝓤 H A mem run)) where
     walk : ent 𝓤 (onEntry 𝓤 H A at.signature (κ, tt) (q, tt) a vals) (WpFn 𝓤 H C Λ code.function (s ∷ []) Post)
     walk =
         qed W ((‵ (flft κ q) ⊛ ‵ ftrue) ∷ ‵ (owns (ShrSlice (named 0) κ VT ∷ []) a vals) ∷ []) ∵ move ! (1 ∷ []) $ fsplit ! $
@@ -152,11 +152,11 @@ module _ {M : Type 1} (𝓤 : URA M) (H : Heap 𝓤) (A : Atoms 𝓤) (W : Given
         keep ! (1 ∷ 2 ∷ 0 ∷ []) $ by ! (exits r w (g ∙ ap (gathered maxViews ys 0) e ∙ gathered-whole ys))))))))))))))
 
 module _ {M : Type 1} (𝓤 : URA M) (H : Heap 𝓤) (A : Atoms 𝓤) (W : Given 𝓤 H A) (mem : Memory → SProp 𝓤) (run : Routine → Fun 𝓤) where
-  at-walks : (C : Calls 𝓤 H) (Λ : Loops 𝓤 H) → FmC 𝓤 H (W .laws) C → Triple 𝓤 (C #listed·slice·empty) (Empty 𝓤 H A mem run) → Triple 𝓤 (C #listed·slice·gather) (Gather 𝓤 H A mem run) → Walks 𝓤 H A at.ended stayed (WpFn 𝓤 H C Λ code.function) (at.clauses 𝓤 H A mem run)
+  at-walks : (C : Calls 𝓤 H) (Λ : Loops 𝓤 H) → FmC 𝓤 H (W .laws) C → Triple 𝓤 (C #slices·empty) (Empty 𝓤 H A mem run) → Triple 𝓤 (C #slices·gather) (Gather 𝓤 H A mem run) → Walks 𝓤 H A at.ended stayed (WpFn 𝓤 H C Λ code.function) (at.clauses 𝓤 H A mem run)
   at-walks C Λ fm known-empty known-gather = walked 𝓤 H A at.ended stayed (at.clauses 𝓤 H A mem run) (WpFn 𝓤 H C Λ code.function) (λ κs. (slice-vals, tt)) (λ κs. (shr-slice-tells (named 0) (κs .0) VT, tt))
       (λ κs qs bounds a g are. via 𝓤 _ (fst∗ 𝓤 _ (emp 𝓤)) (walk 𝓤 H A W mem run (κs .0) (qs .0) (a .0 .ptr .0) (a .0 .ptr .1) (a .0 .name) (a .0 .now) (are .0 .0 .1) C Λ fm known-empty known-gather))
 
-at-meets : {M : Type 1} (𝓤 : URA M) (H : Heap 𝓤) (A : Atoms 𝓤) (W : Given 𝓤 H A) (mem : Memory → SProp 𝓤) (run : Routine → Fun 𝓤) (𝓣 : Tables 𝓤 H) → Triple 𝓤 (𝓣 .C #listed·slice·empty) (Empty 𝓤 H A mem run) → Triple 𝓤 (𝓣 .C #listed·slice·gather) (Gather 𝓤 H A mem run)
+at-meets : {M : Type 1} (𝓤 : URA M) (H : Heap 𝓤) (A : Atoms 𝓤) (W : Given 𝓤 H A) (mem : Memory → SProp 𝓤) (run : Routine → Fun 𝓤) (𝓣 : Tables 𝓤 H) → Triple 𝓤 (𝓣 .C #slices·empty) (Empty 𝓤 H A mem run) → Triple 𝓤 (𝓣 .C #slices·gather) (Gather 𝓤 H A mem run)
     → Meets 𝓤 H A at.signature (WpFn 𝓤 H (𝓣 .C) (𝓣 .Λ) code.function) (at.spec 𝓤 H A mem run)
 at-meets 𝓤 H A W mem run 𝓣 known-empty known-gather = walk-meets 𝓤 H A at.ended stayed W (goes-none-slice 𝓤 H A W 1 (0 ∷ []) tt (plain (λ _. VT)) yes, tt) (at.clauses 𝓤 H A mem run) (WpFn 𝓤 H (𝓣 .C) (𝓣 .Λ) code.function) (WpFn-mono 𝓤 H (W .laws) 𝓣 code.function)
     (at-walks 𝓤 H A W mem run (𝓣 .C) (𝓣 .Λ) (fmOf 𝓤 H (W .laws) 𝓣) known-empty known-gather)
@@ -165,7 +165,7 @@ pub listed-spec : {M : Type 1} → stated.statement M
 unfolding code.routine tablesOf
 listed-spec 𝓤 H 𝓜 𝓖 𝓡 =
     entered 𝓤 H (tripleOf 𝓤 H (𝓖 .A) at.signature (at.spec 𝓤 H (𝓖 .A) (𝓜 .mem) (𝓡 .run)))
-    (tables 𝓤 H 𝓜 𝓡 code.env .C) (tables 𝓤 H 𝓜 𝓡 code.env .Λ) #listed·slice·listed code.function (code.unfolded 𝓤 H 𝓜 𝓡)
+    (tables 𝓤 H 𝓜 𝓡 code.env .C) (tables 𝓤 H 𝓜 𝓡 code.env .Λ) #slices·listed code.function (code.unfolded 𝓤 H 𝓜 𝓡)
     (at-meets 𝓤 H (𝓖 .A) (givenOf 𝓤 H 𝓜 𝓖) (𝓜 .mem) (𝓡 .run) (tablesOf 𝓤 H 𝓜 (tables 𝓤 H 𝓜 𝓡 code.env))
-    (cited 𝓤 H (Empty 𝓤 H (𝓖 .A) (𝓜 .mem) (𝓡 .run)) 𝓜 𝓡 code.env #listed·slice·empty em-def.routine code.calls-listed·slice·empty (em-thm.met 𝓤 H 𝓜 𝓖 𝓡))
-    (cited 𝓤 H (Gather 𝓤 H (𝓖 .A) (𝓜 .mem) (𝓡 .run)) 𝓜 𝓡 code.env #listed·slice·gather ga-def.routine code.calls-listed·slice·gather (ga-thm.met 𝓤 H 𝓜 𝓖 𝓡)))
+    (cited 𝓤 H (Empty 𝓤 H (𝓖 .A) (𝓜 .mem) (𝓡 .run)) 𝓜 𝓡 code.env #slices·empty em-def.routine code.calls-slices·empty (em-thm.met 𝓤 H 𝓜 𝓖 𝓡))
+    (cited 𝓤 H (Gather 𝓤 H (𝓖 .A) (𝓜 .mem) (𝓡 .run)) 𝓜 𝓡 code.env #slices·gather ga-def.routine code.calls-slices·gather (ga-thm.met 𝓤 H 𝓜 𝓖 𝓡)))

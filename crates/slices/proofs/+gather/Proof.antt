@@ -1,4 +1,4 @@
--- `slice::gather` meets its contract: a walk of its MIR, by hand, and an induction on the places left. The slice can be copied: one copy goes to each call, and one stays for the exit.
+-- `slices::gather` meets its contract: a walk of its MIR, by hand, and an induction on the places left. The slice can be copied: one copy goes to each call, and one stays for the exit.
 -- Assumes nothing.
 use mathlib.Core.Path.{_≡_, refl, sym, ap, subst, _∙_}
 use Prim.Native.Nat.{ℕ, _<_, _≤_, _^_, _*_, _+_, _-_}
@@ -47,20 +47,20 @@ use Rattle.views.proofs.View as T
 use Rattle.views.proofs.View.Laws as T′
 use Rattle.views.proofs.list.Views as L
 use Rattle.views.proofs.list.Views.Laws as L′
-use Rattle.listed.specs.Slices.{withView, gathered}
-use Rattle.listed.proofs.SliceLaws.{gathered-last, gathered-step}
-use Rattle.listed.proofs.slice.view_or as vo
-use Rattle.listed.proofs.slice.view_or.Symbol as vo-def
-use Rattle.listed.proofs.slice.view_or.Symbol.{name as #listed·slice·view-or}
-use Rattle.listed.proofs.slice.view_or.Met as vo-thm
-use Rattle.listed.proofs.slice.with_view as wv
-use Rattle.listed.proofs.slice.with_view.Symbol as wv-def
-use Rattle.listed.proofs.slice.with_view.Symbol.{name as #listed·slice·with-view}
-use Rattle.listed.proofs.slice.with_view.Met as wv-thm
-use Rattle.listed.proofs.slice.gather as at
-use Rattle.listed.proofs.slice.gather.Key.{name as #listed·slice·gather}
-use Rattle.listed.proofs.slice.+gather as cycle
-use Rattle.listed.proofs.slice.+gather.Code as code
+use Rattle.slices.specs.Slices.{withView, gathered}
+use Rattle.slices.proofs.SliceLaws.{gathered-last, gathered-step}
+use Rattle.slices.proofs.view_or as vo
+use Rattle.slices.proofs.view_or.Symbol as vo-def
+use Rattle.slices.proofs.view_or.Symbol.{name as #slices·view-or}
+use Rattle.slices.proofs.view_or.Met as vo-thm
+use Rattle.slices.proofs.with_view as wv
+use Rattle.slices.proofs.with_view.Symbol as wv-def
+use Rattle.slices.proofs.with_view.Symbol.{name as #slices·with-view}
+use Rattle.slices.proofs.with_view.Met as wv-thm
+use Rattle.slices.proofs.gather as at
+use Rattle.slices.proofs.gather.Key.{name as #slices·gather}
+use Rattle.slices.proofs.+gather as cycle
+use Rattle.slices.proofs.+gather.Code as code
 
 abbrev VT : RattleType
 VT = T.the-row
@@ -156,8 +156,8 @@ module _ {M : Type 1} (𝓤 : URA M) (H : Heap 𝓤) (A : Atoms 𝓤) (W : Given
       qed W ((‵ (flft κ q) ⊛ ‵ ftrue) ∷ ‵ Own ∷ ‵ (LT .own e (w ∷ [])) ∷ []) ∵
       nothing ! $ move ! (3 ∷ 0 ∷ []) $ fjoin ! $ owned ! usize (Is usize) (uint-makes 𝓤 H A W w64) (i + 1) _ (refl, g) $ fjoin ! $ move ! (2 ∷ 0 ∷ []) $ fjoin ! $ move ! (1 ∷ 0 ∷ []) $ join ! $ frame ! $ done !
 
-  module _ (C : Calls 𝓤 H) (Λ : Loops 𝓤 H) (fm : FmC 𝓤 H (W .laws) C) (known-view : Triple 𝓤 (C #listed·slice·view-or) (ViewOr 𝓤 H A mem run)) (known-with : Triple 𝓤 (C #listed·slice·with-view) (WithView 𝓤 H A mem run))
-      (self : (y : Gather 𝓤 H A mem run .Ghost) → left 𝓤 H A mem run y < maxViews - i → ent 𝓤 (Gather 𝓤 H A mem run .pre y) (C #listed·slice·gather (Gather 𝓤 H A mem run .args y) (Gather 𝓤 H A mem run .post y))) where
+  module _ (C : Calls 𝓤 H) (Λ : Loops 𝓤 H) (fm : FmC 𝓤 H (W .laws) C) (known-view : Triple 𝓤 (C #slices·view-or) (ViewOr 𝓤 H A mem run)) (known-with : Triple 𝓤 (C #slices·with-view) (WithView 𝓤 H A mem run))
+      (self : (y : Gather 𝓤 H A mem run .Ghost) → left 𝓤 H A mem run y < maxViews - i → ent 𝓤 (Gather 𝓤 H A mem run .pre y) (C #slices·gather (Gather 𝓤 H A mem run .args y) (Gather 𝓤 H A mem run .post y))) where
     walk : Room VT (length ys) → ent 𝓤 (onEntry 𝓤 H A at.signature (κ, tt) (q, tt) (x, (i, (d, tt))) vals) (WpFn 𝓤 H C Λ code.gather-function (s ∷ vint w64 i ∷ val d ∷ []) Post)
     walk gn =
         qed W ((‵ (flft κ q) ⊛ ‵ ftrue) ∷ ‵ (owns (ShrSlice (named 0) κ VT ∷ usize ∷ LT ∷ []) (x, (i, (d, tt))) vals) ∷ []) ∵ move ! (1 ∷ []) $ fsplit ! $
@@ -201,8 +201,8 @@ module _ {M : Type 1} (𝓤 : URA M) (H : Heap 𝓤) (A : Atoms 𝓤) (W : Given
         keep ! (0 ∷ 1 ∷ []) $ by ! (exits r z (g ∙ ap (gathered (maxViews - (i + 1)) ys (i + 1)) (f ∙ ap (withView d i) e) ∙ gathered-step ys i d (nleb→lt maxViews i small)) gr))))))))))))))))))))))
 
 -- below is used at an instance with places of its own: all that is asked of it is that fewer are left
-module _ {M : Type 1} (𝓤 : URA M) (H : Heap 𝓤) (A : Atoms 𝓤) (W : Given 𝓤 H A) (mem : Memory → SProp 𝓤) (run : Routine → Fun 𝓤) (𝓣 : Tables 𝓤 H) (known-view : Triple 𝓤 (𝓣 .C #listed·slice·view-or) (ViewOr 𝓤 H A mem run)) (known-with : Triple 𝓤 (𝓣 .C #listed·slice·with-view) (WithView 𝓤 H A mem run)) where
-  at-one : (y : Gather 𝓤 H A mem run .Ghost) → ((z : Gather 𝓤 H A mem run .Ghost) → left 𝓤 H A mem run z < left 𝓤 H A mem run y → ent 𝓤 (Gather 𝓤 H A mem run .pre z) (𝓣 .C #listed·slice·gather (Gather 𝓤 H A mem run .args z) (Gather 𝓤 H A mem run .post z)))
+module _ {M : Type 1} (𝓤 : URA M) (H : Heap 𝓤) (A : Atoms 𝓤) (W : Given 𝓤 H A) (mem : Memory → SProp 𝓤) (run : Routine → Fun 𝓤) (𝓣 : Tables 𝓤 H) (known-view : Triple 𝓤 (𝓣 .C #slices·view-or) (ViewOr 𝓤 H A mem run)) (known-with : Triple 𝓤 (𝓣 .C #slices·with-view) (WithView 𝓤 H A mem run)) where
+  at-one : (y : Gather 𝓤 H A mem run .Ghost) → ((z : Gather 𝓤 H A mem run .Ghost) → left 𝓤 H A mem run z < left 𝓤 H A mem run y → ent 𝓤 (Gather 𝓤 H A mem run .pre z) (𝓣 .C #slices·gather (Gather 𝓤 H A mem run .args z) (Gather 𝓤 H A mem run .post z)))
       → ent 𝓤 (Gather 𝓤 H A mem run .pre y) (WpFn 𝓤 H (𝓣 .C) (𝓣 .Λ) code.gather-function (Gather 𝓤 H A mem run .args y) (Gather 𝓤 H A mem run .post y))
   at-one y self =
       walk-meets-at 𝓤 H A at.ended stayed W (goes-none-slice 𝓤 H A W 1 (0 ∷ []) tt (plain (λ _. VT)) yes, (goes-none 𝓤 H A W 1 (λ _. usize) yes (λ κs x f. refl), (goes-none 𝓤 H A W 1 (λ _. LT) yes (λ κs x f. refl), tt)))
@@ -220,8 +220,8 @@ unfolding code.gather-routine tablesOf
     let mem = 𝓜 .mem in
     let run = 𝓡 .run in
     let 𝓣 = tablesOf 𝓤 H 𝓜 (tables 𝓤 H 𝓜 𝓡 code.env) in
-    let known-view = cited 𝓤 H (ViewOr 𝓤 H A mem run) 𝓜 𝓡 code.env #listed·slice·view-or vo-def.routine code.calls-listed·slice·view-or (vo-thm.met 𝓤 H 𝓜 𝓖 𝓡) in
-    let known-with = cited 𝓤 H (WithView 𝓤 H A mem run) 𝓜 𝓡 code.env #listed·slice·with-view wv-def.routine code.calls-listed·slice·with-view (wv-thm.met 𝓤 H 𝓜 𝓖 𝓡) in
+    let known-view = cited 𝓤 H (ViewOr 𝓤 H A mem run) 𝓜 𝓡 code.env #slices·view-or vo-def.routine code.calls-slices·view-or (vo-thm.met 𝓤 H 𝓜 𝓖 𝓡) in
+    let known-with = cited 𝓤 H (WithView 𝓤 H A mem run) 𝓜 𝓡 code.env #slices·with-view wv-def.routine code.calls-slices·with-view (wv-thm.met 𝓤 H 𝓜 𝓖 𝓡) in
     mutual-elim 𝓤 H A (cycle.functions 𝓤 H A mem run) _<_ (Nat·lt-wfRel .wf) (measured 𝓤 H A (record { signature = at.signature; run = run code.gather-routine; spec = at.spec 𝓤 H A mem run }) (left 𝓤 H A mem run))
     (λ t below. at-on 𝓤 H A at.signature (at.spec 𝓤 H A mem run) (WpFn 𝓤 H (𝓣 .C) (𝓣 .Λ) code.gather-function) (run code.gather-routine) (code.gather-unfolded 𝓤 H 𝓜 𝓡) (left 𝓤 H A mem run) t (λ y e.
     at-one 𝓤 H A (givenOf 𝓤 H 𝓜 𝓖) mem run 𝓣 known-view known-with y (λ z lt. below (left 𝓤 H A mem run z) (subst (λ (m : ℕ). left 𝓤 H A mem run z < m) e lt) z refl)))

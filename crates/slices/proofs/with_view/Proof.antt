@@ -1,4 +1,4 @@
--- `slice::with_view` meets its contract: past the last place nothing is set.
+-- `slices::with_view` meets its contract: past the last place nothing is set.
 use mathlib.Core.Path.{_≡_, sym, ap}
 use mathlib.Core.List.{List}
 use native.Mathlib.Omega.{arith}
@@ -7,8 +7,8 @@ use lib.ListN.{length, length-map}
 use lib.Seq.{set-out}
 use Rattle.views.specs.declared.View.{View}
 use Rattle.views.specs.declared.list.Views.{Views}
-use Rattle.listed.proofs.slice.with_view.Statement.{statement}
-use Rattle.listed.proofs.slice.with_view.Tie as tie
+use Rattle.slices.proofs.with_view.Statement.{statement}
+use Rattle.slices.proofs.with_view.Tie as tie
 
 mul-v : tie.Need-mul-v
 mul-v c = search needs

@@ -1,4 +1,4 @@
--- `slice::put` meets its contract: a walk of its MIR, by hand. The slice is opened, one view is taken out of the row and stored to, and the slice is closed at the new list; past the end the list stays.
+-- `slices::put` meets its contract: a walk of its MIR, by hand. The slice is opened, one view is taken out of the row and stored to, and the slice is closed at the new list; past the end the list stays.
 -- Assumes nothing.
 use mathlib.Core.Path.{_≡_, refl, sym, ap, subst}
 use Prim.Native.Nat.{ℕ, _<_, _^_, _*_, _+_}
@@ -44,10 +44,10 @@ use Rattle.views.specs.declared.View.{View}
 use Rattle.views.specs.Lists.{noView}
 use Rattle.views.proofs.View as T
 use Rattle.views.proofs.View.Laws as T′
-use Rattle.listed.proofs.slice.put.Key.{name as #listed·slice·put}
-use Rattle.listed.proofs.slice.put as put
-use Rattle.listed.proofs.slice.put.Statement as stated
-use Rattle.listed.proofs.slice.put.Code as code
+use Rattle.slices.proofs.put.Key.{name as #slices·put}
+use Rattle.slices.proofs.put as put
+use Rattle.slices.proofs.put.Statement as stated
+use Rattle.slices.proofs.put.Code as code
 
 abbrev VT : RattleType
 VT = T.the-row
@@ -128,5 +128,5 @@ pub put-spec : {M : Type 1} → stated.statement M
 unfolding code.routine tablesOf
 put-spec 𝓤 H 𝓜 𝓖 𝓡 =
     entered 𝓤 H (tripleOf 𝓤 H (𝓖 .A) put.signature (put.spec 𝓤 H (𝓖 .A) (𝓜 .mem) (𝓡 .run)))
-    (tables 𝓤 H 𝓜 𝓡 code.env .C) (tables 𝓤 H 𝓜 𝓡 code.env .Λ) #listed·slice·put code.function (code.unfolded 𝓤 H 𝓜 𝓡)
+    (tables 𝓤 H 𝓜 𝓡 code.env .C) (tables 𝓤 H 𝓜 𝓡 code.env .Λ) #slices·put code.function (code.unfolded 𝓤 H 𝓜 𝓡)
     (put-meets 𝓤 H (𝓖 .A) (givenOf 𝓤 H 𝓜 𝓖) (𝓜 .mem) (𝓡 .run) (tablesOf 𝓤 H 𝓜 (tables 𝓤 H 𝓜 𝓡 code.env)))

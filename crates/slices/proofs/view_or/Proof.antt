@@ -1,4 +1,4 @@
--- `slice::view_or` meets its contract: a walk of its MIR, by hand. The slice is looked into, one view is taken out of the row, read and put back; past the end it is none.
+-- `slices::view_or` meets its contract: a walk of its MIR, by hand. The slice is looked into, one view is taken out of the row, read and put back; past the end it is none.
 -- Assumes nothing.
 use mathlib.Core.Path.{_≡_, refl, sym, ap, subst}
 use Prim.Native.Nat.{ℕ, _<_, _^_, _*_, _+_}
@@ -43,10 +43,10 @@ use Rattle.views.proofs.View as T
 use Rattle.views.proofs.View.Laws as T′
 use Rattle.views.proofs.ViewId as I
 use Rattle.views.proofs.ViewId.Laws as I′
-use Rattle.listed.proofs.slice.view_or.Key.{name as #listed·slice·view-or}
-use Rattle.listed.proofs.slice.view_or as at
-use Rattle.listed.proofs.slice.view_or.Statement as stated
-use Rattle.listed.proofs.slice.view_or.Code as code
+use Rattle.slices.proofs.view_or.Key.{name as #slices·view-or}
+use Rattle.slices.proofs.view_or as at
+use Rattle.slices.proofs.view_or.Statement as stated
+use Rattle.slices.proofs.view_or.Code as code
 
 abbrev VT : RattleType
 VT = T.the-row
@@ -131,5 +131,5 @@ pub view-or-spec : {M : Type 1} → stated.statement M
 unfolding code.routine tablesOf
 view-or-spec 𝓤 H 𝓜 𝓖 𝓡 =
     entered 𝓤 H (tripleOf 𝓤 H (𝓖 .A) at.signature (at.spec 𝓤 H (𝓖 .A) (𝓜 .mem) (𝓡 .run)))
-    (tables 𝓤 H 𝓜 𝓡 code.env .C) (tables 𝓤 H 𝓜 𝓡 code.env .Λ) #listed·slice·view-or code.function (code.unfolded 𝓤 H 𝓜 𝓡)
+    (tables 𝓤 H 𝓜 𝓡 code.env .C) (tables 𝓤 H 𝓜 𝓡 code.env .Λ) #slices·view-or code.function (code.unfolded 𝓤 H 𝓜 𝓡)
     (at-meets 𝓤 H (𝓖 .A) (givenOf 𝓤 H 𝓜 𝓖) (𝓜 .mem) (𝓡 .run) (tablesOf 𝓤 H 𝓜 (tables 𝓤 H 𝓜 𝓡 code.env)))

@@ -1,4 +1,4 @@
-// A list of views that the host lends as a slice of records: one view of it read or written, and the whole list by value.
+// A list of views that the host lends as a slice of records: one view of it read or put, the whole list by value, and a list laid afresh.
 // A function that takes such a slice is proved by a walk of its own; what can be done by value is done in others.
 use views::View;
 use views::ViewId;
@@ -9,7 +9,7 @@ ghost use Prim.Native.Nat.{_-_};
 ghost use lib.ListN.{getD, set};
 ghost use Rattle.views.specs.Limits.{maxViews};
 ghost use Rattle.views.specs.Lists.{noView, placed};
-ghost use Rattle.listed.specs.Slices.{blank, withView, gathered, laid};
+ghost use Rattle.slices.specs.Slices.{blank, withView, gathered, laid};
 
 // The view at a place of the list, none past its end.
 pub fn view_or(list: &[View], i: usize) -> View
