@@ -1,6 +1,8 @@
 pub mod BytesLaws
 pub mod CreateLaws
 pub mod Fits
+pub mod ListBytes
 pub mod ListLaws
+pub mod ListRuns
 pub mod StartLaws
 pub mod StepLaws

@@ -18,6 +18,7 @@ use Rattle.wire.proofs.ReaderLaws.{length-viewsIn}
 use Rattle.wire.proofs.SeamLaws.{length-viewsBytes}
 use Rattle.wire.proofs.TripViews.{ViewFits, EachFits, views-back}
 use Rattle.rules.specs.Data.{Step}
+use Rattle.slots.specs.Changes.{storeView}
 use Rattle.slots.proofs.Outside.{Changed, Apart, changed-none, storeView-changed, view-apart}
 use Rattle.steps.specs.Turns.{verdictOf}
 use Rattle.groups.specs.Places.{viewSize, roomOf}
@@ -35,25 +36,29 @@ module _ (r : Ranges) (c : Step) where
   same : Kept (r .list)
   same = changed-none (r .list) (viewSize * madeOf r) 5
 
-  moved-changed : (k : ℕ) → Kept (moved r (record { kind = k; first = c .first; second = c .second }) .list)
+  abbrev next : View
+  next = record { id = record { 0 = c .first }; set = c .second }
+
+  -- what holds of the list, and in a create of the list with its view stored, holds of the list that an accepted step leaves
+  pub moved-list : (P : List ℕ → Type 0) (k : ℕ) → P (r .list) → (k ≡ 1 → P (storeView (r .list) (viewSize * madeOf r) next)) → P (moved r (record { kind = k; first = c .first; second = c .second }) .list)
   unfolding moved pickRanges createRanges joinRanges passRanges orderRanges deliverRanges
-  moved-changed zero = same
-  moved-changed (suc zero) = storeView-changed (r .list) (viewSize * madeOf r) _
-  moved-changed (suc (suc zero)) = same
-  moved-changed (suc (suc (suc zero))) = same
-  moved-changed (suc (suc (suc (suc zero)))) = same
-  moved-changed (suc (suc (suc (suc (suc zero))))) = same
-  moved-changed (suc (suc (suc (suc (suc (suc zero)))))) = same
-  moved-changed (suc (suc (suc (suc (suc (suc (suc zero))))))) = same
-  moved-changed (suc (suc (suc (suc (suc (suc (suc (suc zero)))))))) = same
-  moved-changed (suc (suc (suc (suc (suc (suc (suc (suc (suc zero))))))))) = same
-  moved-changed (suc (suc (suc (suc (suc (suc (suc (suc (suc (suc zero)))))))))) = same
-  moved-changed (suc (suc (suc (suc (suc (suc (suc (suc (suc (suc (suc zero))))))))))) = same
-  moved-changed (suc (suc (suc (suc (suc (suc (suc (suc (suc (suc (suc (suc zero)))))))))))) = same
-  moved-changed (suc (suc (suc (suc (suc (suc (suc (suc (suc (suc (suc (suc (suc k))))))))))))) = same
+  moved-list P zero s m = s
+  moved-list P (suc zero) s m = m refl
+  moved-list P (suc (suc zero)) s m = s
+  moved-list P (suc (suc (suc zero))) s m = s
+  moved-list P (suc (suc (suc (suc zero)))) s m = s
+  moved-list P (suc (suc (suc (suc (suc zero))))) s m = s
+  moved-list P (suc (suc (suc (suc (suc (suc zero)))))) s m = s
+  moved-list P (suc (suc (suc (suc (suc (suc (suc zero))))))) s m = s
+  moved-list P (suc (suc (suc (suc (suc (suc (suc (suc zero)))))))) s m = s
+  moved-list P (suc (suc (suc (suc (suc (suc (suc (suc (suc zero))))))))) s m = s
+  moved-list P (suc (suc (suc (suc (suc (suc (suc (suc (suc (suc zero)))))))))) s m = s
+  moved-list P (suc (suc (suc (suc (suc (suc (suc (suc (suc (suc (suc zero))))))))))) s m = s
+  moved-list P (suc (suc (suc (suc (suc (suc (suc (suc (suc (suc (suc (suc zero)))))))))))) s m = s
+  moved-list P (suc (suc (suc (suc (suc (suc (suc (suc (suc (suc (suc (suc (suc k))))))))))))) s m = s
 
   left-changed : (v : Verdict) → Kept (leftRanges v (moved r c) r .list)
-  left-changed Accepted = moved-changed (c .kind)
+  left-changed Accepted = moved-list Kept (c .kind) same (λ e. storeView-changed (r .list) (viewSize * madeOf r) next)
   left-changed (Refused x) = same
 
   pub step-changed : Kept (stepRanges r c .list)

@@ -3,7 +3,7 @@ use mathlib.Core.Path.{_≡_, refl, sym, _∙_, ap, subst}
 use mathlib.Core.List.{List}
 use mathlib.Core.Bool.{true, false}
 use mathlib.Core.Logic.{⊎-elim}
-use Prim.Native.Nat.{ℕ, _*_, _/_, _≤_, _<_, min}
+use Prim.Native.Nat.{ℕ, _*_, _≤_, _<_, min}
 use native.Mathlib.Decide.{decLe}
 use native.Mathlib.Omega.{arith}
 use borrow.Author.Tests.{lt-ltb, le-ltb}
@@ -80,7 +80,7 @@ refused-stays : (x : Result Next) (new old : Ranges) (r : Refusal) → nextReply
 refused-stays (refused y) new old r e = refl
 refused-stays (accepted y) new old r e = let i : _≡_ {A = ℕ} 0 1 = cc in absurd (omega arith)
 
-step-stays : (r : Ranges) (c : Step) (y : Refusal) → stepReply r c .verdict ≡ Refused y → stepRanges r c ≡ r
+pub step-stays : (r : Ranges) (c : Step) (y : Refusal) → stepReply r c .verdict ≡ Refused y → stepRanges r c ≡ r
 unfolding stepReply stepRanges
 step-stays r c y e = refused-stays (stepResult r c) (moved r c) r y e
 

@@ -1,3 +1,4 @@
 pub mod Calls
 pub mod Creates
 pub mod Parts
+pub mod Runs
