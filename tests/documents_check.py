@@ -1,5 +1,6 @@
 #!/usr/bin/env python3
-"""documents_check.py: whether the documents name files that are there, and docs/TRUST.md counts their lines right.
+"""documents_check.py: whether the documents name files that are there, docs/TRUST.md counts their lines right, and README.md shows the stored
+session of the bench and the stored example.
 
     python3 tests/documents_check.py          says what is wrong, and exits with 1 where something is
     python3 tests/documents_check.py write    puts the right counts into docs/TRUST.md"""
@@ -55,6 +56,24 @@ for document in DOCUMENTS:
     for name in re.findall(r'`((?:crates|tests|examples|include|docs)/[\w./-]+\.\w+)`', document.read_text()):
         if not (ROOT / name).exists():
             faults.append('%s names %s, which is not there' % (document.relative_to(ROOT), name))
+
+
+def shown(heading):
+    """The indented lines of a section of README.md."""
+    section = (ROOT / 'README.md').read_text().split('\n## %s\n' % heading)[1].split('\n## ')[0]
+    return [line[4:] for line in section.split('\n') if line.startswith('    ')]
+
+
+def stored(path):
+    return (ROOT / path).read_text().splitlines()
+
+
+session = [re.split(r' {2,}', line)[:2] for line in shown('A session with the bench')]
+if session != [list(pair) for pair in zip(stored('tests/scripts/readme-session.txt'), stored('tests/scripts/readme-session.out'))]:
+    faults.append('README.md shows another session than tests/scripts/readme-session')
+example = [line for line in stored('examples/first/first.cpp') if line and not line.startswith('//')]
+if example != [line for line in shown('How to link it') if line in example]:
+    faults.append('README.md shows another example than examples/first/first.cpp')
 for fault in faults:
     print(fault)
 sys.exit(1 if faults else 0)
