@@ -6,7 +6,6 @@ use crate::refuse;
 use crate::speak;
 use books::Book;
 use steps::Stepped;
-use steps::turn;
 use views::Member;
 use views::View;
 use views::limits;
@@ -57,7 +56,7 @@ pub fn hand(b: &mut [u8]) -> Reply
 {
     let h = books::load(b);
     let at = books::INWARD + books::APART * (h.side as usize);
-    let s = turn::hand(h, b[at]);
+    let s = client_turns::hand(h, b[at]);
     let e = of_item(b, at, h.handed.0, crate::HAND, h);
     speak::keep(b, s, e)
 }
@@ -70,7 +69,7 @@ pub fn safe(b: &mut [u8]) -> Reply
 {
     let h = books::load(b);
     let at = books::INWARD + books::APART * (h.side as usize);
-    let s = turn::safe(b[books::MEMBERS], h, b[at]);
+    let s = client_turns::safe(b[books::MEMBERS], h, b[at]);
     let e = of_item(b, at, h.reported.0, crate::SAFE, h);
     speak::keep(b, s, e)
 }
@@ -82,7 +81,7 @@ pub fn collect(b: &mut [u8]) -> Reply
         × (now (b .exit) ≡ left (verdictOf (collects (membersIn (now (b .entry))) (bookIn (now (b .entry))))) (collectBytes (now (b .entry))) (now (b .entry))) ⌝ }
 {
     let h = books::load(b);
-    let s = turn::collect(b[books::MEMBERS], h);
+    let s = view_turns::collect(b[books::MEMBERS], h);
     let e = no_event();
     speak::keep(b, s, e)
 }
@@ -110,7 +109,7 @@ pub fn attempt(b: &mut [u8]) -> Reply
         × (now (b .exit) ≡ left (verdictOf (fewOpen (attempts one (membersIn (now (b .entry))) (selfIn (now (b .entry))) (bookIn (now (b .entry)))))) (attemptBytes (now (b .entry))) (now (b .entry))) ⌝ }
 {
     let h = books::load(b);
-    let s = few_open(turn::attempt(b[books::MEMBERS], h), h);
+    let s = few_open(view_turns::attempt(b[books::MEMBERS], h), h);
     let verdict = s.verdict;
     match verdict {
         Verdict::Refused(r) => refuse(r),

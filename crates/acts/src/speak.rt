@@ -6,7 +6,6 @@ use crate::no_event;
 use crate::refuse;
 use books::Book;
 use steps::Stepped;
-use steps::turn;
 use views::Member;
 use views::View;
 use views::refusal::Verdict;
@@ -85,7 +84,7 @@ fn spoken(h: Book, kind: u8, number: u64) -> Said
     let client = h.client;
     let carrier = h.carrier;
     Said {
-        there: steps::ask::same_view(client, carrier),
+        there: asks::same_view(client, carrier),
         kind,
         number,
     }
@@ -114,7 +113,7 @@ pub fn register(b: &mut [u8]) -> Reply
 {
     let h = books::load(b);
     let p = Member(b[books::SELF]);
-    let s = turn::register(h, b[books::OUTGOING]);
+    let s = client_turns::register(h, b[books::OUTGOING]);
     let m = spoken(h, format::REGISTERED, 0);
     let e = in_client(h, crate::REGISTER, p, 0);
     commit(b, s, m, e)
@@ -128,7 +127,7 @@ pub fn send(b: &mut [u8], entry: u64) -> Reply
 {
     let h = books::load(b);
     let p = Member(b[books::SELF]);
-    let s = turn::send(h, b[books::OUTGOING]);
+    let s = client_turns::send(h, b[books::OUTGOING]);
     let verdict = s.verdict;
     match verdict {
         Verdict::Refused(r) => refuse(r),
@@ -151,7 +150,7 @@ pub fn tell(b: &mut [u8]) -> Reply
         × (now (b .exit) ≡ left (verdictOf (tells (selfIn (now (b .entry))) (bookIn (now (b .entry))))) (tellBytes (now (b .entry))) (now (b .entry))) ⌝ }
 {
     let h = books::load(b);
-    let s = turn::tell(h, b[books::OUTGOING]);
+    let s = client_turns::tell(h, b[books::OUTGOING]);
     let m = spoken(h, format::TOLD, h.handed.0 as u64);
     let e = no_event();
     commit(b, s, m, e)

@@ -2,7 +2,6 @@
 use acts::Reply;
 use books::Book;
 use steps::Stepped;
-use steps::turn;
 use views::Member;
 use views::View;
 use views::refusal::Verdict;
@@ -62,6 +61,6 @@ pub fn join(b: &mut [u8], v: View) -> Reply
 {
     let h = books::load(b);
     let p = Member(b[books::SELF]);
-    let s = turn::join(p, v, h);
+    let s = view_turns::join(p, v, h);
     enter(b, p, h, s)
 }

@@ -2,8 +2,6 @@
 use crate::Entry;
 use acts::Reply;
 use books::Book;
-use steps::ask;
-use steps::take;
 use views::Member;
 use views::limits;
 use views::list::Views;
@@ -34,14 +32,14 @@ fn turned(e: Entry, list: Views, h: Book) -> Book
     let q = e.sender;
     let m = e.message;
     match m {
-        Message::Client(_) => take::take_client(h),
+        Message::Client(_) => takes::take_client(h),
         Message::Info => {
             let x = crate::info::settled(list);
             let l = crate::info::opens(list);
-            take::take_info(q, x, l, h)
+            takes::take_info(q, x, l, h)
         }
-        Message::Registered => take::take_registered(q, h),
-        Message::Told(k) => take::take_told(q, k, h),
+        Message::Registered => takes::take_registered(q, h),
+        Message::Told(k) => takes::take_told(q, k, h),
     }
 }
 
@@ -52,7 +50,7 @@ fn gaining(h: Book) -> usize
 {
     let client = h.client;
     let carrier = h.carrier;
-    if ask::same_view(client, carrier) {
+    if asks::same_view(client, carrier) {
         return crate::inward(h.side);
     }
     crate::inward(1 - h.side)

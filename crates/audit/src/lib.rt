@@ -188,7 +188,7 @@ fn taken_fits(h: Book, own: u8, new: u8) -> bool
     if limit_if(carrier, limits::ORDERED) < taken {
         return false;
     }
-    if steps::ask::same_view(client, carrier) {
+    if asks::same_view(client, carrier) {
         return limit_if(carrier, own) <= taken;
     }
     limit_if(carrier, new) <= taken

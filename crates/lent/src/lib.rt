@@ -4,7 +4,6 @@ pub mod bytes;
 use acts::mark;
 use books::Book;
 use steps::Stepped;
-use steps::turn as own;
 use views::Member;
 use views::View;
 use views::limits;
@@ -38,7 +37,7 @@ fn join(h: Book, t: Step) -> Stepped
         return steps::refuse(Refusal::SetUnfit, h);
     }
     let p = t.member;
-    own::join(p, v, h)
+    view_turns::join(p, v, h)
 }
 
 // Attempt, with 43 last.
@@ -46,7 +45,7 @@ fn attempt(n: u8, h: Book) -> Stepped
     requires { ⌜ h .side ≤ 1 ⌝ }
     ensures { λ r. ⌜ r ≡ fewStepped (attemptTurn n h) h ⌝ }
 {
-    mark::few_open(own::attempt(n, h), h)
+    mark::few_open(view_turns::attempt(n, h), h)
 }
 
 // The step of a kind's number; 5 for any other number.
@@ -58,12 +57,12 @@ fn by_kind(h: Book, t: Step) -> Stepped
     match kind {
         2 => join(h, t),
         6 => attempt(t.members, h),
-        7 => own::register(h, t.outgoing),
-        8 => own::send(h, t.outgoing),
-        9 => own::hand(h, t.inward),
-        10 => own::tell(h, t.outgoing),
-        11 => own::safe(t.members, h, t.inward),
-        12 => own::collect(t.members, h),
+        7 => client_turns::register(h, t.outgoing),
+        8 => client_turns::send(h, t.outgoing),
+        9 => client_turns::hand(h, t.inward),
+        10 => client_turns::tell(h, t.outgoing),
+        11 => client_turns::safe(t.members, h, t.inward),
+        12 => view_turns::collect(t.members, h),
         0..=1 | 3..=5 | 13..=255 => steps::refuse(Refusal::UnknownStep, h),
     }
 }

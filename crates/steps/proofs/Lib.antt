@@ -1,6 +1,5 @@
 -- Laws of the member's steps.
 pub mod RowLaws
-pub mod TurnLaws
 pub mod MeaningNotes
 pub mod MeaningVerdicts
 pub mod MeaningBooks

@@ -1,8 +1,4 @@
-// The member's steps on its small record, by value. The numbers beside the record are the lengths of its queues.
-pub mod ask;
-pub mod take;
-pub mod turn;
-
+// What a step on the member's small record gives, by value. Beside it stand the definition of each step and the laws that it is the rule.
 use books::Book;
 use views::refusal::Refusal;
 use views::refusal::Verdict;

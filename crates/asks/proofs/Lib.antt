@@ -1,0 +1,2 @@
+-- Laws of what a step asks of a record.
+pub mod AskLaws

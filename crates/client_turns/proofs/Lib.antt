@@ -1,0 +1,2 @@
+-- Laws of the steps in the client view.
+pub mod ClientLaws

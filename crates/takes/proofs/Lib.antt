@@ -1,0 +1,2 @@
+-- Laws of what taking a message changes.
+pub mod TakeLaws
