@@ -12,14 +12,14 @@ use Rattle.views.specs.declared.refusal.Verdict.{Verdict}
 use Rattle.views.specs.declared.refusal.Verdict.the-variants.{Accepted, Refused}
 use Rattle.views.specs.Limits.{maxOpen, maxOutgoing}
 use Rattle.wire.proofs.ReaderLaws.{length-viewsIn}
-use Rattle.rules.specs.Data.{Result, refused, accepted, Book as Ruled}
-use Rattle.rules.specs.Member.{Done, clientIsCarrier, hasRoom}
+use Rattle.rules.specs.Data.{Member, Result, refused, accepted, Book as Ruled}
+use Rattle.rules.specs.Member.{Done, clientIsCarrier, hasRoom, registers, sends, tells}
 use Rattle.rules.proofs.TestLaws.{conditions-say}
-use Rattle.rules.proofs.Holding.{Holds, refuses, given}
+use Rattle.rules.proofs.Holding.{Holds, refuses, gives, given, need-holds, view-holds}
 use Rattle.books.specs.declared.Book.{Book}
 use Rattle.books.specs.Places.{opensAt, bookSize}
 use Rattle.books.specs.Records.{recordIn, storeRecord}
-use Rattle.books.specs.Books.{bytesSound}
+use Rattle.books.specs.Books.{bookIn, bytesSound}
 use Rattle.books.proofs.LayoutLaws.{Layout, layout-says}
 use Rattle.steps.specs.declared.Stepped.{Stepped}
 use Rattle.steps.specs.Turns.{verdictOf, stepped}
@@ -37,6 +37,10 @@ sound-layout b h = let (fits, _) = conditions-say _ h in layout-says b fits
 
 pub sound-size : (b : List ℕ) → bytesSound b ≡ true → length b ≡ bookSize
 sound-size b h = sound-layout b h .size
+
+pub loaded-side : (b : List ℕ) → bytesSound b ≡ true → (h : Book) → h ≡ recordIn b → h .side ≤ 1
+unfolding recordIn
+loaded-side b sound h e = rw e (sound-layout b sound .side)
 
 -- nothing said changes nothing
 pub said-nothing : (b : List ℕ) → saidBytes (record { there = false; kind = 0; number = 0 }) b ≡ b
@@ -120,3 +124,17 @@ pub room-for : (b : Ruled) → hasRoom b ≡ true → clientIsCarrier b ≡ true
 room-for b h t =
     let k : (not true || ltb (length (b .outgoing)) maxOutgoing) ≡ true = rw t at h in
     ltb-true _ _ k
+
+-- a step that may queue a message is accepted only where there is room
+module _ (b : List ℕ) (p : Member) where
+  pub register-room : Holds (λ (d : Done). hasRoom (bookIn b) ≡ true) (registers p (bookIn b))
+  unfolding registers
+  register-room = view-holds _ _ _ (λ v e. need-holds _ _ _ (λ t. need-holds _ _ _ (λ u. gives u)))
+
+  pub send-room : (x : ℕ) → Holds (λ (d : Done). hasRoom (bookIn b) ≡ true) (sends p x (bookIn b))
+  unfolding sends
+  send-room x = view-holds _ _ _ (λ v e. need-holds _ _ _ (λ u. gives u))
+
+  pub tell-room : Holds (λ (d : Done). hasRoom (bookIn b) ≡ true) (tells p (bookIn b))
+  unfolding tells
+  tell-room = view-holds _ _ _ (λ v e. need-holds _ _ _ (λ t. need-holds _ _ _ (λ w. need-holds _ _ _ (λ u. gives u))))

@@ -1,7 +1,4 @@
 pub mod Committed
-pub mod SpeakLaws
-pub mod MarkLaws
-pub mod AttemptLaws
 pub mod Means
 pub mod TurnFits
 pub mod MeansSpeak

@@ -22,8 +22,7 @@ use Rattle.books.proofs.Fits.{Fits}
 use Rattle.books.proofs.RecordBytes.{tolds-bytes}
 use Rattle.steps.proofs.MeaningMarks.{registeredNow, toldNow, register-leaves-queued, register-leaves-unqueued, send-leaves-queued, send-leaves-unqueued, tell-leaves}
 use Rattle.acts.specs.Acts.{selfIn, queued, queuedIf, registerBytes, sendBytes, tellBytes}
-use Rattle.acts.proofs.Committed.{sound-layout, room-for}
-use Rattle.acts.proofs.SpeakLaws.{register-room, send-room, tell-room}
+use Rattle.acts.proofs.Committed.{sound-layout, room-for, register-room, send-room, tell-room}
 use Rattle.acts.proofs.Means.{Means, sound-fits, means-as, gave, ownIn, newIn, Requeued, queues-kept, pushes, stores}
 use Rattle.acts.proofs.TurnFits.{marked-fits}
 

@@ -1,6 +1,5 @@
--- The reply and the bytes of a step that has no event; what a record loaded from sound bytes says.
+-- The reply and the bytes of a step that has no event; what a record loaded from bytes says.
 use mathlib.Core.Path.{_≡_, refl, ap, _∙_}
-use mathlib.Core.Bool.{true}
 use mathlib.Core.List.{List}
 use Prim.Native.Nat.{ℕ, _≤_}
 use lib.ListN.{getD}
@@ -13,12 +12,11 @@ use Rattle.rules.proofs.Holding.{Holds}
 use Rattle.books.specs.declared.Book.{Book}
 use Rattle.books.specs.Places.{takenAt, sideAt}
 use Rattle.books.specs.Records.{recordIn}
-use Rattle.books.specs.Books.{bytesSound}
 use Rattle.steps.specs.Turns.{verdictOf}
 use Rattle.acts.specs.declared.Event.{Event}
 use Rattle.acts.specs.declared.Reply.{Reply}
 use Rattle.acts.specs.Replies.{noEvent, eventOf, replied, replyOf, left}
-use Rattle.acts.proofs.Committed.{sound-layout, record-few, answered}
+use Rattle.acts.proofs.Committed.{record-few, answered}
 
 -- ---- a step without an event
 
@@ -57,6 +55,3 @@ module _ (b : List ℕ) (h : Book) (loaded : h ≡ recordIn b) where
 
   pub loaded-taken : h .taken .0 ≡ getD b takenAt 0
   loaded-taken = ap (λ (z : Book). z .taken .0) loaded ∙ taken-in b
-
-  pub loaded-side : bytesSound b ≡ true → h .side ≤ 1
-  loaded-side sound = rw (loaded, side-in b) (sound-layout b sound .side)

@@ -1,7 +1,5 @@
 // The calls that are the member's steps as they stand, where 4 and 6 let them, and join, where 7 does too.
 use acts::Reply;
-use acts::mark;
-use acts::speak;
 use member::admit;
 use views::View;
 use views::ViewId;
@@ -52,7 +50,7 @@ pub fn attempt(b: &mut [u8]) -> Reply
     let v = admit(b);
     match v {
         Verdict::Refused(r) => acts::refuse(r),
-        Verdict::Accepted => mark::attempt(b),
+        Verdict::Accepted => attempts::attempt(b),
     }
 }
 
@@ -63,7 +61,7 @@ pub fn register(b: &mut [u8]) -> Reply
     let v = admit(b);
     match v {
         Verdict::Refused(r) => acts::refuse(r),
-        Verdict::Accepted => speak::register(b),
+        Verdict::Accepted => speech::register(b),
     }
 }
 
@@ -74,7 +72,7 @@ pub fn send(b: &mut [u8], entry: u64) -> Reply
     let v = admit(b);
     match v {
         Verdict::Refused(r) => acts::refuse(r),
-        Verdict::Accepted => speak::send(b, entry),
+        Verdict::Accepted => speech::send(b, entry),
     }
 }
 
@@ -85,7 +83,7 @@ pub fn hand(b: &mut [u8]) -> Reply
     let v = admit(b);
     match v {
         Verdict::Refused(r) => acts::refuse(r),
-        Verdict::Accepted => mark::hand(b),
+        Verdict::Accepted => marks::hand(b),
     }
 }
 
@@ -96,7 +94,7 @@ pub fn tell(b: &mut [u8]) -> Reply
     let v = admit(b);
     match v {
         Verdict::Refused(r) => acts::refuse(r),
-        Verdict::Accepted => speak::tell(b),
+        Verdict::Accepted => speech::tell(b),
     }
 }
 
@@ -107,7 +105,7 @@ pub fn safe(b: &mut [u8]) -> Reply
     let v = admit(b);
     match v {
         Verdict::Refused(r) => acts::refuse(r),
-        Verdict::Accepted => mark::safe(b),
+        Verdict::Accepted => marks::safe(b),
     }
 }
 
@@ -118,6 +116,6 @@ pub fn collect(b: &mut [u8]) -> Reply
     let v = admit(b);
     match v {
         Verdict::Refused(r) => acts::refuse(r),
-        Verdict::Accepted => mark::collect(b),
+        Verdict::Accepted => marks::collect(b),
     }
 }

@@ -18,7 +18,7 @@ pub fn register(all: &mut [u8], p: u32) -> Reply
     }
     let a = books::SIZE * (p as usize);
     let e = a + books::SIZE;
-    acts::speak::register(&mut all[a..e])
+    speech::register(&mut all[a..e])
 }
 
 // Outgoing gains a client message.
@@ -31,7 +31,7 @@ pub fn send(all: &mut [u8], p: u32, entry: u64) -> Reply
     }
     let a = books::SIZE * (p as usize);
     let e = a + books::SIZE;
-    acts::speak::send(&mut all[a..e], entry)
+    speech::send(&mut all[a..e], entry)
 }
 
 // Outgoing gains told, with the number handed out in the client view.
@@ -44,7 +44,7 @@ pub fn tell(all: &mut [u8], p: u32) -> Reply
     }
     let a = books::SIZE * (p as usize);
     let e = a + books::SIZE;
-    acts::speak::tell(&mut all[a..e])
+    speech::tell(&mut all[a..e])
 }
 
 // The carrier view becomes open and becomes the client view.
@@ -57,7 +57,7 @@ pub fn attempt(all: &mut [u8], p: u32) -> Reply
     }
     let a = books::SIZE * (p as usize);
     let e = a + books::SIZE;
-    acts::mark::attempt(&mut all[a..e])
+    attempts::attempt(&mut all[a..e])
 }
 
 // The next of the client view's inward list is given out.
@@ -70,7 +70,7 @@ pub fn hand(all: &mut [u8], p: u32) -> Reply
     }
     let a = books::SIZE * (p as usize);
     let e = a + books::SIZE;
-    acts::mark::hand(&mut all[a..e])
+    marks::hand(&mut all[a..e])
 }
 
 // The next handed message not yet reported is reported.
@@ -83,7 +83,7 @@ pub fn safe(all: &mut [u8], p: u32) -> Reply
     }
     let a = books::SIZE * (p as usize);
     let e = a + books::SIZE;
-    acts::mark::safe(&mut all[a..e])
+    marks::safe(&mut all[a..e])
 }
 
 // The carrier view becomes settled; only open views above it remain.
@@ -96,5 +96,5 @@ pub fn collect(all: &mut [u8], p: u32) -> Reply
     }
     let a = books::SIZE * (p as usize);
     let e = a + books::SIZE;
-    acts::mark::collect(&mut all[a..e])
+    marks::collect(&mut all[a..e])
 }

@@ -27,7 +27,7 @@ use Rattle.steps.proofs.MeaningMarks.{registeredNow, handedNow, toldNow, report
 use Rattle.acts.specs.Replies.{left}
 use Rattle.acts.specs.Acts.{membersIn, selfIn, fewOpen, handBytes, safeBytes, collectBytes}
 use Rattle.acts.proofs.Committed.{sound-layout, record-few}
-use Rattle.acts.proofs.AttemptLaws.{attempt-turned}
+use Rattle.attempts.proofs.AttemptLaws.{attempt-turned}
 use Rattle.lent.specs.Loans.{withinLimits, turnBy, turnOf, stepIn, changeOf, changeBytes}
 use Rattle.lent.proofs.LoanMeans.{of-kind, join-means, register-means, send-means, hand-means, tell-means, safe-means, collect-means}
 

@@ -1,7 +1,6 @@
 // The step on a book's bytes: the record is loaded, lent, and stored where the step was accepted. The queues stay as they are.
 use crate::Step;
 use crate::lend;
-use acts::speak;
 use views::Member;
 use views::View;
 use views::ViewId;
@@ -44,7 +43,7 @@ pub fn change(b: &mut [u8], kind: u8, id: u32, set: u8) -> Verdict
     let t = asked(b, kind, v);
     let s = lend(h, t);
     let e = acts::no_event();
-    let r = speak::keep(b, s, e);
+    let r = acts::keep(b, s, e);
     let verdict = r.verdict;
     verdict
 }

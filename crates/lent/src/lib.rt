@@ -1,7 +1,6 @@
 // A member's small record lent by the host: one step of a kind's number changes it in place.
 pub mod bytes;
 
-use acts::mark;
 use books::Book;
 use steps::Stepped;
 use views::Member;
@@ -45,7 +44,7 @@ fn attempt(n: u8, h: Book) -> Stepped
     requires { ⌜ h .side ≤ 1 ⌝ }
     ensures { λ r. ⌜ r ≡ fewStepped (attemptTurn n h) h ⌝ }
 {
-    mark::few_open(view_turns::attempt(n, h), h)
+    attempts::few_open(view_turns::attempt(n, h), h)
 }
 
 // The step of a kind's number; 5 for any other number.

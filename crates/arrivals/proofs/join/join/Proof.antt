@@ -1,8 +1,8 @@
 -- `arrivals::join::join` meets its contract: the turn of the record that was loaded is the rule's.
 use native.Mathlib.Omega.{arith}
 use borrow.Author.Needs.{needs}
-use Rattle.acts.proofs.Committed.{sound-size}
-use Rattle.arrivals.proofs.Answers.{loaded-few, loaded-side}
+use Rattle.acts.proofs.Committed.{sound-size, loaded-side}
+use Rattle.arrivals.proofs.Answers.{loaded-few}
 use Rattle.arrivals.proofs.JoinLaws.{join-few, join-done}
 use Rattle.arrivals.proofs.join.join.Statement.{statement}
 use Rattle.arrivals.proofs.join.join.Tie as tie
@@ -20,7 +20,7 @@ enter-requires : tie.Need-enter-requires
 enter-requires c κs =
     let sound = c .before .before .before .before .before .before .pre in
     let loaded = c .before .before .before .load .ensures in
-    (omega (arith, sound-size _ sound), loaded-side _ _ loaded sound, loaded-few _ _ loaded, join-few _ _ loaded _ _ (c .before .join .ensures))
+    (omega (arith, sound-size _ sound), loaded-side _ sound _ loaded, loaded-few _ _ loaded, join-few _ _ loaded _ _ (c .before .join .ensures))
 
 same-length : tie.Need-same-length
 same-length c = search needs

@@ -4,8 +4,8 @@ use native.Mathlib.Omega.{arith}
 use borrow.Author.Needs.{needs}
 use lib.ListN.{length, length-map, length-take}
 use Rattle.views.specs.Limits.{maxViews}
-use Rattle.acts.proofs.Committed.{sound-size}
-use Rattle.arrivals.proofs.Answers.{loaded-few, loaded-taken, loaded-side}
+use Rattle.acts.proofs.Committed.{sound-size, loaded-side}
+use Rattle.arrivals.proofs.Answers.{loaded-few, loaded-taken}
 use Rattle.arrivals.proofs.RoomLaws.{gain-room}
 use Rattle.arrivals.proofs.TakeLaws.{take-done}
 use Rattle.arrivals.proofs.take.take.Statement.{statement}
@@ -21,7 +21,7 @@ keep-requires : tie.Need-keep-requires
 keep-requires c κs =
     let pre = c .before .before .before .before .before .before .pre in
     let loaded = c .before .before .before .load .ensures in
-    (omega (arith, sound-size _ (pre .0)), loaded-side _ _ loaded (pre .0), gain-room _ (pre .0) (pre .3) (pre .2) _ loaded)
+    (omega (arith, sound-size _ (pre .0)), loaded-side _ (pre .0) _ loaded, gain-room _ (pre .0) (pre .3) (pre .2) _ loaded)
 
 same-length : tie.Need-same-length
 same-length c = search needs

@@ -1,0 +1,2 @@
+-- Laws of an attempt.
+pub mod AttemptLaws

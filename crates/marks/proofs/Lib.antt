@@ -1,0 +1,2 @@
+-- Laws of the steps that change nothing but the record.
+pub mod MarkLaws

@@ -1,0 +1,2 @@
+-- Laws of the steps that queue a message.
+pub mod SpeakLaws
