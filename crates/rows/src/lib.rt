@@ -1,0 +1,130 @@
+// Views where they lie in bytes, five bytes each, tested in place: no list is copied for a test.
+use views::View;
+use views::ViewId;
+ghost use mathlib.Core.Bool.{not};
+ghost use mathlib.Core.Path.{_≡_};
+ghost use Prim.Native.Nat.{_+_, _*_, _≤_};
+ghost use lib.ListN.{length};
+ghost use Rattle.views.specs.Sets.{both, isEmpty, isBeyond};
+ghost use Rattle.views.specs.Lists.{isRising, risesAbove};
+ghost use Rattle.wire.specs.Reader.{viewsIn};
+ghost use Rattle.rules.specs.Member.{all};
+ghost use Rattle.rules.specs.Sound.{setFits, sameView, listed};
+
+// Bytes of a view.
+pub const SIZE: usize = 5;
+
+// The set is not empty and within n members.
+pub fn fits(n: u8, set: u8) -> bool
+    ensures { λ r. ⌜ r ≡ both (not (isEmpty set)) (not (isBeyond set n)) ⌝ }
+{
+    if sets::empty(set) {
+        return false;
+    }
+    !sets::beyond(set, n)
+}
+
+// The same of a view's set.
+pub fn set_fits(n: u8, v: View) -> bool
+    ensures { λ r. ⌜ r ≡ setFits n v ⌝ }
+{
+    fits(n, v.set)
+}
+
+// Every set of the views from a place on fits.
+pub fn all_fit(b: &[u8], from: usize, count: usize, n: u8) -> bool
+    requires { ⌜ from + 5 * count ≤ length (now b) ⌝ }
+    ensures { λ r. ⌜ r ≡ all (setFits n) (viewsIn (now (b .entry)) from count) ⌝ }
+{
+    let mut i = 0;
+    while i < count {
+        if !fits(n, b[from + SIZE * i + 4]) {
+            return false;
+        }
+        i += 1;
+    }
+    true
+}
+
+// The identifiers of the views rise, the first from above g.
+pub fn rise_above(b: &[u8], from: usize, count: usize, g: ViewId) -> bool
+    requires { ⌜ from + 5 * count ≤ length (now b) ⌝ }
+    ensures { λ r. ⌜ r ≡ risesAbove (g .0) (viewsIn (now (b .entry)) from count) ⌝ }
+{
+    let mut last = g.0;
+    let mut i = 0;
+    while i < count {
+        let v = reader::load_view(b, from + SIZE * i);
+        if v.id.0 <= last {
+            return false;
+        }
+        last = v.id.0;
+        i += 1;
+    }
+    true
+}
+
+// Each identifier is below the next.
+pub fn rising(b: &[u8], from: usize, count: usize) -> bool
+    requires { ⌜ from + 5 * count ≤ length (now b) ⌝ }
+    ensures { λ r. ⌜ r ≡ isRising (viewsIn (now (b .entry)) from count) ⌝ }
+{
+    if count < 1 {
+        return true;
+    }
+    let first = reader::load_view(b, from);
+    rise_above(b, from + SIZE, count - 1, first.id)
+}
+
+// Every set fits, and the identifiers rise.
+pub fn sound(b: &[u8], from: usize, count: usize, n: u8) -> bool
+    requires { ⌜ from + 5 * count ≤ length (now b) ⌝ }
+    ensures { λ r. ⌜ r ≡ both (all (setFits n) (viewsIn (now (b .entry)) from count)) (isRising (viewsIn (now (b .entry)) from count)) ⌝ }
+{
+    if !all_fit(b, from, count, n) {
+        return false;
+    }
+    rising(b, from, count)
+}
+
+// One view, identifier and set.
+fn same(v: View, w: View) -> bool
+    ensures { λ r. ⌜ r ≡ sameView v w ⌝ }
+{
+    if v.id.0 != w.id.0 {
+        return false;
+    }
+    v.set == w.set
+}
+
+// The view is among the first views of a list.
+pub fn view_listed(list: &[u8], made: usize, v: View) -> bool
+    requires { ⌜ 5 * made ≤ length (now list) ⌝ }
+    ensures { λ r. ⌜ r ≡ listed (viewsIn (now (list .entry)) 0 made) v ⌝ }
+{
+    let mut i = 0;
+    while i < made {
+        let w = reader::load_view(list, SIZE * i);
+        if same(v, w) {
+            return true;
+        }
+        i += 1;
+    }
+    false
+}
+
+// Every one of the views from a place on is.
+pub fn all_listed(list: &[u8], made: usize, b: &[u8], from: usize, count: usize) -> bool
+    requires { ⌜ (5 * made ≤ length (now list)) × (from + 5 * count ≤ length (now b)) ⌝ }
+    ensures { λ r. ⌜ r ≡ all (listed (viewsIn (now (list .entry)) 0 made)) (viewsIn (now (b .entry)) from count) ⌝ }
+{
+    let mut i = 0;
+    while i < count {
+        let v = reader::load_view(b, from + SIZE * i);
+        if !view_listed(list, made, v) {
+            return false;
+        }
+        i += 1;
+    }
+    true
+}
