@@ -14,7 +14,7 @@ use Rattle.slots.specs.Slots.{slotsFit}
 use Rattle.books.specs.Places.{carrierAt, clientAt, registeredAt, sideAt, opensAt, outgoingAt, inwardAt, bookSize}
 use Rattle.books.specs.Books.{layoutFits}
 use Rattle.audit.specs.Parts.{marksFit, countsFit}
-use Rattle.audit.proofs.Truth.{both-unit}
+use Rattle.rules.proofs.Truth.{both-unit}
 
 layout-order : (z a b c d p q r s t : Bool)
     → conditions (z ∷ a ∷ b ∷ c ∷ d ∷ p ∷ q ∷ r ∷ s ∷ t ∷ [])

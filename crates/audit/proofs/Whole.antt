@@ -27,8 +27,9 @@ use Rattle.books.specs.Places.{membersAt, sideAt, opensAt, outgoingAt, inwardAt
 use Rattle.books.specs.Records.{seated, meaning, recordIn}
 use Rattle.books.specs.Books.{outgoingIn, inwardIn, bookIn, layoutFits, bytesSound}
 use Rattle.books.proofs.LayoutLaws.{Layout, layout-says}
-use Rattle.audit.specs.Parts.{recordSound, entrySound, queuesSound}
-use Rattle.audit.proofs.Truth.{alike, both-unit}
+use Rattle.entries.specs.Parts.{entrySound}
+use Rattle.audit.specs.Parts.{recordSound, queuesSound}
+use Rattle.rules.proofs.Truth.{alike, both-unit}
 
 -- ---- entries
 
@@ -170,12 +171,11 @@ module _ (b : List ℕ) (fits : layoutFits b ≡ true) where
       first ∙ book-parts n (recordIn b) (outgoingIn b) (inwardIn b s) (inwardIn b (1 - s)) (few-opens b) out own new
       ∙ ap₂ (λ (x y : ℕ). both (recordSound n (recordIn b) x y) (queuesSound n b)) k m
 
-  module _ (h : Book) (loaded : h ≡ recordIn b) where
-    abbrev answer : Bool
-    answer = recordSound (getD b membersAt 0) h (getD b (inwardAt (getD b sideAt 0)) 0) (getD b (inwardAt (1 - getD b sideAt 0)) 0)
+  abbrev answer : Bool
+  answer = recordSound (getD b membersAt 0) (recordIn b) (getD b (inwardAt (getD b sideAt 0)) 0) (getD b (inwardAt (1 - getD b sideAt 0)) 0)
 
-    pub record-stops : answer ≡ false → bytesSound b ≡ false
-    record-stops e = bytes-parts ∙ rw (← loaded, e)
+  pub record-stops : answer ≡ false → bytesSound b ≡ false
+  record-stops e = bytes-parts ∙ rw e
 
-    pub record-passes : answer ≡ true → bytesSound b ≡ queuesSound (getD b membersAt 0) b
-    record-passes e = bytes-parts ∙ rw (← loaded, e)
+  pub record-passes : answer ≡ true → bytesSound b ≡ queuesSound (getD b membersAt 0) b
+  record-passes e = bytes-parts ∙ rw e

@@ -6,10 +6,11 @@ use lib.Dec.{eqb, leb}
 use lib.ListN.{getD}
 use Rattle.views.specs.Limits.{maxMembers, maxOpen, maxOutgoing, maxOrdered}
 use Rattle.views.specs.Lists.{idOf, risesAbove, listOf}
-use Rattle.rules.specs.Data.{Entry, rank}
+use Rattle.rules.specs.Data.{rank}
 use Rattle.rules.specs.Member.{every, all}
-use Rattle.rules.specs.Sound.{within, conditions, countFits, setFits, opensRise, fromMember, itemFromMember}
-use Rattle.rules.specs.Alone.{limitIf, setFitsIf, setsFit}
+use Rattle.rules.specs.Sound.{within, conditions, setFits, itemFromMember}
+use Rattle.rules.specs.Alone.{limitIf, setFitsIf}
+use Rattle.entries.specs.Parts.{entrySound}
 use Rattle.books.specs.declared.Book.{Book}
 use Rattle.books.specs.Records.{seated}
 use Rattle.books.specs.Places.{carrierAt, clientAt, registeredAt, sideAt, opensAt, outgoingAt, inwardAt}
@@ -54,10 +55,6 @@ viewsSound n h = conditions (
     ∷ setFitsIf n (seated (h .client))
     ∷ risesAbove (idOf (h .settled)) (listOf (h .opens))
     ∷ [])
-
--- an outgoing entry of n members
-unfoldable pub entrySound : ℕ → Entry → Bool
-entrySound n e = conditions (countFits e ∷ setsFit n e ∷ opensRise e ∷ fromMember n e ∷ [])
 
 -- the outgoing entries and the inward lists in the bytes of a book of n members
 unfoldable pub queuesSound : ℕ → List ℕ → Bool

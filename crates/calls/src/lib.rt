@@ -20,7 +20,7 @@ fn join_view(b: &mut [u8], v: View) -> Reply
     ensures { λ r. ⌜ (r ≡ replyOf (joining (membersIn (now (b .entry))) (selfIn (now (b .entry))) v (bookIn (now (b .entry)))))
         × (now (b .exit) ≡ left (verdictOf (joining (membersIn (now (b .entry))) (selfIn (now (b .entry))) v (bookIn (now (b .entry))))) (joinBytes v (now (b .entry))) (now (b .entry))) ⌝ }
 {
-    if !audit::set_fits(b[books::MEMBERS], v) {
+    if !rows::set_fits(b[books::MEMBERS], v) {
         return acts::refuse(Refusal::SetUnfit);
     }
     arrivals::join::join(b, v)

@@ -52,11 +52,11 @@ fn clear(queues: &mut [u8], i: u8)
     requires { ⌜ (i ≤ maxViews) × (orderAt i + tableSize ≤ length (now queues)) ⌝ }
     ensures { λ _. ⌜ now (queues .exit) ≡ tableCleared (now (queues .entry)) i ⌝ }
 {
-    let c = crate::order_at(i);
+    let c = groups::order_at(i);
     queues[c] = 0;
     let mut p = 0;
     while p < limits::MEMBERS {
-        let w = crate::waiting_at(i, p);
+        let w = groups::waiting_at(i, p);
         queues[w] = 0;
         p += 1;
     }

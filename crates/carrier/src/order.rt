@@ -40,12 +40,12 @@ pub fn order(list: &[u8], all: &[u8], queues: &mut [u8], p: u32, id: u64) -> Ver
         return Verdict::Refused(Refusal::NoSuchMember);
     }
     let made = queues[groups::MADE];
-    let i = crate::place(list, made, id);
+    let i = groups::place(list, made, id);
     if made <= i {
         return Verdict::Refused(Refusal::NoSuchView);
     }
-    let c = crate::order_at(i);
-    let w = crate::waiting_at(i, p as u8);
+    let c = groups::order_at(i);
+    let w = groups::waiting_at(i, p as u8);
     if queues[w] == 0 {
         return Verdict::Refused(Refusal::NoneWaiting);
     }

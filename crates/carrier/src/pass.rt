@@ -63,8 +63,8 @@ pub fn pass(list: &[u8], all: &mut [u8], queues: &mut [u8], p: u32) -> Verdict
     if all[a + books::OUTGOING] == 0 {
         return Verdict::Refused(Refusal::NoneOutgoing);
     }
-    let i = crate::place(list, queues[groups::MADE], carrier.view.id.0 as u64);
-    let w = crate::waiting_at(i, p as u8);
+    let i = groups::place(list, queues[groups::MADE], carrier.view.id.0 as u64);
+    let w = groups::waiting_at(i, p as u8);
     if limits::WAITING <= queues[w] {
         return Verdict::Refused(Refusal::WaitingFull);
     }

@@ -4,6 +4,8 @@ use member::admit;
 use views::Member;
 use views::View;
 use views::limits;
+use views::list;
+use views::list::Views;
 use views::refusal::Refusal;
 use views::refusal::Verdict;
 use wire::Frame;
@@ -12,6 +14,8 @@ ghost use mathlib.Core.Option.{some};
 ghost use mathlib.Core.Path.{_≡_};
 ghost use Rattle.views.specs.Lists.{listOf};
 ghost use Rattle.wire.specs.Reader.{readOf};
+ghost use Rattle.rules.specs.Member.{all};
+ghost use Rattle.rules.specs.Sound.{setFits};
 ghost use Rattle.rules.specs.Alone.{sentOf, viewsOf};
 ghost use Rattle.books.specs.Books.{bookIn, bytesSound};
 ghost use Rattle.steps.specs.Turns.{verdictOf};
@@ -20,12 +24,28 @@ ghost use Rattle.acts.specs.Acts.{membersIn, takeBytes};
 ghost use Rattle.member.specs.Calls.{Gave, deliverCall, deliverBytes};
 ghost use Rattle.member.specs.Parts.{sentIn, arriving, delivering, frameAnswer};
 
+// Every set of the views carried fits n members.
+fn all_fit(n: u8, list: Views) -> bool
+    ensures { λ r. ⌜ r ≡ all (setFits n) (listOf list) ⌝ }
+{
+    let k = list::used(list.count);
+    let mut i = 0;
+    while i < k {
+        let v = list.at[i];
+        if !rows::set_fits(n, v) {
+            return false;
+        }
+        i += 1;
+    }
+    true
+}
+
 // 7 for any view carried, 41 another view, 42 a sender not in it, 16 after 128 taken.
 fn answer(n: u8, v: View, taken: u8, q: Member, f: Frame) -> Verdict
     ensures { λ r. ⌜ r ≡ frameAnswer n v taken (q .0) f ⌝ }
 {
     let list = f.views;
-    if !audit::all_fit(n, list) {
+    if !all_fit(n, list) {
         return Verdict::Refused(Refusal::SetUnfit);
     }
     if f.view.0 != v.id.0 {

@@ -91,7 +91,7 @@ fn startable(list: &[u8], all: &[u8], queues: &[u8], members: u8, first: u8) -> 
         id: ViewId(0),
         set: first,
     };
-    if !audit::set_fits(members, view) {
+    if !rows::set_fits(members, view) {
         return Verdict::Refused(Refusal::FirstSetUnfit);
     }
     let room = list.len() / groups::VIEW;

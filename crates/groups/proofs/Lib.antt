@@ -1,5 +1,6 @@
 pub mod RangesLaws
 pub mod PlaceLaws
+pub mod PlaceTurns
 pub mod SlotLaws
 pub mod Apart
 pub mod Inside

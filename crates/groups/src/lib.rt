@@ -1,4 +1,11 @@
 // A group's records in three lent ranges, the list, the books and the queues: where they stand. docs/LAYOUT.md has the tables.
+ghost use mathlib.Core.Path.{_≡_};
+ghost use Prim.Native.Nat.{_+_, _*_, _≤_};
+ghost use lib.ListN.{length};
+ghost use Rattle.views.specs.Limits.{maxViews, maxMembers};
+ghost use Rattle.wire.specs.Reader.{viewsIn};
+ghost use Rattle.groups.specs.Groups.{placeOf};
+ghost use Rattle.groups.specs.Places.{orderAt, waitingAt};
 
 // Bytes of a view in the list, and of the eight books.
 pub const VIEW: usize = 5;
@@ -16,3 +23,34 @@ pub const TABLE: usize = 32841;
 pub const ORDER: usize = 21889;
 
 pub const WAITING: usize = 1369;
+
+// The place of the first of n views with the identifier, n if there is none.
+pub fn place(list: &[u8], n: u8, id: u64) -> u8
+    requires { ⌜ 5 * n ≤ length (now list) ⌝ }
+    ensures { λ r. ⌜ r ≡ placeOf id (viewsIn (now (list .entry)) 0 n) ⌝ }
+{
+    let mut i = 0;
+    while i < n {
+        if numbers::get_number(list, VIEW * (i as usize), 4) == id {
+            return i;
+        }
+        i += 1;
+    }
+    n
+}
+
+// Where the order of the view at a place stands.
+pub fn order_at(i: u8) -> usize
+    requires { ⌜ i ≤ maxViews ⌝ }
+    ensures { λ r. ⌜ r ≡ orderAt i ⌝ }
+{
+    HEAD + TABLE * (i as usize)
+}
+
+// Where what waits there for a member stands.
+pub fn waiting_at(i: u8, p: u8) -> usize
+    requires { ⌜ (i ≤ maxViews) × (p ≤ maxMembers) ⌝ }
+    ensures { λ r. ⌜ r ≡ waitingAt i p ⌝ }
+{
+    HEAD + TABLE * (i as usize) + ORDER + WAITING * (p as usize)
+}

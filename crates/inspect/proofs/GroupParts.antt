@@ -20,7 +20,7 @@ use Rattle.rules.proofs.SoundBooks.{EntryOf, QueueOf, BookSound, entry-says, en
 use Rattle.rules.proofs.Soundness.{Listed, inGroup, QueueSound}
 use Rattle.slots.specs.Slots.{queueIn}
 use Rattle.slots.proofs.Lists.{length-entries}
-use Rattle.audit.specs.Parts.{entrySound}
+use Rattle.entries.specs.Parts.{entrySound}
 use Rattle.groups.proofs.RangesLaws.{Queued}
 use Rattle.inspect.specs.Parts.{queueSound}
 use Rattle.inspect.proofs.Infos.{carried-listed}

@@ -7,20 +7,18 @@ use native.Mathlib.Omega.{arith}
 use lib.Dec.{eqb}
 use lib.ListN.{length, getD}
 use Rattle.views.specs.declared.View.{View}
-use Rattle.views.specs.declared.list.Views.{Views}
 use Rattle.views.specs.Limits.{maxViews}
-use Rattle.views.specs.Lists.{listOf, placed}
 use Rattle.views.proofs.SetLaws.{both-true}
 use Rattle.wire.specs.Format.{isKnown}
 use Rattle.wire.specs.Reader.{viewsIn}
-use Rattle.wire.proofs.ReaderLaws.{list-viewsIn, length-viewsIn}
+use Rattle.wire.proofs.ReaderLaws.{length-viewsIn}
 use Rattle.wire.proofs.TripMessages.{Kind, kind-of-known}
 use Rattle.rules.specs.Data.{Message, client, info, registered, told, entry}
 use Rattle.rules.specs.Member.{all}
 use Rattle.rules.specs.Sound.{listed, infoListed}
 use Rattle.rules.specs.Alone.{viewsOf, infoOf}
 use Rattle.slots.specs.Slots.{kindIn, numberIn, countIn, infoIn, messageIn, entryIn, slotFits}
-use Rattle.audit.proofs.Entries.{info-count}
+use Rattle.entries.proofs.Entries.{info-count}
 
 -- ---- an entry
 
@@ -58,14 +56,14 @@ module _ (b : List ℕ) (at : ℕ) (fits : slotFits b at ≡ true) (views : List
       carried-listed views (getD b at 0) (messageIn b at)
       ∙ ap (all (listed views)) (held-other (kindIn b at) (numberIn b at) (infoIn b at) kind i)
 
-  pub slot-info : (v : Views) → kindIn b at ≡ 2 → v ≡ placed (viewsIn b (at + 11) (countIn b at)) → all (listed views) (listOf v) ≡ infoListed views (entryIn b at)
+  pub slot-info : kindIn b at ≡ 2 → all (listed views) (viewsIn b (at + 11) (countIn b at)) ≡ infoListed views (entryIn b at)
   unfolding messageIn infoIn
-  slot-info v i e =
+  slot-info i =
       let t = info-count b at 0 fits i in
       let c = countIn b at in
       let m : min c maxViews ≡ c = omega (arith, t .1) in
-      let w = viewsIn b (at + 11) (min c maxViews) in
-      let l : listOf v ≡ w = ap listOf e ∙ list-viewsIn b (at + 11) c (t .1) ∙ ap (viewsIn b (at + 11)) (sym m) in
-      let z : length w ≡ min c maxViews = length-viewsIn b (at + 11) (min c maxViews) in
-      let k : viewsOf (messageIn b at) ≡ w = ap viewsOf (sym (held-info (kindIn b at) (numberIn b at) w i)) ∙ carried-info w (omega (arith, t .0)) in
-      ap (all (listed views)) (l ∙ sym k) ∙ sym (carried-listed views (getD b at 0) (messageIn b at))
+      let w = viewsIn b (at + 11) c in
+      let z : length w ≡ c = length-viewsIn b (at + 11) c in
+      let f : infoIn b at ≡ w = ap (viewsIn b (at + 11)) m in
+      let k : viewsOf (messageIn b at) ≡ w = ap viewsOf (sym (held-info (kindIn b at) (numberIn b at) (infoIn b at) i)) ∙ ap (λ (l : List View). viewsOf (infoOf l)) f ∙ carried-info w (omega (arith, t .0)) in
+      ap (all (listed views)) (sym k) ∙ sym (carried-listed views (getD b at 0) (messageIn b at))

@@ -9,20 +9,20 @@ use borrow.Author.Tests.{eqb-true}
 use lib.Dec.{eqb, leb}
 use lib.ListN.{length, getD, take, drop}
 use Rattle.views.specs.declared.View.{View}
-use Rattle.views.specs.declared.list.Views.{Views}
-use Rattle.views.specs.Limits.{maxMembers, maxViews}
+use Rattle.views.specs.Limits.{maxMembers, maxViews, maxOpen}
 use Rattle.views.specs.Sets.{both}
-use Rattle.views.specs.Lists.{idOf, listOf, placed}
-use Rattle.wire.proofs.ReaderLaws.{length-viewsIn, list-viewsIn}
+use Rattle.views.specs.Lists.{idOf, listOf}
+use Rattle.wire.specs.Reader.{viewIn, viewsIn}
 use Rattle.rules.specs.Member.{all}
 use Rattle.rules.specs.Sound.{conditions, listed, listedIf}
 use Rattle.rules.proofs.TestLaws.{within-says, conditions-say, listed-in}
 use Rattle.books.specs.declared.Seat.{Seat}
 use Rattle.books.specs.declared.Book.{Book}
-use Rattle.books.specs.Places.{bookSize}
-use Rattle.books.specs.Records.{seated}
+use Rattle.books.specs.Places.{bookSize, settledAt, carrierAt, clientAt, opensAt}
+use Rattle.books.specs.Records.{seated, seatIn, recordIn}
 use Rattle.books.specs.Books.{layoutFits, bytesSound}
-use Rattle.audit.proofs.Truth.{both-unit}
+use Rattle.rules.proofs.Truth.{both-unit}
+use Rattle.audit.proofs.Tests.{opens-in}
 use Rattle.groups.specs.Places.{viewSize, roomOf, booksSize, bookBytes, orderAt, queuesSize}
 use Rattle.groups.specs.Groups.{Ranges, membersOf, madeOf, viewsMade, placeOf}
 use Rattle.inspect.specs.Parts.{sizesFit, numbersFit, recordListed, orderedIn, seatSound}
@@ -56,11 +56,17 @@ pub numbers-are : (n made room : ℕ) → numbersFit n made room ≡ both (leb 1
 unfolding numbersFit
 numbers-are n made room = numbers-order (leb 1 n) (leb n maxMembers) (leb 1 made) (leb made room)
 
-pub record-are : (views : List View) (h : Book) → recordListed views h
+record-are : (views : List View) (h : Book) → recordListed views h
     ≡ both (listed views (h .settled)) (both (all (listed views) (listOf (h .opens))) (both (listedIf views (seated (h .carrier))) (listedIf views (seated (h .client)))))
 unfolding recordListed all
 record-are views h =
     record-order (listed views (h .settled)) (all (listed views) (listOf (h .opens))) (listedIf views (seated (h .carrier))) (listedIf views (seated (h .client)))
+
+pub record-in : (views : List View) (b : List ℕ) → getD b opensAt 0 ≤ maxOpen → (settled : View) → settled ≡ viewIn b settledAt
+    → recordListed views (recordIn b) ≡ both (listed views settled) (both (all (listed views) (viewsIn b (opensAt + 1) (getD b opensAt 0)))
+    (both (listedIf views (seated (seatIn b carrierAt))) (listedIf views (seated (seatIn b clientAt)))))
+unfolding recordIn
+record-in views b few settled e = rw (e, ← opens-in b few) (record-are views (recordIn b))
 
 -- ---- what tests that were met say
 
@@ -83,23 +89,11 @@ module _ (r : Ranges) (sizes : sizesFit (length (r .list)) (length (r .books)) (
     unfolding numbersFit
     made-few = let (_, (x, _)) = conditions-say _ numbers in within-says 1 (madeOf r) (roomOf (r .list)) x .1
 
-    views-few : madeOf r ≤ maxViews
-    unfolding sizesFit
-    views-few =
-        let (_, (x, _)) = conditions-say _ sizes in
-        let room = within-says 1 (roomOf (r .list)) maxViews x in
-        omega (arith, made-few, room .1)
+    pub list-holds : 5 * madeOf r ≤ length (r .list)
+    list-holds = omega (arith, made-few)
 
-    pub list-holds : (0 + 5 * madeOf r ≤ length (r .list)) × (madeOf r ≤ maxViews)
-    list-holds = (omega (arith, made-few), views-few)
-
-    -- the list, as it was loaded
-    module _ (v : Views) (e : v ≡ placed (viewsMade r)) where
-      pub loaded : listOf v ≡ viewsMade r
-      loaded = ap listOf e ∙ list-viewsIn (r .list) 0 (madeOf r) views-few
-
-      pub queues-hold : orderAt (length (listOf v)) ≤ length (r .queues)
-      queues-hold = omega (arith, ap length loaded, length-viewsIn (r .list) 0 (madeOf r), queues-long, made-few)
+    pub queues-hold : orderAt (madeOf r) ≤ length (r .queues)
+    queues-hold = omega (arith, queues-long, made-few)
 
 -- the carrier view of a record whose views are listed
 pub record-carrier : (views : List View) (h : Book) → recordListed views h ≡ true → listedIf views (seated (h .carrier)) ≡ true

@@ -1,51 +1,22 @@
--- What a walk over the places of a record does at each place, and what a walk over the first numbers knows.
-use mathlib.Core.Path.{_≡_}
+-- What a walk over the first numbers knows, and what a walk over the slots of a queue does at each.
+use mathlib.Core.Path.{_≡_, refl, ap₂, _∙_}
 use mathlib.Core.Logic.{⊎-elim}
 use mathlib.Core.Bool.{Bool, true, false}
-use mathlib.Core.List.{List}
-use Prim.Native.Nat.{ℕ, suc, _+_, _<_, _≤_}
+use mathlib.Core.List.{List, [], _∷_}
+use Prim.Native.Nat.{ℕ, zero, suc, _+_, _-_, _*_, _<_, _≤_}
 use native.Mathlib.Omega.{arith}
-use borrow.Author.Tests.{eq-eqb, ne-eqb, eqb-true, eqb-false}
+use borrow.Author.Tests.{eqb-true, eqb-false}
 use lib.Dec.{eqb}
-use lib.ListN.{length, getD, take, drop, drop-of-length-le}
 use Rattle.views.specs.declared.View.{View}
-use Rattle.views.specs.Lists.{idOf, noView}
+use Rattle.views.specs.Sets.{both}
 use Rattle.views.proofs.SetLaws.{known}
-use Rattle.views.proofs.PlaceLaws.{drop-used}
-use Rattle.rules.specs.Member.{every}
-use Rattle.rules.specs.Sound.{sameView, listed}
+use Rattle.rules.specs.Member.{every, all}
+use Rattle.rules.specs.Sound.{conditions, infoListed}
 use Rattle.rules.proofs.TestLaws.{every-from}
-use Rattle.groups.specs.Groups.{placeOf}
-
--- ---- a record's list, which stands at i
-
-module _ (count : ℕ) (at : List View) (i : ℕ) (h : i < length (take count at)) where
-  pub listed-here : (v : View) → sameView v (getD at i noView) ≡ true → listed (drop i (take count at)) v ≡ true
-  unfolding listed
-  listed-here v e = rw (drop-used count at i h, e)
-
-  pub listed-on : (v : View) → sameView v (getD at i noView) ≡ false → listed (drop i (take count at)) v ≡ listed (drop (i + 1) (take count at)) v
-  unfolding listed
-  listed-on v e = rw (drop-used count at i h, e)
-
-  pub place-here : (g : ℕ) → idOf (getD at i noView) ≡ g → placeOf g (drop i (take count at)) ≡ 0
-  unfolding placeOf
-  place-here g e = rw (drop-used count at i h, eq-eqb _ _ e)
-
-  pub place-on : (g : ℕ) → (idOf (getD at i noView) ≡ g → ⊥) → placeOf g (drop i (take count at)) ≡ suc (placeOf g (drop (i + 1) (take count at)))
-  unfolding placeOf
-  place-on g e = rw (drop-used count at i h, ne-eqb _ _ e)
-
-pub listed-end : (l : List View) (i : ℕ) → length l ≤ i → (v : View) → listed (drop i l) v ≡ false
-unfolding listed
-listed-end l i h v = rw (drop-of-length-le l {i = i} h)
-
-pub place-start : (l : List View) (g : ℕ) → placeOf g l ≡ 0 + placeOf g (drop 0 l)
-place-start l g = omega arith
-
-pub place-end : (l : List View) (i : ℕ) → length l ≤ i → (g : ℕ) → placeOf g (drop i l) ≡ 0
-unfolding placeOf
-place-end l i h g = rw (drop-of-length-le l {i = i} h)
+use Rattle.rules.proofs.Truth.{three}
+use Rattle.slots.specs.Slots.{slotSize, entryIn, entriesIn, slotFits, slotsFit}
+use Rattle.entries.specs.Parts.{entrySound}
+use Rattle.inspect.specs.Parts.{entryKnown, entriesKnown}
 
 -- ---- the first numbers
 
@@ -64,3 +35,49 @@ below-more f k g t = λ p h.
 
 pub below-end : (n : ℕ) (f : ℕ → Bool) (k : ℕ) → n ≤ k → Below f k → every n f ≡ true
 below-end n f k h g = every-from n f (λ p i. g p (omega arith))
+
+-- ---- n slots from a place on, of which i are passed
+
+module _ (views : List View) (m : ℕ) (q : List ℕ) (at n : ℕ) where
+  first : at + slotSize * 0 ≡ at
+  first = omega arith
+
+  none-passed : n - 0 ≡ n
+  none-passed = omega arith
+
+  pub known-start : entriesKnown views m q at n ≡ entriesKnown views m q (at + slotSize * 0) (n - 0)
+  known-start = rw (first, none-passed)
+
+  pub known-turn : (i : ℕ) → i < n
+      → entriesKnown views m q (at + slotSize * i) (n - i) ≡ both (entryKnown views m q (at + slotSize * i)) (entriesKnown views m q (at + slotSize * (i + 1)) (n - (i + 1)))
+  unfolding entriesKnown
+  known-turn i h =
+      let left : n - i ≡ suc (n - (i + 1)) = omega arith in
+      let next : at + slotSize * i + slotSize ≡ at + slotSize * (i + 1) = omega arith in
+      rw (left, next)
+
+  pub known-end : n ≡ 0 → entriesKnown views m q at n ≡ true
+  unfolding entriesKnown
+  known-end z = rw z
+
+-- three tests of each are each test of all
+together : (a b c x y z : Bool) → both (both a (both b c)) (both x (both y z)) ≡ both (both a x) (both (both b y) (both c z))
+together false b c x y z = refl
+together true false c false y z = refl
+together true false c true y z = refl
+together true true false false y z = refl
+together true true false true false z = refl
+together true true false true true z = refl
+together true true true false y z = refl
+together true true true true false z = refl
+together true true true true true z = refl
+
+-- all slots together, test by test
+pub known-are : (views : List View) (m : ℕ) (q : List ℕ) (at n : ℕ)
+    → entriesKnown views m q at n ≡ both (slotsFit q at n) (both (all (entrySound m) (entriesIn q at n)) (all (infoListed views) (entriesIn q at n)))
+unfolding entriesKnown entryKnown slotsFit entriesIn all
+known-are views m q at zero = refl
+known-are views m q at (suc n) =
+    ap₂ both (three (slotFits q at) (entrySound m (entryIn q at)) (infoListed views (entryIn q at))) (known-are views m q (at + slotSize) n)
+    ∙ together (slotFits q at) (entrySound m (entryIn q at)) (infoListed views (entryIn q at))
+    (slotsFit q (at + slotSize) n) (all (entrySound m) (entriesIn q (at + slotSize) n)) (all (infoListed views) (entriesIn q (at + slotSize) n))

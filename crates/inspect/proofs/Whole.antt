@@ -27,7 +27,7 @@ use Rattle.books.specs.Places.{membersAt, selfAt}
 use Rattle.books.specs.Records.{seated, recordIn}
 use Rattle.books.specs.Books.{outgoingIn, bookIn, layoutFits, bytesSound}
 use Rattle.books.proofs.LayoutLaws.{layout-says, layout-from}
-use Rattle.audit.proofs.Truth.{alike}
+use Rattle.rules.proofs.Truth.{alike}
 use Rattle.groups.specs.Places.{roomOf, bookBytes, orderAt, waitingAt}
 use Rattle.groups.specs.Groups.{Ranges, membersOf, madeOf, viewsMade, placeOf, waitingIn, orderIn, bookOf, groupIn, rangesFit, rangesSound}
 use Rattle.groups.proofs.RangesLaws.{Queued, Ranged, ranges-says, ranges-from}

@@ -1,9 +1,9 @@
 -- The parts in which three ranges are tested for a sound group: the sizes, the list, each member's book, the queues of each view made. Here `views` is
 -- the list of views made, and n the number of members.
-use mathlib.Core.Bool.{Bool}
+use mathlib.Core.Bool.{Bool, true}
 use mathlib.Core.Option.{Option, none, some}
 use mathlib.Core.List.{List, [], _∷_}
-use Prim.Native.Nat.{ℕ, _+_, _%_, _/_}
+use Prim.Native.Nat.{ℕ, zero, suc, _+_, _%_, _/_}
 use lib.Dec.{eqb, leb}
 use lib.ListN.{length, getD}
 use Rattle.views.specs.declared.View.{View}
@@ -12,12 +12,12 @@ use Rattle.views.specs.Sets.{both}
 use Rattle.views.specs.Lists.{idOf, isRising, listOf}
 use Rattle.rules.specs.Member.{every, all}
 use Rattle.rules.specs.Sound.{within, conditions, setFits, listed, listedIf, infoListed}
-use Rattle.slots.specs.Slots.{queueIn, slotsFit}
+use Rattle.slots.specs.Slots.{slotSize, entryIn, queueIn, slotFits, slotsFit}
 use Rattle.books.specs.declared.Book.{Book}
 use Rattle.books.specs.Places.{membersAt, selfAt}
 use Rattle.books.specs.Records.{seated, recordIn}
 use Rattle.books.specs.Books.{outgoingIn, bytesSound}
-use Rattle.audit.specs.Parts.{entrySound}
+use Rattle.entries.specs.Parts.{entrySound}
 use Rattle.groups.specs.Places.{viewSize, roomOf, booksSize, bookBytes, orderAt, waitingAt, queuesSize}
 use Rattle.groups.specs.Groups.{Ranges, membersOf, madeOf, viewsMade, placeOf}
 
@@ -63,6 +63,15 @@ seatSound views q n p b = conditions (
     ∷ eqb (getD b selfAt 0) p
     ∷ bookKnown views q b
     ∷ [])
+
+-- the slot at a place: of known kind, its entry sound, its views listed
+unfoldable pub entryKnown : List View → ℕ → List ℕ → ℕ → Bool
+entryKnown views n q at = conditions (slotFits q at ∷ entrySound n (entryIn q at) ∷ infoListed views (entryIn q at) ∷ [])
+
+-- k slots from a place on
+unfoldable pub entriesKnown : List View → ℕ → List ℕ → ℕ → ℕ → Bool
+entriesKnown views n q at zero = true
+entriesKnown views n q at (suc k) = both (entryKnown views n q at) (entriesKnown views n q (at + slotSize) k)
 
 -- the queue with its count at c
 unfoldable pub queueSound : List View → ℕ → List ℕ → ℕ → ℕ → Bool

@@ -1,15 +1,14 @@
-// Whether three ranges are a sound group: refusal 4 of the group. Only what is used is looked at.
+// Whether three ranges are a sound group: refusal 4 of the group. Only what is used is looked at, where it lies.
 pub mod listed;
 pub mod seats;
 pub mod tables;
 
 use views::limits;
-use views::list::Views;
 ghost use mathlib.Core.Path.{_≡_};
-ghost use Prim.Native.Nat.{_≤_};
+ghost use Prim.Native.Nat.{_*_, _≤_};
 ghost use lib.ListN.{length};
 ghost use Rattle.views.specs.Limits.{maxMembers};
-ghost use Rattle.views.specs.Lists.{listOf};
+ghost use Rattle.wire.specs.Reader.{viewsIn};
 ghost use Rattle.groups.specs.Places.{booksSize, orderAt};
 ghost use Rattle.groups.specs.Groups.{rangesSound};
 ghost use Rattle.inspect.specs.Parts.{sizesFit, numbersFit, recordsSound};
@@ -50,18 +49,18 @@ fn numbers_fit(n: u8, made: u8, room: usize) -> bool
     made as usize <= room
 }
 
-// The list, the books and the queues.
-fn records_sound(books: &[u8], queues: &[u8], n: u8, views: Views) -> bool
-    requires { ⌜ (length (now books) ≡ booksSize) × (orderAt (length (listOf views)) ≤ length (now queues)) × (n ≤ maxMembers) ⌝ }
-    ensures { λ r. ⌜ r ≡ recordsSound (listOf views) n (now (books .entry)) (now (queues .entry)) ⌝ }
+// The list, the books and the queues, with so many views made.
+fn records_sound(list: &[u8], books: &[u8], queues: &[u8], made: u8, n: u8) -> bool
+    requires { ⌜ (5 * made ≤ length (now list)) × (length (now books) ≡ booksSize) × (orderAt made ≤ length (now queues)) × (n ≤ maxMembers) ⌝ }
+    ensures { λ r. ⌜ r ≡ recordsSound (viewsIn (now (list .entry)) 0 made) n (now (books .entry)) (now (queues .entry)) ⌝ }
 {
-    if !audit::info_sound(n, views) {
+    if !rows::sound(list, 0, made as usize, n) {
         return false;
     }
-    if !seats::seats_sound(books, queues, n, views) {
+    if !seats::seats_sound(list, books, queues, made, n) {
         return false;
     }
-    tables::tables_sound(queues, n, views)
+    tables::tables_sound(list, queues, made, n)
 }
 
 // The ranges are a sound group.
@@ -76,6 +75,5 @@ pub fn sound(list: &[u8], books: &[u8], queues: &[u8]) -> bool
     if !numbers_fit(n, made, list.len() / groups::VIEW) {
         return false;
     }
-    let views = reader::load_views(list, 0, made as usize);
-    records_sound(books, queues, n, views)
+    records_sound(list, books, queues, made, n)
 }

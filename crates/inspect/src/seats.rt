@@ -1,12 +1,11 @@
 // The members' books, each in its place: sound by itself, its member's own, and with nothing that the group does not have.
 use books::Seat;
-use views::list::Views;
 ghost use mathlib.Core.Bool.{true};
 ghost use mathlib.Core.Path.{_≡_};
-ghost use Prim.Native.Nat.{_≤_};
+ghost use Prim.Native.Nat.{_*_, _≤_};
 ghost use lib.ListN.{length};
 ghost use Rattle.views.specs.Limits.{maxMembers};
-ghost use Rattle.views.specs.Lists.{listOf};
+ghost use Rattle.wire.specs.Reader.{viewsIn};
 ghost use Rattle.rules.specs.Member.{every};
 ghost use Rattle.rules.specs.Sound.{listedIf};
 ghost use Rattle.books.specs.Records.{seated};
@@ -15,38 +14,42 @@ ghost use Rattle.groups.specs.Places.{booksSize, bookBytes, orderAt};
 ghost use Rattle.inspect.specs.Parts.{orderedIn, bookKnown, seatSound};
 
 // How many messages are ordered in a listed view, or none.
-fn ordered(queues: &[u8], views: Views, seat: Seat) -> u8
-    requires { ⌜ (orderAt (length (listOf views)) ≤ length (now queues)) × (listedIf (listOf views) (seated seat) ≡ true) ⌝ }
-    ensures { λ r. ⌜ r ≡ orderedIn (listOf views) (now (queues .entry)) (seated seat) ⌝ }
+fn ordered(list: &[u8], queues: &[u8], made: u8, seat: Seat) -> u8
+    requires { ⌜ (5 * made ≤ length (now list)) × (orderAt made ≤ length (now queues)) × (listedIf (viewsIn (now list) 0 made) (seated seat) ≡ true) ⌝ }
+    ensures { λ r. ⌜ r ≡ orderedIn (viewsIn (now (list .entry)) 0 made) (now (queues .entry)) (seated seat) ⌝ }
 {
     if seat.there {
-        let id = seat.view.id;
-        let i = crate::listed::place_of(views, id);
-        return queues[groups::HEAD + groups::TABLE * i];
+        let i = groups::place(list, made, seat.view.id.0 as u64);
+        return queues[groups::HEAD + groups::TABLE * (i as usize)];
     }
     0
 }
 
 // What the group asks of a book: its views are listed, and no more was taken than is ordered.
-fn book_known(b: &[u8], queues: &[u8], views: Views) -> bool
-    requires { ⌜ (layoutFits (now b) ≡ true) × (orderAt (length (listOf views)) ≤ length (now queues)) ⌝ }
-    ensures { λ r. ⌜ r ≡ bookKnown (listOf views) (now (queues .entry)) (now (b .entry)) ⌝ }
+fn book_known(list: &[u8], b: &[u8], queues: &[u8], made: u8) -> bool
+    requires { ⌜ (5 * made ≤ length (now list)) × (layoutFits (now b) ≡ true) × (orderAt made ≤ length (now queues)) ⌝ }
+    ensures { λ r. ⌜ r ≡ bookKnown (viewsIn (now (list .entry)) 0 made) (now (queues .entry)) (now (b .entry)) ⌝ }
 {
-    let h = books::load(b);
-    if !crate::listed::record_listed(views, h) {
+    if !crate::listed::record_listed(list, b, made) {
         return false;
     }
-    let carrier = h.carrier;
-    if ordered(queues, views, carrier) < h.taken.0 {
+    let carrier = books::load_seat(b, books::CARRIER);
+    if ordered(list, queues, made, carrier) < b[books::TAKEN] {
         return false;
     }
-    crate::listed::infos_listed(b, books::OUTGOING + 1, b[books::OUTGOING] as usize, views)
+    crate::listed::infos_listed(
+        list,
+        b,
+        made,
+        books::OUTGOING + 1,
+        b[books::OUTGOING] as usize,
+    )
 }
 
 // The book of the member p.
-fn seat_sound(b: &[u8], queues: &[u8], n: u8, p: u8, views: Views) -> bool
-    requires { ⌜ orderAt (length (listOf views)) ≤ length (now queues) ⌝ }
-    ensures { λ r. ⌜ r ≡ seatSound (listOf views) (now (queues .entry)) n p (now (b .entry)) ⌝ }
+fn seat_sound(list: &[u8], b: &[u8], queues: &[u8], made: u8, n: u8, p: u8) -> bool
+    requires { ⌜ (5 * made ≤ length (now list)) × (orderAt made ≤ length (now queues)) ⌝ }
+    ensures { λ r. ⌜ r ≡ seatSound (viewsIn (now (list .entry)) 0 made) (now (queues .entry)) n p (now (b .entry)) ⌝ }
 {
     if !audit::sound(b) {
         return false;
@@ -57,19 +60,19 @@ fn seat_sound(b: &[u8], queues: &[u8], n: u8, p: u8, views: Views) -> bool
     if b[books::SELF] != p {
         return false;
     }
-    book_known(b, queues, views)
+    book_known(list, b, queues, made)
 }
 
 // The books of n members.
-pub fn seats_sound(books: &[u8], queues: &[u8], n: u8, views: Views) -> bool
-    requires { ⌜ (length (now books) ≡ booksSize) × (orderAt (length (listOf views)) ≤ length (now queues)) × (n ≤ maxMembers) ⌝ }
-    ensures { λ r. ⌜ r ≡ every n (λ p. seatSound (listOf views) (now (queues .entry)) n p (bookBytes (now (books .entry)) p)) ⌝ }
+pub fn seats_sound(list: &[u8], books: &[u8], queues: &[u8], made: u8, n: u8) -> bool
+    requires { ⌜ (5 * made ≤ length (now list)) × (length (now books) ≡ booksSize) × (orderAt made ≤ length (now queues)) × (n ≤ maxMembers) ⌝ }
+    ensures { λ r. ⌜ r ≡ every n (λ p. seatSound (viewsIn (now (list .entry)) 0 made) (now (queues .entry)) n p (bookBytes (now (books .entry)) p)) ⌝ }
 {
     let mut p: u8 = 0;
     while p < n {
         let a = books::SIZE * (p as usize);
         let e = a + books::SIZE;
-        if !seat_sound(&books[a..e], queues, n, p, views) {
+        if !seat_sound(list, &books[a..e], queues, made, n, p) {
             return false;
         }
         p += 1;

@@ -1,49 +1,70 @@
-// The queues of the views made: each view's order, and what waits in it for each member.
+// The queues of the views made: each view's order, and what waits in it for each member. An entry is looked at once.
 use views::limits;
-use views::list;
-use views::list::Views;
 ghost use mathlib.Core.Path.{_≡_};
 ghost use Prim.Native.Nat.{_+_, _*_, _≤_};
 ghost use lib.ListN.{length};
 ghost use Rattle.views.specs.Limits.{maxMembers};
-ghost use Rattle.views.specs.Lists.{listOf};
+ghost use Rattle.wire.specs.Reader.{viewsIn};
 ghost use Rattle.rules.specs.Member.{every};
 ghost use Rattle.slots.specs.Slots.{slotSize};
 ghost use Rattle.groups.specs.Places.{orderAt};
-ghost use Rattle.inspect.specs.Parts.{queueSound, waitingSound, tableSound};
+ghost use Rattle.inspect.specs.Parts.{entryKnown, entriesKnown, queueSound, waitingSound, tableSound};
+
+// The slot at a place: of known kind, its entry sound, its views listed.
+fn entry_known(list: &[u8], q: &[u8], made: u8, at: usize, n: u8) -> bool
+    requires { ⌜ (5 * made ≤ length (now list)) × (at + slotSize ≤ length (now q)) ⌝ }
+    ensures { λ r. ⌜ r ≡ entryKnown (viewsIn (now (list .entry)) 0 made) n (now (q .entry)) at ⌝ }
+{
+    if !slots::slot_fits(q, at) {
+        return false;
+    }
+    if !entries::entry_sound(q, at, n) {
+        return false;
+    }
+    crate::listed::info_listed(list, q, made, at)
+}
+
+// The slots of a queue.
+fn entries_known(list: &[u8], q: &[u8], made: u8, at: usize, count: usize, n: u8) -> bool
+    requires { ⌜ (5 * made ≤ length (now list)) × (at + slotSize * count ≤ length (now q)) ⌝ }
+    ensures { λ r. ⌜ r ≡ entriesKnown (viewsIn (now (list .entry)) 0 made) n (now (q .entry)) at count ⌝ }
+{
+    let mut i = 0;
+    while i < count {
+        if !entry_known(list, q, made, at + slots::SLOT * i, n) {
+            return false;
+        }
+        i += 1;
+    }
+    true
+}
 
 // The queue with its count at a place.
-fn queue_sound(q: &[u8], at: usize, limit: u8, n: u8, views: Views) -> bool
-    requires { ⌜ at + 1 + slotSize * limit ≤ length (now q) ⌝ }
-    ensures { λ r. ⌜ r ≡ queueSound (listOf views) n (now (q .entry)) limit at ⌝ }
+fn queue_sound(list: &[u8], q: &[u8], made: u8, at: usize, limit: u8, n: u8) -> bool
+    requires { ⌜ (5 * made ≤ length (now list)) × (at + 1 + slotSize * limit ≤ length (now q)) ⌝ }
+    ensures { λ r. ⌜ r ≡ queueSound (viewsIn (now (list .entry)) 0 made) n (now (q .entry)) limit at ⌝ }
 {
     if limit < q[at] {
         return false;
     }
-    let count = q[at] as usize;
-    if !audit::slots_fit(q, at + 1, count) {
-        return false;
-    }
-    if !audit::entries_sound(q, at + 1, count, n) {
-        return false;
-    }
-    crate::listed::infos_listed(q, at + 1, count, views)
+    entries_known(list, q, made, at + 1, q[at] as usize, n)
 }
 
 // What waits for n members in the view at place i of the list.
-fn waiting_sound(q: &[u8], n: u8, i: usize, views: Views) -> bool
-    requires { ⌜ (orderAt (i + 1) ≤ length (now q)) × (n ≤ maxMembers) ⌝ }
-    ensures { λ r. ⌜ r ≡ waitingSound (listOf views) n (now (q .entry)) i ⌝ }
+fn waiting_sound(list: &[u8], q: &[u8], made: u8, i: usize, n: u8) -> bool
+    requires { ⌜ (5 * made ≤ length (now list)) × (orderAt (i + 1) ≤ length (now q)) × (n ≤ maxMembers) ⌝ }
+    ensures { λ r. ⌜ r ≡ waitingSound (viewsIn (now (list .entry)) 0 made) n (now (q .entry)) i ⌝ }
 {
     let from = groups::HEAD + groups::TABLE * i + groups::ORDER;
     let mut p: u8 = 0;
     while p < n {
         if !queue_sound(
+            list,
             q,
+            made,
             from + groups::WAITING * (p as usize),
             limits::WAITING,
             n,
-            views,
         ) {
             return false;
         }
@@ -53,31 +74,26 @@ fn waiting_sound(q: &[u8], n: u8, i: usize, views: Views) -> bool
 }
 
 // The queues of the view at place i of the list.
-fn table_sound(q: &[u8], n: u8, i: usize, views: Views) -> bool
-    requires { ⌜ (orderAt (i + 1) ≤ length (now q)) × (n ≤ maxMembers) ⌝ }
-    ensures { λ r. ⌜ r ≡ tableSound (listOf views) n (now (q .entry)) i ⌝ }
+fn table_sound(list: &[u8], q: &[u8], made: u8, i: usize, n: u8) -> bool
+    requires { ⌜ (5 * made ≤ length (now list)) × (orderAt (i + 1) ≤ length (now q)) × (n ≤ maxMembers) ⌝ }
+    ensures { λ r. ⌜ r ≡ tableSound (viewsIn (now (list .entry)) 0 made) n (now (q .entry)) i ⌝ }
 {
-    if !queue_sound(
-        q,
-        groups::HEAD + groups::TABLE * i,
-        limits::ORDERED,
-        n,
-        views,
-    ) {
+    let at = groups::HEAD + groups::TABLE * i;
+    if !queue_sound(list, q, made, at, limits::ORDERED, n) {
         return false;
     }
-    waiting_sound(q, n, i, views)
+    waiting_sound(list, q, made, i, n)
 }
 
 // The queues of every view made.
-pub fn tables_sound(q: &[u8], n: u8, views: Views) -> bool
-    requires { ⌜ (orderAt (length (listOf views)) ≤ length (now q)) × (n ≤ maxMembers) ⌝ }
-    ensures { λ r. ⌜ r ≡ every (length (listOf views)) (tableSound (listOf views) n (now (q .entry))) ⌝ }
+pub fn tables_sound(list: &[u8], q: &[u8], made: u8, n: u8) -> bool
+    requires { ⌜ (5 * made ≤ length (now list)) × (orderAt made ≤ length (now q)) × (n ≤ maxMembers) ⌝ }
+    ensures { λ r. ⌜ r ≡ every made (tableSound (viewsIn (now (list .entry)) 0 made) n (now (q .entry))) ⌝ }
 {
-    let made = list::used(views.count);
+    let views = made as usize;
     let mut i = 0;
-    while i < made {
-        if !table_sound(q, n, i, views) {
+    while i < views {
+        if !table_sound(list, q, made, i, n) {
             return false;
         }
         i += 1;

@@ -32,7 +32,7 @@ fn join(h: Book, t: Step) -> Stepped
     ensures { λ r. ⌜ r ≡ entering h t ⌝ }
 {
     let v = t.view;
-    if !audit::set_fits(t.members, v) {
+    if !rows::set_fits(t.members, v) {
         return steps::refuse(Refusal::SetUnfit, h);
     }
     let p = t.member;

@@ -45,7 +45,7 @@ fn startable(b: &[u8], members: u8, set: u8, own: u8) -> Verdict
         return Verdict::Refused(Refusal::MembersOutOfRange);
     }
     let view = View { id: ViewId(0), set };
-    if !audit::set_fits(members, view) {
+    if !rows::set_fits(members, view) {
         return Verdict::Refused(Refusal::FirstSetUnfit);
     }
     if members <= own {

@@ -3,6 +3,7 @@ pub mod Flat
 pub mod Flatten
 pub mod Changes
 pub mod TestLaws
+pub mod Truth
 pub mod SoundBooks
 pub mod Soundness
 pub mod Holding

@@ -44,7 +44,7 @@ pub fn join(list: &[u8], all: &mut [u8], queues: &[u8], p: u32, id: u64) -> Repl
         return acts::refuse(Refusal::NoSuchMember);
     }
     let made = queues[groups::MADE];
-    let i = carrier::place(list, made, id);
+    let i = groups::place(list, made, id);
     if made <= i {
         return acts::refuse(Refusal::NoSuchView);
     }
@@ -56,8 +56,8 @@ fn order_of(list: &[u8], queues: &[u8], g: ViewId) -> usize
     requires { ⌜ (madeAt < length (now queues)) × (viewSize * getD (now queues) madeAt 0 ≤ length (now list)) × (getD (now queues) madeAt 0 ≤ maxViews) ⌝ }
     ensures { λ r. ⌜ r ≡ orderAt (placeOf (g .0) (viewsIn (now (list .entry)) 0 (getD (now (queues .entry)) madeAt 0))) ⌝ }
 {
-    let i = carrier::place(list, queues[groups::MADE], g.0 as u64);
-    carrier::order_at(i)
+    let i = groups::place(list, queues[groups::MADE], g.0 as u64);
+    groups::order_at(i)
 }
 
 // The member p takes the entry in the slot at a place, sent in the view g.

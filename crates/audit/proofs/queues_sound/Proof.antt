@@ -6,7 +6,7 @@ use borrow.Author.Needs.{needs}
 use Rattle.books.specs.Places.{outgoingAt, sideAt}
 use Rattle.books.proofs.LayoutLaws.{layout-says}
 use Rattle.audit.specs.Parts.{queuesSound}
-use Rattle.audit.proofs.Truth.{stopped, three}
+use Rattle.rules.proofs.Truth.{stopped, three}
 use Rattle.audit.proofs.queues_sound.Statement.{statement}
 use Rattle.audit.proofs.queues_sound.Tie as tie
 

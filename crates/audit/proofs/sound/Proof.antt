@@ -2,12 +2,12 @@
 use mathlib.Core.Path.{sym, _∙_}
 use native.Mathlib.Omega.{arith}
 use borrow.Author.Tests.{not-true, not-false}
-use borrow.Author.Needs.{needs}
+use Rattle.rules.proofs.Truth.{stopped}
 use Rattle.books.specs.Places.{sideAt}
 use Rattle.books.specs.Books.{bytesSound}
 use Rattle.books.proofs.LayoutLaws.{layout-says}
-use Rattle.audit.proofs.Truth.{stopped}
 use Rattle.audit.proofs.Whole.{record-stops, record-passes}
+use borrow.Author.Needs.{needs}
 use Rattle.audit.proofs.sound.Statement.{statement}
 use Rattle.audit.proofs.sound.Tie as tie
 
@@ -48,20 +48,17 @@ add-new c = search needs
 shared-slice-read-new : tie.Need-shared-slice-read-new
 shared-slice-read-new c = let l = layout-says (c .before .before .before .before .before .before .before .args .b .now) (sym (c .before .before .before .before .before .layout-fits .ensures) ∙ not-false _ (c .before .before .before .before .if1 .left)) in omega (arith, l .size, l .side)
 
-load-requires : tie.Need-load-requires
-load-requires c κs = let l = layout-says (c .before .before .before .before .before .before .before .args .b .now) (sym (c .before .before .before .before .before .layout-fits .ensures) ∙ not-false _ (c .before .before .before .before .if1 .left)) in omega (arith, l .size, l .side)
-
 record-sound-requires : tie.Need-record-sound-requires
-record-sound-requires c κs = search needs
+record-sound-requires c κs = let l = layout-says (c .before .before .before .before .before .before .before .args .b .now) (sym (c .before .before .before .before .before .layout-fits .ensures) ∙ not-false _ (c .before .before .before .before .if1 .left)) in (omega (arith, l .size), l .opens)
 
 returns-2 : tie.Need-returns-2
-returns-2 c = sym (record-stops (c .before .before .before .before .before .before .before .before .before .before .args .b .now) (sym (c .before .before .before .before .before .before .before .before .layout-fits .ensures) ∙ not-false _ (c .before .before .before .before .before .before .before .if1 .left)) _ (c .before .before .load .ensures) (sym (c .before .record-sound .ensures) ∙ not-true _ (c .if2 .taken)))
+returns-2 c = sym (record-stops (c .before .before .before .before .before .before .before .before .before .args .b .now) (sym (c .before .before .before .before .before .before .before .layout-fits .ensures) ∙ not-false _ (c .before .before .before .before .before .before .if1 .left)) (sym (c .before .record-sound .ensures) ∙ not-true _ (c .if2 .taken)))
 
 queues-sound-requires : tie.Need-queues-sound-requires
-queues-sound-requires c κs = sym (c .before .before .before .before .before .before .before .before .layout-fits .ensures) ∙ not-false _ (c .before .before .before .before .before .before .before .if1 .left)
+queues-sound-requires c κs = sym (c .before .before .before .before .before .before .before .layout-fits .ensures) ∙ not-false _ (c .before .before .before .before .before .before .if1 .left)
 
 returns-3 : tie.Need-returns-3
-returns-3 c = c .queues-sound .ensures ∙ sym (record-passes (c .before .before .before .before .before .before .before .before .before .before .before .args .b .now) (sym (c .before .before .before .before .before .before .before .before .before .layout-fits .ensures) ∙ not-false _ (c .before .before .before .before .before .before .before .before .if1 .left)) _ (c .before .before .before .load .ensures) (sym (c .before .before .record-sound .ensures) ∙ not-false _ (c .before .if2 .left)))
+returns-3 c = c .queues-sound .ensures ∙ sym (record-passes (c .before .before .before .before .before .before .before .before .before .before .args .b .now) (sym (c .before .before .before .before .before .before .before .before .layout-fits .ensures) ∙ not-false _ (c .before .before .before .before .before .before .before .if1 .left)) (sym (c .before .before .record-sound .ensures) ∙ not-false _ (c .before .if2 .left)))
 
 pub sound-spec : {M : Type 1} → statement M
 sound-spec =
@@ -79,7 +76,6 @@ sound-spec =
     mul-new
     add-new
     shared-slice-read-new
-    load-requires
     record-sound-requires
     returns-2
     queues-sound-requires

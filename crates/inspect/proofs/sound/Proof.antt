@@ -3,13 +3,13 @@ use mathlib.Core.Path.{sym, _∙_}
 use mathlib.Core.List.{List}
 use Prim.Native.Nat.{ℕ}
 use native.Mathlib.Omega.{arith}
-use borrow.Author.Needs.{needs}
 use borrow.Author.Tests.{not-true, not-false}
-use Rattle.audit.proofs.Truth.{stopped, three}
+use Rattle.rules.proofs.Truth.{stopped, three}
 use Rattle.groups.specs.Groups.{Ranges}
 use Rattle.inspect.specs.Parts.{partsSound}
-use Rattle.inspect.proofs.Tests.{books-long, queues-long, members-few, list-holds, loaded, queues-hold}
+use Rattle.inspect.proofs.Tests.{books-long, queues-long, members-few, list-holds, queues-hold}
 use Rattle.inspect.proofs.Whole.{ranges-parts}
+use borrow.Author.Needs.{needs}
 use Rattle.inspect.proofs.sound.Statement.{statement}
 use Rattle.inspect.proofs.sound.Tie as tie
 
@@ -36,18 +36,12 @@ returns-2 : tie.Need-returns-2
 unfolding partsSound
 returns-2 c = sym (ranges-parts _ ∙ stopped _ 1 (sym (c .before .numbers-fit .ensures) ∙ not-true _ (c .if2 .taken)))
 
-cast-load-views : tie.Need-cast-load-views
-cast-load-views c = omega (arith, c .before .before .shared-slice-known5 .given 0)
-
-load-views-requires : tie.Need-load-views-requires
-load-views-requires c κs = let a = c .before .before .before .before .before .before .before .before .before .args in let r = lent (a .list .now) (a .books .now) (a .queues .now) in list-holds r (sym (c .before .before .before .before .before .sizes-fit .ensures) ∙ not-false _ (c .before .before .before .before .if1 .left)) (sym (c .before .numbers-fit .ensures) ∙ not-false _ (c .if2 .left))
-
 records-sound-requires : tie.Need-records-sound-requires
-records-sound-requires c κs = let a = c .before .before .before .before .before .before .before .before .before .before .args in let r = lent (a .list .now) (a .books .now) (a .queues .now) in let z = (sym (c .before .before .before .before .before .before .sizes-fit .ensures) ∙ not-false _ (c .before .before .before .before .before .if1 .left)) in let m = (sym (c .before .before .numbers-fit .ensures) ∙ not-false _ (c .before .if2 .left)) in (books-long r z, queues-hold r z m _ (c .load-views .ensures), members-few r z m)
+records-sound-requires c κs = let a = c .before .before .before .before .before .before .before .before .before .args in let r = lent (a .list .now) (a .books .now) (a .queues .now) in let z = (sym (c .before .before .before .before .before .sizes-fit .ensures) ∙ not-false _ (c .before .before .before .before .if1 .left)) in let m = (sym (c .before .numbers-fit .ensures) ∙ not-false _ (c .if2 .left)) in (list-holds r z m, books-long r z, queues-hold r z m, members-few r z m)
 
 returns-3 : tie.Need-returns-3
 unfolding partsSound
-returns-3 c = let a = c .before .before .before .before .before .before .before .before .before .before .before .args in let r = lent (a .list .now) (a .books .now) (a .queues .now) in let z = (sym (c .before .before .before .before .before .before .before .sizes-fit .ensures) ∙ not-false _ (c .before .before .before .before .before .before .if1 .left)) in let m = (sym (c .before .before .before .numbers-fit .ensures) ∙ not-false _ (c .before .before .if2 .left)) in c .records-sound .ensures ∙ sym (ranges-parts r ∙ three _ _ _ ∙ rw (z, m, ← loaded r z m _ (c .before .load-views .ensures)))
+returns-3 c = let a = c .before .before .before .before .before .before .before .before .before .before .args in let r = lent (a .list .now) (a .books .now) (a .queues .now) in let z = (sym (c .before .before .before .before .before .before .sizes-fit .ensures) ∙ not-false _ (c .before .before .before .before .before .if1 .left)) in let m = (sym (c .before .before .numbers-fit .ensures) ∙ not-false _ (c .before .if2 .left)) in c .records-sound .ensures ∙ sym (ranges-parts r ∙ three _ _ _ ∙ rw (z, m))
 
 pub sound-spec : {M : Type 1} → statement M
 sound-spec =
@@ -59,7 +53,5 @@ sound-spec =
     shared-slice-read-made
     numbers-fit-requires
     returns-2
-    cast-load-views
-    load-views-requires
     records-sound-requires
     returns-3)
