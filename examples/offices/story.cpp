@@ -13,6 +13,8 @@ constexpr dvs::Set kFirst{kRuskmoor, kAldersea, kHalden, kFernworth, kKettlemere
 constexpr dvs::Set kWest{kRuskmoor, kAldersea}, kEast{kHalden, kFernworth, kKettlemere}, kNew{kThornholm, kBrackwater, kMillhythe};
 constexpr Mark kBeam{'B', 12}, kColumn{'C', 4}, kRafter{'R', 3};
 
+void heading(const char *words) { std::printf("%s\n\n", words); }
+
 // The same offices twice, with the same lines, weather and engineers: by the service, and by the old program's rule.
 struct Firms {
   Firm now{873, kFirst, Rule::service}, old{873, kFirst, Rule::old_program};
@@ -22,11 +24,17 @@ struct Firms {
     deed(now);
     deed(old);
   }
+
+  // What happens to both, told by the service's offices.
+  template <class Deed>
+  void chapter(const char *words, Deed deed) {
+    heading(words);
+    both(deed);
+    now.print();
+  }
 };
 
 Office &at(Firm &firm, dvs::Member office) { return firm[dvs::number(office)]; }
-
-void heading(const char *words) { std::printf("%s\n\n", words); }
 
 std::string say(const Line &line) {
   return name(line.section) + " " + name(line.verdict) + (line.safe && line.verdict != Verdict::designed ? ", safe" : "");
@@ -59,22 +67,19 @@ void side_by_side(const Firms &firms, dvs::Set set) {
 }
 
 void opening(Firms &firms) {
-  heading("1. Five offices open the register. Kettlemere has checked column C4 and marks it adequate; the mark is safe in all five.\n"
-          "   Three more offices have books, and no line yet.");
-  firms.both([](Firm &firm) {
+  firms.chapter("1. Five offices open the register. Kettlemere has checked column C4 and marks it adequate; the mark is safe in all five.\n"
+                "   Three more offices have books, and no line yet.", [](Firm &firm) {
     at(firm, kKettlemere).wish(kColumn, {100, 100}, Verdict::adequate);
     firm.run();
     expect(firm.working() == kFirst, "the first view is a primary one");
     expect_safe(firm, kFirst, kColumn, {100, 100}, Verdict::adequate);
   });
-  firms.now.print();
 }
 
 void first_failure(Firms &firms) {
-  heading("2. The line to Fernworth and Kettlemere fails. Ruskmoor, Aldersea and Halden are three of five and go on in view 1.\n"
-          "   They all register in it. Then the line to Halden gets slow: it does not hear the others register, so Ruskmoor and\n"
-          "   Aldersea settle view 1 while Halden still holds it open. Two of five get 21. Both programs decide so.");
-  firms.both([](Firm &firm) {
+  firms.chapter("2. The line to Fernworth and Kettlemere fails. Ruskmoor, Aldersea and Halden are three of five and go on in view 1.\n"
+                "   They all register in it. Then the line to Halden gets slow: it does not hear the others register, so Ruskmoor and\n"
+                "   Aldersea settle view 1 while Halden still holds it open. Two of five get 21. Both programs decide so.", [](Firm &firm) {
     firm.connect({kWest.with(kHalden), {kFernworth, kKettlemere}});
     const Office &halden = at(firm, kHalden);
     firm.run_until([&] { return halden.works() && halden.book().registered(); });
@@ -86,14 +91,12 @@ void first_failure(Firms &firms) {
       expect(at(firm, office).book().settled().identifier == dvs::Identifier{1} && at(firm, office).book().open().empty(), "view 1 is settled there");
     expect(halden.book().settled().identifier == dvs::Identifier{0} && halden.book().open().size() == 1, "Halden holds view 1 open");
   });
-  firms.now.print();
 }
 
 void second_failure(Firms &firms) {
-  heading("3. The line fails again: Ruskmoor and Aldersea on one side, Halden, Fernworth and Kettlemere on the other. At Ruskmoor a\n"
-          "   new load is found, and beam B12 must become 75x225. At Fernworth, which has not heard of it, an engineer finds B12\n"
-          "   adequate at 63x175.");
-  firms.both([](Firm &firm) {
+  firms.chapter("3. The line fails again: Ruskmoor and Aldersea on one side, Halden, Fernworth and Kettlemere on the other. At Ruskmoor a\n"
+                "   new load is found, and beam B12 must become 75x225. At Fernworth, which has not heard of it, an engineer finds B12\n"
+                "   adequate at 63x175.", [](Firm &firm) {
     firm.carrier().hold(kHalden, false);
     firm.connect({kWest, kEast});
     firm.run();
@@ -102,7 +105,6 @@ void second_failure(Firms &firms) {
     firm.run();
     expect_safe(firm, kWest, kBeam, {75, 225}, Verdict::resized);
   });
-  firms.now.print();
   std::printf("   Halden, Fernworth and Kettlemere pass against the first view, 6 > 5, and fail against view 1, where Halden was one of\n"
               "   three, 2 > 3. The old program stopped at the first held view that passed. The service asks every one.\n\n");
   side_by_side(firms, kFirst);
@@ -119,21 +121,18 @@ void second_failure(Firms &firms) {
 }
 
 void growth(Firms &firms) {
-  heading("4. Thornholm, Brackwater and Millhythe get a line to Ruskmoor. The new view has all of the settled view 3, and the new\n"
-          "   offices take over its lines.");
-  firms.both([](Firm &firm) {
+  firms.chapter("4. Thornholm, Brackwater and Millhythe get a line to Ruskmoor. The new view has all of the settled view 3, and the new\n"
+                "   offices take over its lines.", [](Firm &firm) {
     firm.connect({kWest | kNew, kEast});
     firm.run();
     expect_safe(firm, kWest | kNew, kBeam, {75, 225}, Verdict::resized);
   });
   expect(firms.now.working() == (kWest | kNew), "the primary view grows");
-  firms.now.print();
 }
 
 void reunion(Firms &firms) {
-  heading("5. All lines are back. The eight offices bring their lines, and the latest of each counts. Fernworth's change was made on\n"
-          "   a line that is no more: it is not sent and comes back to the engineer. Millhythe re-sizes rafter R3.");
-  firms.both([](Firm &firm) {
+  firms.chapter("5. All lines are back. The eight offices bring their lines, and the latest of each counts. Fernworth's change was made on\n"
+                "   a line that is no more: it is not sent and comes back to the engineer. Millhythe re-sizes rafter R3.", [](Firm &firm) {
     firm.connect({kAll});
     firm.run();
     at(firm, kMillhythe).wish(kRafter, {50, 175}, Verdict::resized);
@@ -141,7 +140,6 @@ void reunion(Firms &firms) {
     expect(firm.primaries().size() == 1 && firm.working() == kAll, "all work in one view");
     expect_safe(firm, kAll, kRafter, {50, 175}, Verdict::resized);
   });
-  firms.now.print();
   const Office &fernworth = at(firms.now, kFernworth);
   for (const Wish &wish : fernworth.come_back())
     std::printf("   To Fernworth's engineer: %s %s %s was not sent; the line now says: %s.\n\n", name(wish.mark).c_str(),

@@ -37,19 +37,11 @@ uint32_t safe(uint8_t* book, size_t book_size, uint8_t* event, size_t event_size
 uint32_t collect(uint8_t* book, size_t book_size) { return Alone({book, book_size}).collect(); }
 
 uint32_t read(const uint8_t* bytes, size_t bytes_size, uint8_t* message, size_t message_size) {
-  Message m;
-  if (message_size != kRecordSize) return kUnsound;
-  if (Refusal r = plain::read(bytes, bytes_size, m)) return r;
-  store_record(m, message);
-  return kAccepted;
+  return read_record(bytes, bytes_size, {message, message_size});
 }
 uint32_t write(const uint8_t* message, size_t message_size, uint8_t* buffer, size_t buffer_size, uint8_t* length,
                size_t length_size) {
-  if (message_size != kRecordSize || length_size != kLengthSize) return kUnsound;
-  Message m = load_record(message);
-  if (Refusal r = plain::write(m, buffer, buffer_size)) return r;
-  put(length, 4, plain::length(m));
-  return kAccepted;
+  return write_record(message, message_size, {buffer, buffer_size}, {length, length_size});
 }
 uint32_t read_struct(const uint8_t* bytes, size_t bytes_size, Message& message) {
   return plain::read(bytes, bytes_size, message);
@@ -71,82 +63,35 @@ uint32_t group_step(uint8_t* list, size_t list_size, uint8_t* books, size_t book
   return group.step(kind, first, second, {event, event_size});
 }
 
-Refusal Kept::open() const {
+template <class Do> uint32_t Kept::step(Do what) {
   if (m_.opens > kOpen || m_.outgoings > kOutgoing || m_.side > 1) return kUnsound;
   if (m_.inward[0].count > kOrdered || m_.inward[1].count > kOrdered) return kUnsound;
-  if (m_.members < 1 || m_.members > kMembers || !m_.sound(Setting{m_.members}, kOrdered)) return kUnsound;
-  return m_.own < m_.members ? kAccepted : kBadMember;
+  Refusal r = m_.admit();
+  return r ? r : what();
 }
 
 uint32_t Kept::start(uint32_t members, uint32_t first_set, uint32_t own) {
-  if (members < 1 || members > kMembers) return kBadMembers;
-  if (!set_fits(first_set, members)) return kBadFirstSet;
-  if (own >= members) return kBadMember;
-  m_ = Member();
+  if (Refusal r = start_refusal(members, first_set, own)) return r;
+  m_ = ByItself();
   m_.members = static_cast<uint8_t>(members), m_.own = static_cast<uint8_t>(own);
   m_.settled = m_.carrier = m_.client = View{0, static_cast<uint8_t>(first_set)};
   m_.has_carrier = m_.has_client = m_.registered = first_set >> own & 1;
   return kAccepted;
 }
 
-uint32_t Kept::join(uint32_t view, uint32_t set) {
-  if (Refusal r = open()) return r;
-  if (!set_fits(set, m_.members)) return kBadSet;
-  if (!(set >> m_.own & 1)) return kNotInView;
-  return m_.join(View{view, static_cast<uint8_t>(set)});
-}
-
+uint32_t Kept::join(uint32_t view, uint32_t set) { return step([&] { return m_.join(view, set); }); }
 uint32_t Kept::pass(uint8_t* buffer, size_t buffer_size, uint32_t& length) {
-  if (Refusal r = open()) return r;
-  if (!m_.has_carrier) return kNoCarrier;
-  if (m_.outgoings == 0) return kNoneOutgoing;
-  Message message = m_.outgoing[0].message(m_.carrier.id);
-  if (Refusal r = plain::write(message, buffer, buffer_size)) return r;
-  length = static_cast<uint32_t>(plain::length(message));
-  m_.pop();
-  return kAccepted;
+  return step([&] { return m_.pass({buffer, buffer_size}, length); });
 }
-
 uint32_t Kept::deliver(const uint8_t* bytes, size_t bytes_size, uint32_t sender) {
-  if (Refusal r = open()) return r;
-  if (!m_.has_carrier) return kNoCarrier;
-  Message message;
-  if (Refusal r = plain::read(bytes, bytes_size, message)) return r;
-  for (unsigned i = 0; i < message.count; ++i)
-    if (!set_fits(message.views[i].set, m_.members)) return kBadSet;
-  if (message.view != m_.carrier.id) return kAnotherView;
-  if (sender >= kMembers || !(m_.carrier.set >> sender & 1)) return kSenderNotInView;
-  if (m_.taken >= kOrdered) return kOrderFull;
-  return m_.take(message, static_cast<uint8_t>(sender));
+  return step([&] { return m_.deliver(bytes, bytes_size, sender); });
 }
-
-uint32_t Kept::attempt(Event& event) {
-  Refusal r = open();
-  return r ? r : m_.attempt(event);
-}
-uint32_t Kept::enroll(Event& event) {
-  Refusal r = open();
-  return r ? r : m_.enroll(event);
-}
-uint32_t Kept::send(uint64_t entry, Event& event) {
-  Refusal r = open();
-  return r ? r : m_.send(entry, event);
-}
-uint32_t Kept::hand(Event& event) {
-  Refusal r = open();
-  return r ? r : m_.hand(event);
-}
-uint32_t Kept::tell() {
-  Refusal r = open();
-  return r ? r : m_.tell();
-}
-uint32_t Kept::safe(Event& event) {
-  Refusal r = open();
-  return r ? r : m_.safe(event);
-}
-uint32_t Kept::collect() {
-  Refusal r = open();
-  return r ? r : m_.collect();
-}
+uint32_t Kept::attempt(Event& event) { return step([&] { return m_.attempt(event); }); }
+uint32_t Kept::enroll(Event& event) { return step([&] { return m_.enroll(event); }); }
+uint32_t Kept::send(uint64_t entry, Event& event) { return step([&] { return m_.send(entry, event); }); }
+uint32_t Kept::hand(Event& event) { return step([&] { return m_.hand(event); }); }
+uint32_t Kept::tell() { return step([&] { return m_.tell(); }); }
+uint32_t Kept::safe(Event& event) { return step([&] { return m_.safe(event); }); }
+uint32_t Kept::collect() { return step([&] { return m_.collect(); }); }
 
 }  // namespace independent

@@ -7,41 +7,33 @@
 //            does the step. Nothing is parsed or stored but a message at pass and deliver.
 #pragma once
 
+#include "../../include/dvs.h"
 #include "../outside/group.hpp"
 
 namespace independent {
 
-uint32_t start(uint8_t* book, size_t book_size, uint32_t members, uint32_t first_set, uint32_t own);
-uint32_t join(uint8_t* book, size_t book_size, uint32_t view, uint32_t set);
-uint32_t pass(uint8_t* book, size_t book_size, uint8_t* buffer, size_t buffer_size, uint8_t* length,
-              size_t length_size);
-uint32_t deliver(uint8_t* book, size_t book_size, const uint8_t* bytes, size_t bytes_size, uint32_t sender);
-uint32_t attempt(uint8_t* book, size_t book_size, uint8_t* event, size_t event_size);
-uint32_t enroll(uint8_t* book, size_t book_size, uint8_t* event, size_t event_size);
-uint32_t send(uint8_t* book, size_t book_size, uint64_t entry, uint8_t* event, size_t event_size);
-uint32_t hand(uint8_t* book, size_t book_size, uint8_t* event, size_t event_size);
-uint32_t tell(uint8_t* book, size_t book_size);
-uint32_t safe(uint8_t* book, size_t book_size, uint8_t* event, size_t event_size);
-uint32_t collect(uint8_t* book, size_t book_size);
+// Over bytes: each with the parameters of the library's function.
+decltype(dvs_start) start;
+decltype(dvs_join) join;
+decltype(dvs_pass) pass;
+decltype(dvs_deliver) deliver;
+decltype(dvs_attempt) attempt, enroll, hand, safe;
+decltype(dvs_send) send;
+decltype(dvs_tell) tell, collect;
+decltype(dvs_read) read;
+decltype(dvs_write) write;
+decltype(dvs_group_start) group_start;
+decltype(dvs_group_step) group_step;
 
-uint32_t read(const uint8_t* bytes, size_t bytes_size, uint8_t* message, size_t message_size);
-uint32_t write(const uint8_t* message, size_t message_size, uint8_t* buffer, size_t buffer_size, uint8_t* length,
-               size_t length_size);
 uint32_t read_struct(const uint8_t* bytes, size_t bytes_size, plain::Message& message);
 uint32_t write_struct(const plain::Message& message, uint8_t* buffer, size_t buffer_size, uint32_t& length);
 
-uint32_t group_start(uint8_t* list, size_t list_size, uint8_t* books, size_t books_size, uint8_t* queues,
-                     size_t queues_size, uint32_t members, uint32_t first_set);
-uint32_t group_step(uint8_t* list, size_t list_size, uint8_t* books, size_t books_size, uint8_t* queues,
-                    size_t queues_size, uint32_t kind, uint32_t first, uint64_t second, uint8_t* event,
-                    size_t event_size);
-
 // A member's struct, kept by the host. The calls are those of the member by itself.
 class Kept {
-  plain::Member m_;
+  plain::ByItself m_;
 
-  // Refusal 4 and 6: what loading a book would have refused, then what it would mean.
-  plain::Refusal open() const;
+  // Asks refusals 4 and 6, first what loading a book would have refused, then what it would mean; and steps.
+  template <class Do> uint32_t step(Do what);
 
  public:
   uint32_t start(uint32_t members, uint32_t first_set, uint32_t own);

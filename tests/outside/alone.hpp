@@ -1,26 +1,62 @@
-// The member by itself, as a host calls it: a book of any bytes and any length, plain numbers, and byte ranges. Each call
-// gives its number and leaves in the lent ranges what the accepted step makes of them.
+// The member by itself: its calls on a book as plain data, and as a host makes them, with a book of any bytes and any
+// length, plain numbers, and byte ranges. Each gives its number and leaves what the accepted step makes of what was lent.
 #pragma once
 
 #include "book.hpp"
 
 namespace plain {
 
-struct Range { uint8_t* at; size_t size; };
+inline Refusal start_refusal(uint32_t members, uint32_t first_set, uint32_t own) {
+  if (members < 1 || members > kMembers) return kBadMembers;
+  if (!set_fits(first_set, members)) return kBadFirstSet;
+  return own < members ? kAccepted : kBadMember;
+}
 
-class Alone {
-  Range book_;
-  Member m_;
-
-  // 4 and 6, before anything else of a call.
-  Refusal open() {
-    if (book_.size != kBookSize || !load(book_.at, m_)) return kUnsound;
-    if (m_.members < 1 || m_.members > kMembers || !m_.sound(Setting{m_.members}, kOrdered)) return kUnsound;
-    return m_.own < m_.members ? kAccepted : kBadMember;
+// A book as plain data, with the calls that set the member by itself apart from a group's.
+struct ByItself : Member {
+  // 4, of what the book's bytes mean, and 6: before anything else of a call.
+  Refusal admit() const {
+    if (members < 1 || members > kMembers || !sound(Setting{members}, kOrdered)) return kUnsound;
+    return own < members ? kAccepted : kBadMember;
   }
 
+  Refusal join(uint32_t view, uint32_t set) {
+    if (!set_fits(set, members)) return kBadSet;
+    if (!(set >> own & 1)) return kNotInView;
+    return Member::join(View{view, static_cast<uint8_t>(set)});
+  }
+
+  Refusal pass(Range buffer, uint32_t& size) {
+    if (!has_carrier) return kNoCarrier;
+    if (outgoings == 0) return kNoneOutgoing;
+    Message message = outgoing[0].message(carrier.id);
+    if (Refusal r = write(message, buffer.at, buffer.size)) return r;
+    size = static_cast<uint32_t>(length(message));
+    pop();
+    return kAccepted;
+  }
+
+  Refusal deliver(const uint8_t* bytes, size_t size, uint32_t sender) {
+    if (!has_carrier) return kNoCarrier;
+    Message message;
+    if (Refusal r = read(bytes, size, message)) return r;
+    for (unsigned i = 0; i < message.count; ++i)
+      if (!set_fits(message.views[i].set, members)) return kBadSet;
+    if (message.view != carrier.id) return kAnotherView;
+    if (sender >= kMembers || !(carrier.set >> sender & 1)) return kSenderNotInView;
+    if (taken >= kOrdered) return kOrderFull;
+    return take(message, static_cast<uint8_t>(sender));
+  }
+};
+
+// The same over a lent book, which each call loads, and stores where it is accepted.
+class Alone {
+  Range book_;
+  ByItself m_;
+
   template <class Do> Refusal change(Do what) {
-    Refusal r = open();
+    if (book_.size != kBookSize || !load(book_.at, m_)) return kUnsound;
+    Refusal r = m_.admit();
     if (r == kAccepted) r = what();
     if (r == kAccepted) store(m_, book_.at);
     return r;
@@ -39,50 +75,23 @@ class Alone {
 
   Refusal start(uint32_t members, uint32_t first_set, uint32_t own) {
     if (book_.size != kBookSize) return kUnsound;
-    if (members < 1 || members > kMembers) return kBadMembers;
-    if (!set_fits(first_set, members)) return kBadFirstSet;
-    if (own >= members) return kBadMember;
+    if (Refusal r = start_refusal(members, first_set, own)) return r;
     store_fresh(book_.at, members, static_cast<uint8_t>(first_set), own);
     return kAccepted;
   }
 
-  Refusal join(uint32_t view, uint32_t set) {
-    return change([&] {
-      if (!set_fits(set, m_.members)) return kBadSet;
-      if (!(set >> m_.own & 1)) return kNotInView;
-      return m_.join(View{view, static_cast<uint8_t>(set)});
-    });
+  Refusal pass(Range buffer, Range length) {
+    if (length.size != kLengthSize) return kUnsound;
+    uint32_t size = 0;
+    Refusal r = change([&] { return m_.pass(buffer, size); });
+    if (r == kAccepted) put(length.at, kLengthSize, size);
+    return r;
   }
 
-  Refusal pass(Range buffer, Range len) {
-    if (len.size != kLengthSize) return kUnsound;
-    return change([&] {
-      if (!m_.has_carrier) return kNoCarrier;
-      if (m_.outgoings == 0) return kNoneOutgoing;
-      Message message = m_.outgoing[0].message(m_.carrier.id);
-      Refusal r = write(message, buffer.at, buffer.size);
-      if (r != kAccepted) return r;
-      put(len.at, 4, length(message));
-      m_.pop();
-      return kAccepted;
-    });
-  }
-
+  Refusal join(uint32_t view, uint32_t set) { return change([&] { return m_.join(view, set); }); }
   Refusal deliver(const uint8_t* bytes, size_t size, uint32_t sender) {
-    return change([&] {
-      if (!m_.has_carrier) return kNoCarrier;
-      Message message;
-      Refusal r = read(bytes, size, message);
-      if (r != kAccepted) return r;
-      for (unsigned i = 0; i < message.count; ++i)
-        if (!set_fits(message.views[i].set, m_.members)) return kBadSet;
-      if (message.view != m_.carrier.id) return kAnotherView;
-      if (sender >= kMembers || !(m_.carrier.set >> sender & 1)) return kSenderNotInView;
-      if (m_.taken >= kOrdered) return kOrderFull;
-      return m_.take(message, static_cast<uint8_t>(sender));
-    });
+    return change([&] { return m_.deliver(bytes, size, sender); });
   }
-
   Refusal attempt(Range event) { return show(event, [&](Event& e) { return m_.attempt(e); }); }
   Refusal enroll(Range event) { return show(event, [&](Event& e) { return m_.enroll(e); }); }
   Refusal send(uint64_t entry, Range event) { return show(event, [&](Event& e) { return m_.send(entry, e); }); }

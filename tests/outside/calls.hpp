@@ -117,13 +117,7 @@ class Calls {
   uint32_t read() {
     return both(kFnRead, {&bytes, &record}, {},
                 [&] { return dvs_read(bytes.theirs(), bytes.size(), record.theirs(), record.size()); },
-                [&]() -> uint32_t {
-                  plain::Message m;
-                  if (record.size() != plain::kRecordSize) return plain::kUnsound;
-                  if (plain::Refusal r = plain::read(bytes.mine(), bytes.size(), m)) return r;
-                  plain::store_record(m, record.mine());
-                  return plain::kAccepted;
-                });
+                [&] { return plain::read_record(bytes.mine(), bytes.size(), record.range()); });
   }
   uint32_t write() {
     return both(kFnWrite, {&record, &buffer, &length}, {},
@@ -131,13 +125,7 @@ class Calls {
                   return dvs_write(record.theirs(), record.size(), buffer.theirs(), buffer.size(), length.theirs(),
                                    length.size());
                 },
-                [&]() -> uint32_t {
-                  if (record.size() != plain::kRecordSize || length.size() != plain::kLengthSize) return plain::kUnsound;
-                  plain::Message m = plain::load_record(record.mine());
-                  if (plain::Refusal r = plain::write(m, buffer.mine(), buffer.size())) return r;
-                  plain::put(length.mine(), 4, plain::length(m));
-                  return plain::kAccepted;
-                });
+                [&] { return plain::write_record(record.mine(), record.size(), buffer.range(), length.range()); });
   }
 
   uint32_t group_start(Lent& list, Lent& books, Lent& queues, uint32_t members, uint32_t first_set) {

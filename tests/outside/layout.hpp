@@ -50,6 +50,9 @@ enum Step : uint32_t {
   kTell = 10, kSafe = 11, kCollect = 12
 };
 
+// A lent range.
+struct Range { uint8_t* at; size_t size; };
+
 struct View { uint32_t id; uint8_t set; };
 
 inline bool operator==(const View& a, const View& b) { return a.id == b.id && a.set == b.set; }

@@ -55,19 +55,19 @@ class Papers {
     expect("attempt 1", step(DVS_STEP_ATTEMPT, 1), 19);
   }
 
+  // View 1 is attempted by a member, where all members have the first view.
+  void attempt(const char* what, uint32_t members, uint32_t set, uint32_t by, uint32_t expected) {
+    start(members, (1u << members) - 1), meet(1, set);
+    expect(what, step(DVS_STEP_ATTEMPT, by), expected);
+  }
+
   void views() {
-    start(5, 31), meet(1, 28);
-    expect("{2,3,4} against {0,1,2,3,4}", step(DVS_STEP_ATTEMPT, 2), 0), expect_event(6, 2, 1, 28, 0, 0);
-    start(5, 31), meet(1, 3);
-    expect("{0,1} against {0,1,2,3,4}", step(DVS_STEP_ATTEMPT, 0), 21);
-    start(5, 31), meet(1, 7);
-    expect("{0,1,2} by server 2", step(DVS_STEP_ATTEMPT, 2), 0);
-    meet(2, 28);
+    attempt("{2,3,4} against {0,1,2,3,4}", 5, 28, 2, 0), expect_event(6, 2, 1, 28, 0, 0);
+    attempt("{0,1} against {0,1,2,3,4}", 5, 3, 0, 21);
+    attempt("{0,1,2} by server 2", 5, 7, 2, 0), meet(2, 28);
     expect("{2,3,4} after {0,1,2}", step(DVS_STEP_ATTEMPT, 2), 21);
-    start(3, 7), meet(1, 3);
-    expect("{0,1} against {0,1,2}", step(DVS_STEP_ATTEMPT, 0), 0);
-    start(4, 15), meet(1, 3);
-    expect("{0,1} against {0,1,2,3}", step(DVS_STEP_ATTEMPT, 0), 21);
+    attempt("{0,1} against {0,1,2}", 3, 3, 0, 0);
+    attempt("{0,1} against {0,1,2,3}", 4, 3, 0, 21);
     start(5, 31);
     expect("collect in the first view", step(DVS_STEP_COLLECT, 0), 30);
     expect("create", step(DVS_STEP_CREATE, 1, 3), 0);

@@ -103,4 +103,21 @@ inline Message load_record(const uint8_t* record) {
   return m;
 }
 
+// Reader and writer as a host calls them, with lent records and lengths of any size.
+inline Refusal read_record(const uint8_t* bytes, size_t size, Range record) {
+  Message m;
+  if (record.size != kRecordSize) return kUnsound;
+  if (Refusal r = read(bytes, size, m)) return r;
+  store_record(m, record.at);
+  return kAccepted;
+}
+
+inline Refusal write_record(const uint8_t* record, size_t record_size, Range buffer, Range len) {
+  if (record_size != kRecordSize || len.size != kLengthSize) return kUnsound;
+  Message m = load_record(record);
+  if (Refusal r = write(m, buffer.at, buffer.size)) return r;
+  put(len.at, kLengthSize, length(m));
+  return kAccepted;
+}
+
 }  // namespace plain
