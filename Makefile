@@ -19,8 +19,9 @@ clean:
 
 # ---- the library
 
-# For programs in C and C++, proved before it is written. Its headers are include/dvs.h and include/dvs.hpp.
+# For programs in C and C++, proved before it is written. A program in C includes dvs.h, one in C++ dvs.hpp.
 .PHONY: lib
+HEADERS := $(wildcard include/*.h include/*.hpp)
 SOURCES := crates.txt $(shell find crates -name '*.rt' -o -name '*.antt')
 LIBRARY := target/staticlib/libdvs.a
 lib: $(LIBRARY)
@@ -35,14 +36,14 @@ VERSION := 0.1.0
 install: $(LIBRARY)
 	sed -e 's|@PREFIX@|$(PREFIX)|' -e 's|@VERSION@|$(VERSION)|' include/dvs.pc.in > target/dvs.pc
 	install -d $(DESTDIR)$(PREFIX)/include $(DESTDIR)$(PREFIX)/lib/pkgconfig
-	install -m 644 include/dvs.h include/dvs.hpp $(DESTDIR)$(PREFIX)/include
+	install -m 644 $(HEADERS) $(DESTDIR)$(PREFIX)/include
 	install -m 644 $(LIBRARY) $(DESTDIR)$(PREFIX)/lib
 	install -m 644 target/dvs.pc $(DESTDIR)$(PREFIX)/lib/pkgconfig
 
 # A host of the library: eight offices over a carrier of their own, and what they print beside what they should.
 .PHONY: offices
 HOSTFLAGS := -std=c++17 -O2 -Wall -Wextra -Wpedantic -Wconversion -Wshadow -Werror -Iinclude
-target/offices: $(wildcard examples/offices/*.?pp) include/dvs.h include/dvs.hpp $(LIBRARY)
+target/offices: $(wildcard examples/offices/*.?pp) $(HEADERS) $(LIBRARY)
 	$(CXX) $(HOSTFLAGS) -o $@ $(wildcard examples/offices/*.cpp) $(LIBRARY)
 offices: target/offices
 	target/offices > target/offices.txt; status=$$?; cat target/offices.txt; exit $$status

@@ -1,5 +1,5 @@
-// What include/dvs.hpp adds to include/dvs.h: names, records to values and back, results. What the library answers is proved and not tested here;
-// these calls show that each method calls its function with its operands in their places.
+// What include/dvs.hpp and dvs_types.hpp add to include/dvs.h: names, records to values and back, results. What the library answers is proved and not
+// tested here; these calls show that each method calls its function with its operands in their places.
 #include "dvs.hpp"
 
 #include <algorithm>

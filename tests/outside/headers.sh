@@ -23,7 +23,7 @@ for compilers in "gcc g++" "clang clang++"; do
   for version in c++17 c++20; do
     try "$cxx" c++ $version dvs.h
     use "$cxx" c++ $version
-    [ ! -e include/dvs.hpp ] || try "$cxx" c++ $version dvs.hpp
+    for header in dvs_types.hpp dvs.hpp; do try "$cxx" c++ $version $header; done
   done
 done
 echo "$count compilations"

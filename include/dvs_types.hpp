@@ -1,0 +1,358 @@
+// dvs_types.hpp: the values that dvs.hpp takes and gives: ranges of bytes, refusals and results, members, sets and views, events, messages.
+//
+// For programs that name them and make no call; dvs.hpp includes it. Nothing here calls the library.
+#ifndef DVS_TYPES_HPP
+#define DVS_TYPES_HPP
+
+#include "dvs.h"
+
+#include <array>
+#include <cstddef>
+#include <cstdint>
+#include <initializer_list>
+#include <iterator>
+#include <type_traits>
+#include <utility>
+#if __cplusplus >= 202002L
+#include <version>
+#endif
+#ifdef __cpp_lib_span
+#include <span>
+#endif
+
+namespace dvs {
+
+// ---- ranges of bytes
+
+#ifdef __cpp_lib_span
+using Bytes = std::span<const std::uint8_t>;
+using MutableBytes = std::span<std::uint8_t>;
+#else
+// A pointer and a length, made from an array or from anything with data() and size(), as std::span is.
+template <class T>
+class Range {
+ public:
+  constexpr Range() noexcept = default;
+  constexpr Range(T *data, std::size_t size) noexcept : data_(data), size_(size) {}
+  template <class Owner, class = std::enable_if_t<std::is_convertible_v<decltype(std::data(std::declval<Owner &>())), T *>>>
+  constexpr Range(Owner &&owner) noexcept : data_(std::data(owner)), size_(std::size(owner)) {}
+
+  constexpr T *data() const noexcept { return data_; }
+  constexpr std::size_t size() const noexcept { return size_; }
+  constexpr bool empty() const noexcept { return size_ == 0; }
+  constexpr T *begin() const noexcept { return data_; }
+  constexpr T *end() const noexcept { return data_ + size_; }
+  constexpr T &operator[](std::size_t place) const noexcept { return data_[place]; }
+
+ private:
+  T *data_ = nullptr;
+  std::size_t size_ = 0;
+};
+using Bytes = Range<const std::uint8_t>;
+using MutableBytes = Range<std::uint8_t>;
+#endif
+
+// ---- refusals and results
+
+// Why a call was refused. docs/REFUSALS.md has a section for each.
+enum class Refusal : std::uint32_t {
+  none = DVS_ACCEPTED,
+  members_out_of_range = DVS_REFUSED_MEMBERS_OUT_OF_RANGE,
+  first_set_unfit = DVS_REFUSED_FIRST_SET_UNFIT,
+  list_length = DVS_REFUSED_LIST_LENGTH,
+  records_unsound = DVS_REFUSED_RECORDS_UNSOUND,
+  unknown_step = DVS_REFUSED_UNKNOWN_STEP,
+  no_such_member = DVS_REFUSED_NO_SUCH_MEMBER,
+  set_unfit = DVS_REFUSED_SET_UNFIT,
+  identifier_not_above = DVS_REFUSED_IDENTIFIER_NOT_ABOVE,
+  list_full = DVS_REFUSED_LIST_FULL,
+  no_such_view = DVS_REFUSED_NO_SUCH_VIEW,
+  not_in_set = DVS_REFUSED_NOT_IN_SET,
+  not_above_carrier = DVS_REFUSED_NOT_ABOVE_CARRIER,
+  no_carrier_view = DVS_REFUSED_NO_CARRIER_VIEW,
+  none_outgoing = DVS_REFUSED_NONE_OUTGOING,
+  waiting_full = DVS_REFUSED_WAITING_FULL,
+  order_full = DVS_REFUSED_ORDER_FULL,
+  none_waiting = DVS_REFUSED_NONE_WAITING,
+  none_to_deliver = DVS_REFUSED_NONE_TO_DELIVER,
+  not_above_client = DVS_REFUSED_NOT_ABOVE_CLIENT,
+  info_missing = DVS_REFUSED_INFO_MISSING,
+  test_failed = DVS_REFUSED_TEST_FAILED,
+  no_client_view = DVS_REFUSED_NO_CLIENT_VIEW,
+  already_registered = DVS_REFUSED_ALREADY_REGISTERED,
+  outgoing_full = DVS_REFUSED_OUTGOING_FULL,
+  none_to_hand = DVS_REFUSED_NONE_TO_HAND,
+  client_not_carrier = DVS_REFUSED_CLIENT_NOT_CARRIER,
+  nothing_new_to_tell = DVS_REFUSED_NOTHING_NEW_TO_TELL,
+  none_to_report = DVS_REFUSED_NONE_TO_REPORT,
+  told_too_low = DVS_REFUSED_TOLD_TOO_LOW,
+  not_above_settled = DVS_REFUSED_NOT_ABOVE_SETTLED,
+  registration_missing = DVS_REFUSED_REGISTRATION_MISSING,
+  ends_early = DVS_REFUSED_ENDS_EARLY,
+  unknown_kind = DVS_REFUSED_UNKNOWN_KIND,
+  section_count = DVS_REFUSED_SECTION_COUNT,
+  empty_set = DVS_REFUSED_EMPTY_SET,
+  not_rising = DVS_REFUSED_NOT_RISING,
+  told_out_of_range = DVS_REFUSED_TOLD_OUT_OF_RANGE,
+  bytes_left_over = DVS_REFUSED_BYTES_LEFT_OVER,
+  buffer_too_short = DVS_REFUSED_BUFFER_TOO_SHORT,
+  line_unreadable = DVS_REFUSED_LINE_UNREADABLE,
+  another_view = DVS_REFUSED_ANOTHER_VIEW,
+  sender_not_in_view = DVS_REFUSED_SENDER_NOT_IN_VIEW,
+  too_many_open = DVS_REFUSED_TOO_MANY_OPEN,
+};
+
+constexpr std::uint32_t number(Refusal refusal) noexcept { return static_cast<std::uint32_t>(refusal); }
+
+// The refusal in plain words, for a log.
+constexpr const char *text(Refusal refusal) noexcept {
+  switch (refusal) {
+    case Refusal::none: return "accepted";
+    case Refusal::members_out_of_range: return "the number of members is not 1 to 8";
+    case Refusal::first_set_unfit: return "the first set is empty or beyond the members";
+    case Refusal::list_length: return "the list has not room for 1 to 32 views";
+    case Refusal::records_unsound: return "the lent bytes are no sound record, or not of their length";
+    case Refusal::unknown_step: return "there is no step of this kind";
+    case Refusal::no_such_member: return "there is no such member";
+    case Refusal::set_unfit: return "a set is empty or beyond the members";
+    case Refusal::identifier_not_above: return "the identifier is not above all made before";
+    case Refusal::list_full: return "the list of views is full";
+    case Refusal::no_such_view: return "there is no such view";
+    case Refusal::not_in_set: return "the member is not in the view";
+    case Refusal::not_above_carrier: return "the view is not above the carrier view";
+    case Refusal::no_carrier_view: return "the member has no carrier view";
+    case Refusal::none_outgoing: return "no message is outgoing";
+    case Refusal::waiting_full: return "8 messages of the member wait in the view already";
+    case Refusal::order_full: return "the view's order has its 128 messages";
+    case Refusal::none_waiting: return "no message of the member waits in the view";
+    case Refusal::none_to_deliver: return "the member has taken every message of the view";
+    case Refusal::not_above_client: return "the carrier view is not above the client view";
+    case Refusal::info_missing: return "the info of a member of the view is missing";
+    case Refusal::test_failed: return "the view has no majority of a view that is held";
+    case Refusal::no_client_view: return "the member has no client view";
+    case Refusal::already_registered: return "the client has registered in this view already";
+    case Refusal::outgoing_full: return "16 messages are outgoing already";
+    case Refusal::none_to_hand: return "every entry taken was handed out";
+    case Refusal::client_not_carrier: return "the client view is not the carrier view";
+    case Refusal::nothing_new_to_tell: return "nothing was handed out since the last count told";
+    case Refusal::none_to_report: return "every entry handed out was reported safe";
+    case Refusal::told_too_low: return "a member has not told that its client has the entry";
+    case Refusal::not_above_settled: return "the carrier view is not above the settled view";
+    case Refusal::registration_missing: return "the registration of a member of the view is missing";
+    case Refusal::ends_early: return "the message ends early";
+    case Refusal::unknown_kind: return "there is no message of this kind";
+    case Refusal::section_count: return "a section of the message has a wrong count";
+    case Refusal::empty_set: return "a view in the message has an empty set";
+    case Refusal::not_rising: return "the identifiers in the message do not rise";
+    case Refusal::told_out_of_range: return "the count told is not 1 to 128";
+    case Refusal::bytes_left_over: return "bytes are left over behind the message";
+    case Refusal::buffer_too_short: return "the buffer is too short for the message";
+    case Refusal::line_unreadable: return "the line is unreadable";
+    case Refusal::another_view: return "the message was sent in another view";
+    case Refusal::sender_not_in_view: return "the sender is not in the view";
+    case Refusal::too_many_open: return "more than 31 views would be open";
+  }
+  return "no refusal of this library";
+}
+
+// What a call gives: a value, or the refusal in its place. The value of a refused call is T{}.
+template <class T>
+class [[nodiscard]] Result {
+ public:
+  constexpr Result(const T &value) noexcept : value_(value) {}
+  constexpr Result(Refusal refusal) noexcept : refusal_(refusal) {}
+
+  constexpr bool accepted() const noexcept { return refusal_ == Refusal::none; }
+  constexpr explicit operator bool() const noexcept { return accepted(); }
+  constexpr Refusal refusal() const noexcept { return refusal_; }
+  constexpr const T &value() const noexcept { return value_; }
+  constexpr const T &operator*() const noexcept { return value_; }
+  constexpr const T *operator->() const noexcept { return &value_; }
+
+ private:
+  Refusal refusal_ = Refusal::none;
+  T value_{};
+};
+
+template <>
+class [[nodiscard]] Result<void> {
+ public:
+  constexpr Result() noexcept = default;
+  constexpr Result(Refusal refusal) noexcept : refusal_(refusal) {}
+
+  constexpr bool accepted() const noexcept { return refusal_ == Refusal::none; }
+  constexpr explicit operator bool() const noexcept { return accepted(); }
+  constexpr Refusal refusal() const noexcept { return refusal_; }
+
+ private:
+  Refusal refusal_ = Refusal::none;
+};
+
+// ---- members, sets and views
+
+// Two sorts of number, neither taken where the other is due: Member{2}, Identifier{7}.
+enum class Member : std::uint32_t {};
+enum class Identifier : std::uint32_t {};
+
+constexpr std::uint32_t number(Member member) noexcept { return static_cast<std::uint32_t>(member); }
+constexpr std::uint32_t number(Identifier identifier) noexcept { return static_cast<std::uint32_t>(identifier); }
+
+// A set of members, bit 0 for member 0.
+struct Set {
+  std::uint8_t bits = 0;
+
+  constexpr Set() noexcept = default;
+  constexpr explicit Set(std::uint8_t members) noexcept : bits(members) {}
+  constexpr Set(std::initializer_list<Member> members) noexcept {
+    for (Member member : members) *this = with(member);
+  }
+  // The members 0 to `members` - 1.
+  static constexpr Set below(std::uint32_t members) noexcept {
+    return Set(static_cast<std::uint8_t>(members < DVS_MEMBERS ? (1u << members) - 1u : 0xFFu));
+  }
+
+  constexpr Set with(Member member) const noexcept {
+    return number(member) < DVS_MEMBERS ? Set(static_cast<std::uint8_t>(bits | 1u << number(member))) : *this;
+  }
+  constexpr bool has(Member member) const noexcept { return number(member) < DVS_MEMBERS && (bits >> number(member) & 1u) != 0; }
+  constexpr bool empty() const noexcept { return bits == 0; }
+  constexpr unsigned count() const noexcept {
+    unsigned members = 0;
+    for (unsigned rest = bits; rest != 0; rest >>= 1u) members += rest & 1u;
+    return members;
+  }
+};
+constexpr bool operator==(Set a, Set b) noexcept { return a.bits == b.bits; }
+constexpr bool operator!=(Set a, Set b) noexcept { return a.bits != b.bits; }
+constexpr Set operator&(Set a, Set b) noexcept { return Set(static_cast<std::uint8_t>(a.bits & b.bits)); }
+constexpr Set operator|(Set a, Set b) noexcept { return Set(static_cast<std::uint8_t>(a.bits | b.bits)); }
+
+struct View {
+  Identifier identifier{};
+  Set set{};
+};
+constexpr bool operator==(View a, View b) noexcept { return a.identifier == b.identifier && a.set == b.set; }
+constexpr bool operator!=(View a, View b) noexcept { return !(a == b); }
+
+// Up to 32 views by value.
+class ViewList {
+ public:
+  constexpr std::size_t size() const noexcept { return size_; }
+  constexpr bool empty() const noexcept { return size_ == 0; }
+  constexpr const View *begin() const noexcept { return places_.data(); }
+  constexpr const View *end() const noexcept { return places_.data() + size_; }
+  constexpr const View &operator[](std::size_t place) const noexcept { return places_[place]; }
+  // False, and nothing done, where the list is full.
+  constexpr bool push_back(View view) noexcept {
+    if (size_ == places_.size()) return false;
+    places_[size_++] = view;
+    return true;
+  }
+
+ private:
+  std::array<View, DVS_VIEWS> places_{};
+  std::size_t size_ = 0;
+};
+
+// ---- numbers in bytes: big-endian; what lies beyond the end reads as 0
+
+namespace detail {
+
+constexpr std::uint64_t get(Bytes bytes, std::size_t at, std::size_t width) noexcept {
+  std::uint64_t value = 0;
+  for (std::size_t i = at; i < at + width; ++i) value = value << 8u | (i < bytes.size() ? bytes[i] : 0u);
+  return value;
+}
+
+constexpr void put(MutableBytes bytes, std::size_t at, std::size_t width, std::uint64_t value) noexcept {
+  for (std::size_t i = at + width; i > at; value >>= 8u) bytes[--i] = static_cast<std::uint8_t>(value & 0xFFu);
+}
+
+constexpr std::uint8_t byte(Bytes bytes, std::size_t at) noexcept { return static_cast<std::uint8_t>(get(bytes, at, 1)); }
+
+constexpr View view(Bytes bytes, std::size_t at) noexcept {
+  return {static_cast<Identifier>(get(bytes, at, 4)), Set(byte(bytes, at + 4))};
+}
+
+using EventBytes = std::array<std::uint8_t, DVS_EVENT_SIZE>;
+using LengthBytes = std::array<std::uint8_t, DVS_LENGTH_SIZE>;
+
+}  // namespace detail
+
+// ---- events
+
+enum class EventKind : std::uint8_t {
+  none = 0,
+  attempted = DVS_STEP_ATTEMPT,
+  registered = DVS_STEP_REGISTER,
+  sent = DVS_STEP_SEND,
+  handed = DVS_STEP_HAND,
+  safe = DVS_STEP_SAFE,
+};
+
+// An outward event. What an event does not have is 0.
+struct Event {
+  EventKind kind = EventKind::none;
+  Member member{};
+  Identifier view{};         // the client view
+  Set set{};                 // its set: attempted
+  Member sender{};           // handed, safe
+  std::uint64_t entry = 0;   // sent, handed, safe
+
+  static constexpr Event from(Bytes bytes) noexcept {
+    return {static_cast<EventKind>(detail::byte(bytes, DVS_EVENT_KIND)),
+            static_cast<Member>(detail::byte(bytes, DVS_EVENT_MEMBER)),
+            static_cast<Identifier>(detail::get(bytes, DVS_EVENT_VIEW, 4)),
+            Set(detail::byte(bytes, DVS_EVENT_SET)),
+            static_cast<Member>(detail::byte(bytes, DVS_EVENT_SENDER)),
+            detail::get(bytes, DVS_EVENT_ENTRY, 8)};
+  }
+};
+
+// ---- messages
+
+enum class MessageKind : std::uint8_t { client = DVS_CLIENT, info = DVS_INFO, registered = DVS_REGISTERED, told = DVS_TOLD };
+
+// The message's record, as the library lays it out.
+using MessageRecord = std::array<std::uint8_t, DVS_MESSAGE_SIZE>;
+
+// A message in plain values; dvs::read and dvs::write take it from bytes and put it into them.
+struct Message {
+  MessageKind kind{};
+  Identifier view{};          // the view sent in
+  std::uint64_t number = 0;   // client: the entry number; told: the count
+  ViewList views{};           // info: the settled view, then the open ones, identifiers rising
+
+  static constexpr Message from(const MessageRecord &record) noexcept {
+    Message message{static_cast<MessageKind>(record[DVS_MESSAGE_KIND]), static_cast<Identifier>(detail::get(record, DVS_MESSAGE_VIEW, 4)),
+                    detail::get(record, DVS_MESSAGE_NUMBER, 8), {}};
+    for (std::size_t i = 0; i < record[DVS_MESSAGE_COUNT] && i < DVS_VIEWS; ++i)
+      message.views.push_back(detail::view(record, DVS_MESSAGE_VIEWS + DVS_VIEW_SIZE * i));
+    return message;
+  }
+
+  constexpr MessageRecord record() const noexcept {
+    MessageRecord bytes{};
+    bytes[DVS_MESSAGE_KIND] = static_cast<std::uint8_t>(kind);
+    detail::put(bytes, DVS_MESSAGE_VIEW, 4, dvs::number(view));
+    detail::put(bytes, DVS_MESSAGE_NUMBER, 8, number);
+    bytes[DVS_MESSAGE_COUNT] = static_cast<std::uint8_t>(views.size());
+    for (std::size_t i = 0; i < views.size(); ++i) {
+      detail::put(bytes, DVS_MESSAGE_VIEWS + DVS_VIEW_SIZE * i, 4, dvs::number(views[i].identifier));
+      bytes[DVS_MESSAGE_VIEWS + DVS_VIEW_SIZE * i + 4] = views[i].set.bits;
+    }
+    return bytes;
+  }
+};
+
+// A message's bytes as they go over the line.
+struct Packet {
+  std::array<std::uint8_t, DVS_LONGEST> places{};
+  std::size_t length = 0;
+
+  constexpr Bytes bytes() const noexcept { return {places.data(), length}; }
+};
+
+}  // namespace dvs
+
+#endif
