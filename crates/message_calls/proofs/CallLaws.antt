@@ -58,7 +58,10 @@ passes-call b b' o o' l l' r x n h k =
 
 pub reads-unsized : (s m : List ℕ) (x : ℕ) → (length m ≡ recordSize → ⊥) → x ≡ 4 → Reads s m m x
 unfolding left
-reads-unsized s m x h k = let v = sized-unmet m recordSize (readOf s .verdict) h in record { number = rw v k; message = rw v }
+reads-unsized s m x h k =
+    let v = sized-unmet m recordSize (readOf s .verdict) h in
+    let number : x ≡ codeOf (reading s m) = rw v k in
+    record { number = number; message = rw v }
 
 pub reads-refused : (s m : List ℕ) (x : ℕ) (r : Reading) (why : Refusal) → length m ≡ recordSize → r ≡ readOf s → r .verdict ≡ Refused why → x ≡ codeOf (Refused why)
     → Reads s m m x
@@ -71,7 +74,8 @@ pub reads-accepted : (s m m' : List ℕ) (r : Reading) → length m ≡ recordSi
 unfolding left
 reads-accepted s m m' r n e w k =
     let v : reading s m ≡ Accepted = sized-met m recordSize (readOf s .verdict) n ∙ ap (λ (y : Reading). y .verdict) (sym e) ∙ w in
-    record { number = rw v; message = rw (v, ← e) k }
+    let message : m' ≡ recordBytes (readOf s .frame) = rw e at k in
+    record { number = rw v; message = rw v message }
 
 -- what the writer gave, by its verdict
 written-said : (v : Verdict) (n x : ℕ) (l l' : List ℕ) → (x ≡ codeOf (writtenOf v n .verdict)) × (l' ≡ left (writtenOf v n .verdict) (lengthBytes (writtenOf v n .length)) l)
