@@ -1,5 +1,5 @@
-// What a call of the C interface gives out: its number, the event in lent bytes, the length of a message in lent bytes; and small numbers taken from
-// wider ones.
+// Answers as numbers and lent bytes: a verdict's number; the bytes of an event, which the calls of the C interface and the answers of a run share,
+// and of a message's length; and numbers of 32 bits taken in a byte.
 ghost use mathlib.Core.Path.{_≡_};
 ghost use lib.ListN.{length};
 ghost use Rattle.views.specs.Refusals.{numberOf, codeOf};
