@@ -56,9 +56,9 @@ pub fn say(out: &mut [u8], filled: usize, r: Reply) -> usize
     requires { ⌜ filled ≤ length (now out) ⌝ }
     ensures { λ n. ⌜ n ≤ length (now (out .exit)) ⌝ }
 {
-    if out.len() - filled < lines::LONGEST_REPLY {
+    if out.len() - filled < replies::LONGEST_REPLY {
         send(out, filled);
-        return lines::write(out, r);
+        return replies::write(out, r);
     }
-    filled + lines::write(&mut out[filled..], r)
+    filled + replies::write(&mut out[filled..], r)
 }

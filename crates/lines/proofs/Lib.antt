@@ -1,10 +1,3 @@
-pub mod WordLaws
-pub mod NumeralLaws
 pub mod LineLaws
 pub mod OperandLaws
-pub mod DecimalLaws
-pub mod TextLaws
-pub mod SpokenLaws
-pub mod ReadsBack
-pub mod Longest
-pub mod BenchCases
+pub mod LineCases

@@ -8,13 +8,14 @@ use lib.Dec.{eqb}
 use borrow.Author.Tests.{leb-true, eq-eqb, ne-eqb}
 use Rattle.views.specs.Sets.{both}
 use Rattle.views.proofs.SetLaws.{known, both-true}
+use Rattle.texts.specs.declared.numerals.Numeral.{Numeral}
+use Rattle.texts.specs.declared.numerals.Numeral.the-variants.{Unfit, Number}
+use Rattle.texts.specs.Words.{same}
+use Rattle.texts.specs.Parts.{within}
 use Rattle.lines.specs.declared.Line.the-variants.{Unreadable, Group, Step}
 use Rattle.lines.specs.declared.names.Form.{Form}
-use Rattle.lines.specs.declared.numerals.Numeral.{Numeral}
-use Rattle.lines.specs.declared.numerals.Numeral.the-variants.{Unfit, Number}
-use Rattle.lines.specs.Words.{same}
 use Rattle.lines.specs.Lines.{Row, row, table, formOf, made}
-use Rattle.lines.specs.Parts.{fitting, within, fits}
+use Rattle.lines.specs.Parts.{fitting, fits}
 
 -- ---- the row of a name
 

@@ -12,17 +12,18 @@ use lib.Seq.{take-all, take-length}
 use borrow.Author.Tests.{le-leb, lt-leb, leb-true, eq-eqb, ne-eqb, ltb-true, ltb-false}
 use Rattle.views.specs.Sets.{both}
 use Rattle.views.proofs.SetLaws.{known, both-true}
+use Rattle.texts.specs.declared.numerals.Numeral.{Numeral}
+use Rattle.texts.specs.declared.numerals.Numeral.the-variants.{Unfit, Number}
+use Rattle.texts.specs.Words.{space, words, placeOf, findFrom}
+use Rattle.texts.specs.Numerals.{numeralOf}
+use Rattle.texts.specs.Parts.{within}
+use Rattle.texts.proofs.WordLaws.{place-le, find-front, words-one, words-more}
+use Rattle.texts.proofs.NumeralLaws.{numeral-within, numeral-no-space}
 use Rattle.lines.specs.declared.Line.{Line}
 use Rattle.lines.specs.declared.Line.the-variants.{Unreadable}
 use Rattle.lines.specs.declared.names.Form.{Form}
-use Rattle.lines.specs.declared.numerals.Numeral.{Numeral}
-use Rattle.lines.specs.declared.numerals.Numeral.the-variants.{Unfit, Number}
-use Rattle.lines.specs.Words.{space, words, placeOf, findFrom}
-use Rattle.lines.specs.Numerals.{numeralOf}
 use Rattle.lines.specs.Lines.{longestLine, table, unknown, formOf, made, withOperands, asks, lineOf}
-use Rattle.lines.specs.Parts.{fitting, within, fits}
-use Rattle.lines.proofs.WordLaws.{place-le, find-front, words-one, words-more}
-use Rattle.lines.proofs.NumeralLaws.{numeral-within, numeral-no-space}
+use Rattle.lines.specs.Parts.{fitting, fits}
 use Rattle.lines.proofs.LineLaws.{made-no-first, made-no-second}
 
 -- ---- operands fit where their form does

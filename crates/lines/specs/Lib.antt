@@ -1,5 +1,2 @@
-pub mod Words
-pub mod Numerals
 pub mod Lines
-pub mod ReplyLines
 pub mod Parts

@@ -5,13 +5,13 @@ use Prim.Native.Nat.{ℕ, _-_, _^_}
 use Prim.Native.String.{String}
 use lib.Dec.{eqb, leb}
 use lib.ListN.{length}
+use Rattle.texts.specs.declared.numerals.Numeral.{Numeral}
+use Rattle.texts.specs.declared.numerals.Numeral.the-variants.{Unfit, Number}
+use Rattle.texts.specs.Words.{bytes, words, same}
+use Rattle.texts.specs.Numerals.{numeralOf}
 use Rattle.lines.specs.declared.Line.{Line}
 use Rattle.lines.specs.declared.Line.the-variants.{Unreadable, Group, Step}
 use Rattle.lines.specs.declared.names.Form.{Form}
-use Rattle.lines.specs.declared.numerals.Numeral.{Numeral}
-use Rattle.lines.specs.declared.numerals.Numeral.the-variants.{Unfit, Number}
-use Rattle.lines.specs.Words.{bytes, words, same}
-use Rattle.lines.specs.Numerals.{numeralOf}
 
 -- at most 64 bytes before the byte 10
 abbrev pub longestLine : ℕ

@@ -1,21 +1,14 @@
-// The bench's lines: what a line of bytes asks, and the bytes that say a reply. Reading and writing of the system stay with the caller.
+// The bench's lines: what a line of bytes asks, and where a line ends. Reading of the system stays with the caller.
 mod names;
-mod numerals;
 mod operands;
-mod text;
-mod words;
 
-use acts::Reply;
+use texts::words;
 ghost use mathlib.Core.Path.{_≡_};
-ghost use Rattle.lines.specs.Words.{findFrom};
+ghost use Rattle.texts.specs.Words.{findFrom};
 ghost use Rattle.lines.specs.Lines.{lineOf};
-ghost use Rattle.lines.specs.ReplyLines.{Wrote, replyLine};
 
 // The longest line that is read, the byte that ends it not counted.
 pub const LONGEST_LINE: usize = 64;
-
-// The longest reply, the byte that ends it included: a buffer of this length holds any reply's line.
-pub const LONGEST_REPLY: usize = 45;
 
 // What a group line asks: the number of members and the first set.
 pub struct Start {
@@ -53,15 +46,6 @@ pub fn read(line: &[u8]) -> Line
     }
     let from = end + 1;
     operands::read(&line[from..], form)
-}
-
-// The reply's line goes to the front of the buffer, and the number of its bytes is given; a buffer too short for it is left alone, and 0 is given.
-pub fn write(out: &mut [u8], r: Reply) -> usize
-    ensures { λ n. ⌜ Wrote (replyLine r) (now (out .entry)) (now (out .exit)) n ⌝ }
-{
-    let mut line = [0u8; text::ROOM];
-    let n = text::put_reply(&mut line, r);
-    text::put_front(out, &line[..n])
 }
 
 // The place of the first byte 10 at or after a place, the length if there is none.

@@ -1,5 +1,5 @@
 // The names that begin a line, and what stands behind each.
-use super::words;
+use texts::words;
 ghost use mathlib.Core.Path.{_≡_};
 ghost use Rattle.lines.specs.Lines.{form, table, formOf};
 

@@ -4,12 +4,12 @@ use super::Line;
 use super::Start;
 use super::names;
 use super::names::Form;
-use super::numerals;
-use super::numerals::Numeral;
-use super::words;
+use texts::numerals;
+use texts::numerals::Numeral;
+use texts::words;
 ghost use mathlib.Core.Path.{_≡_};
 ghost use mathlib.Core.Bool.{true};
-ghost use Rattle.lines.specs.Words.{words};
+ghost use Rattle.texts.specs.Words.{words};
 ghost use Rattle.lines.specs.Lines.{made, withOperands};
 ghost use Rattle.lines.specs.Parts.{fitting, fits};
 

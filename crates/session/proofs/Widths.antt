@@ -12,16 +12,16 @@ use Rattle.views.specs.Sets.{both}
 use Rattle.views.proofs.SetLaws.{known, both-true}
 use Rattle.groups.specs.Promises.{Given}
 use Rattle.group.specs.Calls.{asked}
+use Rattle.texts.specs.declared.numerals.Numeral.{Numeral}
+use Rattle.texts.specs.declared.numerals.Numeral.the-variants.{Unfit, Number}
+use Rattle.texts.specs.Words.{same, words}
+use Rattle.texts.specs.Numerals.{numeralOf}
+use Rattle.texts.specs.Parts.{within}
+use Rattle.texts.proofs.NumeralLaws.{numeral-within}
 use Rattle.lines.specs.declared.Line.{Line}
 use Rattle.lines.specs.declared.Line.the-variants.{Unreadable, Group, Step}
 use Rattle.lines.specs.declared.names.Form.{Form}
-use Rattle.lines.specs.declared.numerals.Numeral.{Numeral}
-use Rattle.lines.specs.declared.numerals.Numeral.the-variants.{Unfit, Number}
-use Rattle.lines.specs.Words.{same, words}
-use Rattle.lines.specs.Numerals.{numeralOf}
 use Rattle.lines.specs.Lines.{Row, row, table, largest, unknown, longestLine, formOf, made, withOperands, asks, lineOf}
-use Rattle.lines.specs.Parts.{within}
-use Rattle.lines.proofs.NumeralLaws.{numeral-within}
 
 -- the three within the widths of kind, first and second operand
 abbrev pub wide : ℕ → ℕ → ℕ → Bool

@@ -3,7 +3,7 @@ use mathlib.Core.Path.{sym}
 use native.Mathlib.Omega.{arith}
 use borrow.Author.Needs.{needs}
 use lib.Seq.{length-take-le}
-use Rattle.lines.proofs.WordLaws.{find-le}
+use Rattle.texts.proofs.WordLaws.{find-le}
 use Rattle.lines.proofs.LineLaws.{form-fits}
 use Rattle.lines.proofs.OperandLaws.{line-long, line-unknown, line-bare, line-whole}
 use Rattle.lines.proofs.read.Statement.{statement}

@@ -1,6 +1,6 @@
 use Prim.Native.Nat.{_-_}
 use native.Mathlib.Omega.{arith}
-use Rattle.bench.proofs.BufferLaws.{wrote-within}
+use Rattle.replies.proofs.BufferLaws.{wrote-le}
 use borrow.Author.Needs.{needs}
 use Rattle.bench.proofs.pieces.say.Statement.{statement}
 use Rattle.bench.proofs.pieces.say.Tie as tie
@@ -18,7 +18,7 @@ same-length : tie.Need-same-length
 same-length c = search needs
 
 returns : tie.Need-returns
-returns c = omega (arith, wrote-within _ _ _ _ (c .before .before .write .ensures))
+returns c = omega (arith, wrote-le _ _ _ _ (c .before .before .write .ensures))
 
 sub-write : tie.Need-sub-write
 sub-write c = search needs
@@ -33,13 +33,13 @@ write-requires-2 : tie.Need-write-requires-2
 write-requires-2 c κs = search needs
 
 add-result : tie.Need-add-result
-add-result c = omega (arith, wrote-within _ _ _ _ (c .before .before .write2 .ensures))
+add-result c = omega (arith, wrote-le _ _ _ _ (c .before .before .write2 .ensures))
 
 same-length-2 : tie.Need-same-length-2
 same-length-2 c = search needs
 
 returns-2 : tie.Need-returns-2
-returns-2 c = omega (arith, wrote-within _ _ _ _ (c .before .before .write2 .ensures))
+returns-2 c = omega (arith, wrote-le _ _ _ _ (c .before .before .write2 .ensures))
 
 pub say-spec : {M : Type 1} → statement M
 say-spec =

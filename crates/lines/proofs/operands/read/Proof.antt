@@ -3,7 +3,7 @@ use mathlib.Core.Path.{sym, _∙_}
 use native.Mathlib.Omega.{arith}
 use borrow.Author.Needs.{needs}
 use lib.Seq.{length-take-le}
-use Rattle.lines.proofs.WordLaws.{find-le}
+use Rattle.texts.proofs.WordLaws.{find-le}
 use Rattle.lines.proofs.OperandLaws.{fits-one, fits-two, operands-one, operands-short, operands-two}
 use Rattle.lines.proofs.operands.read.Statement.{statement}
 use Rattle.lines.proofs.operands.read.Tie as tie

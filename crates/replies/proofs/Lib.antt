@@ -1,0 +1,4 @@
+pub mod BufferLaws
+pub mod SpokenLaws
+pub mod Longest
+pub mod BenchCases

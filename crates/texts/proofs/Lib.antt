@@ -1,0 +1,5 @@
+pub mod WordLaws
+pub mod NumeralLaws
+pub mod DecimalLaws
+pub mod TextLaws
+pub mod ReadsBack
