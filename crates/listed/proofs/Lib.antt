@@ -1,5 +1,4 @@
 pub mod BytesLaws
-pub mod CreateLaws
 pub mod Fits
 pub mod ListBytes
 pub mod ListLaws

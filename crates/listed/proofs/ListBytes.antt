@@ -33,7 +33,8 @@ use Rattle.groups.proofs.Creating.{create-says}
 use Rattle.groups.proofs.RangesLaws.{ranges-says}
 use Rattle.groups.proofs.StartGroup.{start-group}
 use Rattle.groups.proofs.GroupRuns.{start-holds}
-use Rattle.listed.specs.Calls.{rangesOf, leftViews, Began, Went}
+use Rattle.view_list.specs.Creates.{leftViews}
+use Rattle.listed.specs.Calls.{rangesOf, Began, Went}
 use Rattle.listed.proofs.ListLaws.{moved-list, step-changed}
 use Rattle.listed.proofs.StepLaws.{step-stays}
 

@@ -37,8 +37,9 @@ use Rattle.groups.specs.Groups.{Ranges}
 use Rattle.groups.specs.Starts.{startRanges}
 use Rattle.groups.specs.Steps.{rangesLong, startResult, leftRanges}
 use Rattle.group.specs.Calls.{ranges}
-use Rattle.listed.specs.declared.calls.Begun.{Begun}
-use Rattle.listed.specs.Calls.{rangesOf, leftViews, Began}
+use Rattle.view_list.specs.Creates.{leftViews}
+use Rattle.listed.specs.declared.Begun.{Begun}
+use Rattle.listed.specs.Calls.{rangesOf, Began}
 use Rattle.listed.specs.Parts.{bytesIn, rangesIn, fromOf, BegunBy}
 use Rattle.slices.specs.Slices.{laid}
 use Rattle.slices.proofs.SliceLaws.{laid-length, laid-here, laid-behind}

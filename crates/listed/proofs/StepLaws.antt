@@ -37,8 +37,9 @@ use Rattle.groups.proofs.RangesLaws.{ranges-says}
 use Rattle.groups.proofs.StepGroup.{step-unfit}
 use Rattle.group.specs.Calls as bytes
 use Rattle.group.specs.Calls.{ranges}
-use Rattle.listed.specs.declared.calls.Stepped.{Stepped}
-use Rattle.listed.specs.Calls.{rangesOf, leftViews, Went}
+use Rattle.view_list.specs.Creates.{leftViews}
+use Rattle.listed.specs.declared.Stepped.{Stepped}
+use Rattle.listed.specs.Calls.{rangesOf, Went}
 use Rattle.listed.proofs.BytesLaws.{short-bytes, long-length}
 use Rattle.listed.proofs.ListLaws.{step-changed, views-whole, views-kept}
 use Rattle.listed.specs.Parts.{bytesIn, rangesIn, viewOr, nextOf, fromOf, SteppedBy, BegunBy}

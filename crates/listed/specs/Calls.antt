@@ -5,7 +5,6 @@ use Prim.Native.Nat.{ℕ}
 use lib.ListN.{length}
 use Rattle.views.specs.declared.View.{View}
 use Rattle.views.specs.declared.refusal.Verdict.{Verdict}
-use Rattle.views.specs.declared.refusal.Verdict.the-variants.{Accepted, Refused}
 use Rattle.wire.specs.Format.{viewsBytes}
 use Rattle.wire.specs.Reader.{viewsIn}
 use Rattle.rules.specs.Data.{Step}
@@ -15,15 +14,11 @@ use Rattle.groups.specs.Groups.{Ranges}
 use Rattle.groups.specs.Starts.{startRanges}
 use Rattle.groups.specs.Steps.{startResult, leftRanges, stepRanges, stepReply}
 use Rattle.group.specs.Calls.{ranges}
+use Rattle.view_list.specs.Creates.{leftViews}
 
 -- the ranges that a list of records, the books and the queues are
 abbrev pub rangesOf : List View → List ℕ → List ℕ → Ranges
 rangesOf l books queues = ranges (viewsBytes l) books queues
-
--- the new records where a call was accepted, else those that were there
-abbrev pub leftViews : Verdict → List View → List View → List View
-leftViews Accepted new old = new
-leftViews (Refused r) new old = old
 
 -- a start of the list l, the books b and the queues q with n members and the first set S gave the verdict v and left the list k, the books d and the queues e
 pub record Began (l : List View) (b q : List ℕ) (n S : ℕ) (k : List View) (d e : List ℕ) (v : Verdict) : Type 0 where

@@ -1,4 +1,3 @@
 pub mod Calls
-pub mod Creates
 pub mod Parts
 pub mod Runs

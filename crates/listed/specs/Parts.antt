@@ -21,8 +21,8 @@ use Rattle.groups.specs.Groups.{Ranges}
 use Rattle.groups.specs.Starts.{startRanges}
 use Rattle.groups.specs.Steps.{startResult, leftRanges, stepRanges, stepReply}
 use Rattle.group.specs.Calls.{ranges}
-use Rattle.listed.specs.declared.calls.Stepped.{Stepped}
-use Rattle.listed.specs.declared.calls.Begun.{Begun}
+use Rattle.listed.specs.declared.Stepped.{Stepped}
+use Rattle.listed.specs.declared.Begun.{Begun}
 
 -- the bytes that are put to the group: of a list that is too long for one, a record more than a group can have
 unfoldable pub bytesIn : Views → List ℕ
