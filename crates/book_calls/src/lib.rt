@@ -41,7 +41,7 @@ pub fn deliver(book: &mut [u8], bytes: &[u8], sender: u32) -> u32
 pub fn tell(book: &mut [u8]) -> u32
     ensures { λ r. ⌜ Gives (verdictOf (tellCall (now (book .entry)))) (tellBytes (now (book .entry))) (now (book .entry)) (now (book .exit)) r ⌝ }
 {
-    let r = calls::tell(book);
+    let r = client::tell(book);
     let v = r.verdict;
     answers::code(v)
 }

@@ -1,4 +1,4 @@
-// The calls that are the member's steps as they stand, where 4 and 6 let them, and join, where 7 does too.
+// The calls that change the views that the member holds: attempt and collect as the member's steps stand, where 4 and 6 let them, and join, where 7 does too.
 use acts::Reply;
 use member::admit;
 use views::View;
@@ -10,8 +10,8 @@ ghost use mathlib.Core.Path.{_≡_};
 ghost use Rattle.books.specs.Books.{bookIn, bytesSound};
 ghost use Rattle.steps.specs.Turns.{verdictOf};
 ghost use Rattle.acts.specs.Replies.{replyOf, left};
-ghost use Rattle.acts.specs.Acts.{membersIn, selfIn, joinBytes, attemptBytes, registerBytes, sendBytes, handBytes, tellBytes, safeBytes, collectBytes};
-ghost use Rattle.member.specs.Calls.{Gave, viewOf, joinCall, attemptCall, registerCall, sendCall, handCall, tellCall, safeCall, collectCall};
+ghost use Rattle.acts.specs.Acts.{membersIn, selfIn, joinBytes, attemptBytes, collectBytes};
+ghost use Rattle.member.specs.Calls.{Gave, viewOf, joinCall, attemptCall, collectCall};
 ghost use Rattle.member.specs.Parts.{joining};
 
 // The view v becomes the carrier view of a sound book: 7, 11, 12.
@@ -51,61 +51,6 @@ pub fn attempt(b: &mut [u8]) -> Reply
     match v {
         Verdict::Refused(r) => acts::refuse(r),
         Verdict::Accepted => attempts::attempt(b),
-    }
-}
-
-// Noted for the client view; outgoing gains a registered message.
-pub fn register(b: &mut [u8]) -> Reply
-    ensures { λ r. ⌜ Gave (registerCall (now (b .entry))) (registerBytes (now (b .entry))) (now (b .entry)) (now (b .exit)) r ⌝ }
-{
-    let v = admit(b);
-    match v {
-        Verdict::Refused(r) => acts::refuse(r),
-        Verdict::Accepted => speech::register(b),
-    }
-}
-
-// Outgoing gains a client message.
-pub fn send(b: &mut [u8], entry: u64) -> Reply
-    ensures { λ r. ⌜ Gave (sendCall entry (now (b .entry))) (sendBytes entry (now (b .entry))) (now (b .entry)) (now (b .exit)) r ⌝ }
-{
-    let v = admit(b);
-    match v {
-        Verdict::Refused(r) => acts::refuse(r),
-        Verdict::Accepted => speech::send(b, entry),
-    }
-}
-
-// The next of the client view's inward list is given out.
-pub fn hand(b: &mut [u8]) -> Reply
-    ensures { λ r. ⌜ Gave (handCall (now (b .entry))) (handBytes (now (b .entry))) (now (b .entry)) (now (b .exit)) r ⌝ }
-{
-    let v = admit(b);
-    match v {
-        Verdict::Refused(r) => acts::refuse(r),
-        Verdict::Accepted => marks::hand(b),
-    }
-}
-
-// Outgoing gains told, with the number handed out in the client view.
-pub fn tell(b: &mut [u8]) -> Reply
-    ensures { λ r. ⌜ Gave (tellCall (now (b .entry))) (tellBytes (now (b .entry))) (now (b .entry)) (now (b .exit)) r ⌝ }
-{
-    let v = admit(b);
-    match v {
-        Verdict::Refused(r) => acts::refuse(r),
-        Verdict::Accepted => speech::tell(b),
-    }
-}
-
-// The next handed message not yet reported is reported, once every member of the view told of it.
-pub fn safe(b: &mut [u8]) -> Reply
-    ensures { λ r. ⌜ Gave (safeCall (now (b .entry))) (safeBytes (now (b .entry))) (now (b .entry)) (now (b .exit)) r ⌝ }
-{
-    let v = admit(b);
-    match v {
-        Verdict::Refused(r) => acts::refuse(r),
-        Verdict::Accepted => marks::safe(b),
     }
 }
 

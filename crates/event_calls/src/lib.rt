@@ -22,7 +22,7 @@ pub fn register(book: &mut [u8], event: &mut [u8]) -> u32
     if event.len() != answers::EVENT {
         return answers::refused(Refusal::RecordsUnsound);
     }
-    let r = calls::register(book);
+    let r = client::register(book);
     answers::answer(event, r)
 }
 
@@ -33,7 +33,7 @@ pub fn send(book: &mut [u8], entry: u64, event: &mut [u8]) -> u32
     if event.len() != answers::EVENT {
         return answers::refused(Refusal::RecordsUnsound);
     }
-    let r = calls::send(book, entry);
+    let r = client::send(book, entry);
     answers::answer(event, r)
 }
 
@@ -44,7 +44,7 @@ pub fn hand(book: &mut [u8], event: &mut [u8]) -> u32
     if event.len() != answers::EVENT {
         return answers::refused(Refusal::RecordsUnsound);
     }
-    let r = calls::hand(book);
+    let r = client::hand(book);
     answers::answer(event, r)
 }
 
@@ -55,6 +55,6 @@ pub fn safe(book: &mut [u8], event: &mut [u8]) -> u32
     if event.len() != answers::EVENT {
         return answers::refused(Refusal::RecordsUnsound);
     }
-    let r = calls::safe(book);
+    let r = client::safe(book);
     answers::answer(event, r)
 }

@@ -15,11 +15,11 @@ pub fn step(b: &mut [u8], line: &[u8], kind: u8) -> Reply {
         2 => calls::join(b, crate::word::identifier(line, 2), word(line, 3)),
         5 => deliver(b, line),
         6 => calls::attempt(b),
-        7 => calls::register(b),
-        8 => calls::send(b, script::parse::number(line, 2)),
-        9 => calls::hand(b),
-        10 => calls::tell(b),
-        11 => calls::safe(b),
+        7 => client::register(b),
+        8 => client::send(b, script::parse::number(line, 2)),
+        9 => client::hand(b),
+        10 => client::tell(b),
+        11 => client::safe(b),
         _ => calls::collect(b),
     }
 }

@@ -1,9 +1,9 @@
--- `calls::tell` meets its contract: 4, 6, then the step.
-use Rattle.member.specs.Calls.{tellCall}
+-- `client::register` meets its contract: 4, 6, then the step.
+use Rattle.member.specs.Calls.{registerCall}
 use Rattle.member.proofs.CallLaws.{call-refused, call-sound, call-done}
 use borrow.Author.Needs.{needs}
-use Rattle.calls.proofs.tell.Statement.{statement}
-use Rattle.calls.proofs.tell.Tie as tie
+use Rattle.client.proofs.register.Statement.{statement}
+use Rattle.client.proofs.register.Tie as tie
 
 admit-requires : tie.Need-admit-requires
 admit-requires c κs = search needs
@@ -17,32 +17,32 @@ refuse-requires c κs = search needs
 enum-told : tie.Need-enum-told
 enum-told c = search needs
 
-tell-requires : tie.Need-tell-requires
-tell-requires c κs = call-sound _ _ (c .before .before .before .admit .ensures) (c .before .enum-told .given .1)
+register-requires : tie.Need-register-requires
+register-requires c κs = call-sound _ _ (c .before .before .before .admit .ensures) (c .before .enum-told .given .1)
 
 same-length : tie.Need-same-length
 same-length c = search needs
 
 returns : tie.Need-returns
-unfolding tellCall
+unfolding registerCall
 returns c = call-refused _ _ _ _ (c .before .before .before .before .admit .ensures) _ (c .before .before .v .given .1) _ (c .refuse .ensures)
 
 same-length-2 : tie.Need-same-length-2
 same-length-2 c = search needs
 
 returns-2 : tie.Need-returns-2
-unfolding tellCall
-returns-2 c = call-done _ _ _ _ (c .before .before .before .before .before .before .admit .ensures) (c .before .before .before .before .enum-told .given .1) _ _ (c .before .before .tell .ensures)
+unfolding registerCall
+returns-2 c = call-done _ _ _ _ (c .before .before .before .before .before .before .admit .ensures) (c .before .before .before .before .enum-told .given .1) _ _ (c .before .before .register .ensures)
 
-pub tell-spec : {M : Type 1} → statement M
-tell-spec =
+pub register-spec : {M : Type 1} → statement M
+register-spec =
     tie.close
     (tie.spec
     admit-requires
     enum-known-v
     refuse-requires
     enum-told
-    tell-requires
+    register-requires
     same-length
     returns
     same-length-2

@@ -1,9 +1,9 @@
--- `calls::register` meets its contract: 4, 6, then the step.
-use Rattle.member.specs.Calls.{registerCall}
+-- `client::tell` meets its contract: 4, 6, then the step.
+use Rattle.member.specs.Calls.{tellCall}
 use Rattle.member.proofs.CallLaws.{call-refused, call-sound, call-done}
 use borrow.Author.Needs.{needs}
-use Rattle.calls.proofs.register.Statement.{statement}
-use Rattle.calls.proofs.register.Tie as tie
+use Rattle.client.proofs.tell.Statement.{statement}
+use Rattle.client.proofs.tell.Tie as tie
 
 admit-requires : tie.Need-admit-requires
 admit-requires c κs = search needs
@@ -17,32 +17,32 @@ refuse-requires c κs = search needs
 enum-told : tie.Need-enum-told
 enum-told c = search needs
 
-register-requires : tie.Need-register-requires
-register-requires c κs = call-sound _ _ (c .before .before .before .admit .ensures) (c .before .enum-told .given .1)
+tell-requires : tie.Need-tell-requires
+tell-requires c κs = call-sound _ _ (c .before .before .before .admit .ensures) (c .before .enum-told .given .1)
 
 same-length : tie.Need-same-length
 same-length c = search needs
 
 returns : tie.Need-returns
-unfolding registerCall
+unfolding tellCall
 returns c = call-refused _ _ _ _ (c .before .before .before .before .admit .ensures) _ (c .before .before .v .given .1) _ (c .refuse .ensures)
 
 same-length-2 : tie.Need-same-length-2
 same-length-2 c = search needs
 
 returns-2 : tie.Need-returns-2
-unfolding registerCall
-returns-2 c = call-done _ _ _ _ (c .before .before .before .before .before .before .admit .ensures) (c .before .before .before .before .enum-told .given .1) _ _ (c .before .before .register .ensures)
+unfolding tellCall
+returns-2 c = call-done _ _ _ _ (c .before .before .before .before .before .before .admit .ensures) (c .before .before .before .before .enum-told .given .1) _ _ (c .before .before .tell .ensures)
 
-pub register-spec : {M : Type 1} → statement M
-register-spec =
+pub tell-spec : {M : Type 1} → statement M
+tell-spec =
     tie.close
     (tie.spec
     admit-requires
     enum-known-v
     refuse-requires
     enum-told
-    register-requires
+    tell-requires
     same-length
     returns
     same-length-2

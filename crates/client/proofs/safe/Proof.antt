@@ -1,9 +1,9 @@
--- `calls::safe` meets its contract: 4, 6, then the step.
+-- `client::safe` meets its contract: 4, 6, then the step.
 use Rattle.member.specs.Calls.{safeCall}
 use Rattle.member.proofs.CallLaws.{call-refused, call-sound, call-done}
 use borrow.Author.Needs.{needs}
-use Rattle.calls.proofs.safe.Statement.{statement}
-use Rattle.calls.proofs.safe.Tie as tie
+use Rattle.client.proofs.safe.Statement.{statement}
+use Rattle.client.proofs.safe.Tie as tie
 
 admit-requires : tie.Need-admit-requires
 admit-requires c κs = search needs

@@ -1,9 +1,9 @@
--- `calls::hand` meets its contract: 4, 6, then the step.
+-- `client::hand` meets its contract: 4, 6, then the step.
 use Rattle.member.specs.Calls.{handCall}
 use Rattle.member.proofs.CallLaws.{call-refused, call-sound, call-done}
 use borrow.Author.Needs.{needs}
-use Rattle.calls.proofs.hand.Statement.{statement}
-use Rattle.calls.proofs.hand.Tie as tie
+use Rattle.client.proofs.hand.Statement.{statement}
+use Rattle.client.proofs.hand.Tie as tie
 
 admit-requires : tie.Need-admit-requires
 admit-requires c κs = search needs

@@ -1,9 +1,9 @@
--- `calls::send` meets its contract: 4, 6, then the step.
+-- `client::send` meets its contract: 4, 6, then the step.
 use Rattle.member.specs.Calls.{sendCall}
 use Rattle.member.proofs.CallLaws.{call-refused, call-sound, call-done}
 use borrow.Author.Needs.{needs}
-use Rattle.calls.proofs.send.Statement.{statement}
-use Rattle.calls.proofs.send.Tie as tie
+use Rattle.client.proofs.send.Statement.{statement}
+use Rattle.client.proofs.send.Tie as tie
 
 admit-requires : tie.Need-admit-requires
 admit-requires c κs = search needs
