@@ -1,5 +1,6 @@
 // The whole group.
-ghost use Rattle.group.specs.Calls.{ranges, asked};
+ghost use Rattle.groups.specs.Groups.{ranges};
+ghost use Rattle.group.specs.Calls.{asked};
 ghost use Rattle.group_calls.specs.Calls.{Begins, Steps};
 
 #[no_mangle]

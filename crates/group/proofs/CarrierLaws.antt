@@ -17,13 +17,13 @@ use Rattle.rules.proofs.Holding.{Holds, refuses, gives, given, need-holds, firs
 use Rattle.steps.specs.Turns.{verdictOf}
 use Rattle.acts.specs.declared.Reply.{Reply}
 use Rattle.acts.specs.Replies.{noEvent, eventOf, replied, left}
-use Rattle.groups.specs.Groups.{Ranges, groupIn, rangesSound}
+use Rattle.groups.specs.Groups.{Ranges, ranges, groupIn, rangesSound}
 use Rattle.groups.specs.Moves.{viewAt, createRanges, joinRanges, passRanges, orderRanges, deliverRanges}
 use Rattle.groups.specs.Answers.{nextReply}
 use Rattle.groups.specs.Steps.{stepResult, pickRanges, moved, leftRanges, stepRanges, stepReply}
 use Rattle.carrier.specs.Carrier.{byMember, creating, passing, ordering, Created, Passed, Ordered}
 use Rattle.visits.specs.Visits.{joining, delivering, Joined, Delivered}
-use Rattle.group.specs.Calls.{ranges, asked, Went}
+use Rattle.group.specs.Calls.{asked, Went}
 use Rattle.group.proofs.OwnLaws.{left-books, result-sound}
 
 -- ---- what is left, range by range

@@ -1,3 +1,2 @@
-pub mod BeginLaws
-pub mod OwnLaws
 pub mod CarrierLaws
+pub mod OwnLaws

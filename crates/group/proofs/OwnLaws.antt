@@ -19,7 +19,7 @@ use Rattle.acts.specs.declared.Reply.{Reply}
 use Rattle.acts.specs.Replies.{replyOf, left}
 use Rattle.acts.specs.Acts.{membersIn, selfIn, fewOpen, attemptBytes, registerBytes, sendBytes, handBytes, tellBytes, safeBytes, collectBytes}
 use Rattle.groups.specs.Places.{bookBytes, withBook}
-use Rattle.groups.specs.Groups.{Ranges, membersOf, groupIn, rangesSound}
+use Rattle.groups.specs.Groups.{Ranges, ranges, membersOf, groupIn, rangesSound}
 use Rattle.groups.specs.Moves.{rebooked}
 use Rattle.groups.specs.Answers.{nextReply}
 use Rattle.groups.specs.Steps.{stepResult, pickRanges, moved, leftRanges, stepRanges, stepReply}
@@ -28,7 +28,7 @@ use Rattle.groups.proofs.BookSounds.{members-in, self-in, book-is, sound-book}
 use Rattle.groups.proofs.BookSteps.{attempt-opens-few}
 use Rattle.carrier.proofs.Rows.{ranged, group-sound}
 use Rattle.desks.specs.Desks.{Desk, ofMember, Sat}
-use Rattle.group.specs.Calls.{ranges, asked, Went}
+use Rattle.group.specs.Calls.{asked, Went}
 
 -- ---- a result of the member's rule, and the group's
 

@@ -1,3 +1,2 @@
-// The whole group on three lent ranges: its start, and one step of any kind.
-pub mod begin;
+// The whole group on three lent ranges: one step of any kind.
 pub mod step;

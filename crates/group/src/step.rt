@@ -5,8 +5,8 @@ use views::refusal::Verdict;
 ghost use mathlib.Core.Bool.{true};
 ghost use mathlib.Core.Path.{_≡_};
 ghost use Rattle.acts.specs.Replies.{noEvent, replied};
-ghost use Rattle.groups.specs.Groups.{rangesSound};
-ghost use Rattle.group.specs.Calls.{ranges, asked, Went};
+ghost use Rattle.groups.specs.Groups.{ranges, rangesSound};
+ghost use Rattle.group.specs.Calls.{asked, Went};
 
 // The reply of a step that has no event.
 pub fn plain(v: Verdict) -> Reply

@@ -13,7 +13,8 @@ use Rattle.acts.specs.Replies.{left}
 use Rattle.groups.specs.Groups.{Ranges}
 use Rattle.groups.specs.Answers.{nextReply}
 use Rattle.groups.specs.Steps.{stepResult, moved, leftRanges, stepRanges, stepReply}
-use Rattle.group.specs.Calls.{Began, Went}
+use Rattle.begin.specs.Calls.{Began}
+use Rattle.group.specs.Calls.{Went}
 use Rattle.answers.specs.Answers.{eventSize, eventBytes}
 use Rattle.answers.proofs.AnswerLaws.{sized-met, sized-unmet}
 use Rattle.group_calls.specs.Calls.{Begins, Steps}

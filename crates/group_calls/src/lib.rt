@@ -1,6 +1,7 @@
 // Calls of the C interface on a whole group.
 use views::refusal::Refusal;
-ghost use Rattle.group.specs.Calls.{ranges, asked};
+ghost use Rattle.groups.specs.Groups.{ranges};
+ghost use Rattle.group.specs.Calls.{asked};
 ghost use Rattle.group_calls.specs.Calls.{Begins, Steps};
 
 // A group of `members` begins with the first view, identifier 0, of `first_set`.
@@ -13,7 +14,7 @@ pub fn start(
 ) -> u32
     ensures { λ r. ⌜ Begins (ranges (now (list .entry)) (now (books .entry)) (now (queues .entry))) members «first_set» (ranges (now (list .exit)) (now (books .exit)) (now (queues .exit))) r ⌝ }
 {
-    let v = group::begin::start(
+    let v = begin::start(
         list,
         books,
         queues,

@@ -24,6 +24,9 @@ pub record Ranges : Type 0 where
   pub books : List ℕ
   pub queues : List ℕ
 
+abbrev pub ranges : List ℕ → List ℕ → List ℕ → Ranges
+ranges list books queues = record { list = list; books = books; queues = queues }
+
 -- the number of members is that of the first book, and of every other
 abbrev pub membersOf : Ranges → ℕ
 membersOf r = getD (r .books) membersAt 0

@@ -33,10 +33,9 @@ use Rattle.slots.proofs.Outside.{storeView-changed, view-apart}
 use Rattle.slots.proofs.Stored.{view-stored}
 use Rattle.steps.specs.Turns.{verdictOf}
 use Rattle.groups.specs.Places.{viewSize, roomOf, booksSize}
-use Rattle.groups.specs.Groups.{Ranges}
+use Rattle.groups.specs.Groups.{Ranges, ranges}
 use Rattle.groups.specs.Starts.{startRanges}
 use Rattle.groups.specs.Steps.{rangesLong, startResult, leftRanges}
-use Rattle.group.specs.Calls.{ranges}
 use Rattle.view_list.specs.Creates.{leftViews}
 use Rattle.listed.specs.declared.Begun.{Begun}
 use Rattle.listed.specs.Calls.{rangesOf, Began}

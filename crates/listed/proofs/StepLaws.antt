@@ -30,13 +30,13 @@ use Rattle.steps.specs.Turns.{verdictOf}
 use Rattle.acts.specs.declared.Reply.{Reply}
 use Rattle.acts.specs.Replies.{noEvent}
 use Rattle.groups.specs.Places.{roomOf}
-use Rattle.groups.specs.Groups.{Ranges, madeOf, rangesFit}
+use Rattle.groups.specs.Groups.{Ranges, ranges, madeOf, rangesFit}
 use Rattle.groups.specs.Answers.{nextReply}
 use Rattle.groups.specs.Steps.{leftRanges, moved, stepResult, stepRanges, stepReply}
 use Rattle.groups.proofs.RangesLaws.{ranges-says}
 use Rattle.groups.proofs.StepGroup.{step-unfit}
+use Rattle.begin.specs.Calls.{Began}
 use Rattle.group.specs.Calls as bytes
-use Rattle.group.specs.Calls.{ranges}
 use Rattle.view_list.specs.Creates.{leftViews}
 use Rattle.listed.specs.declared.Stepped.{Stepped}
 use Rattle.listed.specs.Calls.{rangesOf, Went}
@@ -51,10 +51,10 @@ stepped-by l b q p c k d e x m at v same went next back view =
     let w : bytes.Went (rangesIn l b q) c (ranges k d e) x = subst (λ (s : List ℕ). bytes.Went (ranges s b q) c (ranges k d e) x) same went in
     record { reply = w .reply; books = w .books; queues = w .queues; at = next; view = view ∙ ap (λ (s : List ℕ). viewOr s at) (back ∙ w .list) }
 
-pub begun-by : (l : Views) (b q p : List ℕ) (n S : ℕ) (k d e : List ℕ) (v : Verdict) (at : ℕ) → p ≡ bytesIn l → bytes.Began (ranges p b q) n S (ranges k d e) v → at ≡ fromOf v
+pub begun-by : (l : Views) (b q p : List ℕ) (n S : ℕ) (k d e : List ℕ) (v : Verdict) (at : ℕ) → p ≡ bytesIn l → Began (ranges p b q) n S (ranges k d e) v → at ≡ fromOf v
     → BegunBy l b q n S d e (record { verdict = v; at = at; view = firstView S })
 begun-by l b q p n S k d e v at same began from =
-    let w : bytes.Began (rangesIn l b q) n S (ranges k d e) v = subst (λ (s : List ℕ). bytes.Began (ranges s b q) n S (ranges k d e) v) same began in
+    let w : Began (rangesIn l b q) n S (ranges k d e) v = subst (λ (s : List ℕ). Began (ranges s b q) n S (ranges k d e) v) same began in
     record { verdict = w .verdict; books = w .books; queues = w .queues; at = from ∙ ap fromOf (w .verdict); view = refl }
 
 -- ---- a step put to the records

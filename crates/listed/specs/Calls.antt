@@ -10,10 +10,9 @@ use Rattle.wire.specs.Reader.{viewsIn}
 use Rattle.rules.specs.Data.{Step}
 use Rattle.steps.specs.Turns.{verdictOf}
 use Rattle.acts.specs.declared.Reply.{Reply}
-use Rattle.groups.specs.Groups.{Ranges}
+use Rattle.groups.specs.Groups.{Ranges, ranges}
 use Rattle.groups.specs.Starts.{startRanges}
 use Rattle.groups.specs.Steps.{startResult, leftRanges, stepRanges, stepReply}
-use Rattle.group.specs.Calls.{ranges}
 use Rattle.view_list.specs.Creates.{leftViews}
 
 -- the ranges that a list of records, the books and the queues are

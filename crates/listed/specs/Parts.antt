@@ -17,10 +17,9 @@ use Rattle.rules.specs.Data.{Step}
 use Rattle.rules.specs.Group.{firstView}
 use Rattle.steps.specs.Turns.{verdictOf}
 use Rattle.groups.specs.Places.{viewSize, roomOf, madeAt}
-use Rattle.groups.specs.Groups.{Ranges}
+use Rattle.groups.specs.Groups.{Ranges, ranges}
 use Rattle.groups.specs.Starts.{startRanges}
 use Rattle.groups.specs.Steps.{startResult, leftRanges, stepRanges, stepReply}
-use Rattle.group.specs.Calls.{ranges}
 use Rattle.listed.specs.declared.Stepped.{Stepped}
 use Rattle.listed.specs.declared.Begun.{Begun}
 

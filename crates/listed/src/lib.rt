@@ -111,7 +111,7 @@ fn start_by(l: Views, books: &mut [u8], queues: &mut [u8], members: u8, first: u
 {
     let mut bytes = spread(l);
     let e = long(l);
-    let verdict = group::begin::start(&mut bytes[0..e], books, queues, members, first);
+    let verdict = begin::start(&mut bytes[0..e], books, queues, members, first);
     let at = from(verdict);
     let view = View {
         id: ViewId(0),

@@ -22,7 +22,7 @@ use Rattle.groups.specs.Groups.{Ranges}
 use Rattle.groups.specs.Starts.{startRanges}
 use Rattle.groups.specs.Steps.{startResult, lastRanges, repliesOf}
 use Rattle.groups.proofs.GroupRuns.{demand3-ranges, never-wedged-ranges}
-use Rattle.group.specs.Calls.{Began}
+use Rattle.begin.specs.Calls.{Began}
 use Rattle.runs.specs.Records.{stepSize, stepsIn, answerSize}
 use Rattle.runs.specs.Runs.{paired, runVerdict, Ran}
 use Rattle.runs.specs.Parts.{Turns}

@@ -5,7 +5,7 @@ mod turns;
 use views::refusal::Refusal;
 use views::refusal::Verdict;
 ghost use mathlib.Core.Path.{_≡_};
-ghost use Rattle.group.specs.Calls.{ranges};
+ghost use Rattle.groups.specs.Groups.{ranges};
 ghost use Rattle.runs.specs.Runs.{paired, Ran};
 
 // Bytes of a step's record, and of an answer's.
@@ -41,7 +41,7 @@ pub fn run(
     if !pair(steps.len(), answers.len()) {
         return Verdict::Refused(Refusal::RecordsUnsound);
     }
-    let v = group::begin::start(list, all, queues, members, first);
+    let v = begin::start(list, all, queues, members, first);
     match v {
         Verdict::Refused(r) => Verdict::Refused(r),
         Verdict::Accepted => {

@@ -3,7 +3,7 @@ use acts::Reply;
 ghost use mathlib.Core.Path.{_≡_};
 ghost use Prim.Native.Nat.{_+_, _*_, _/_, _≤_};
 ghost use lib.ListN.{length};
-ghost use Rattle.group.specs.Calls.{ranges};
+ghost use Rattle.groups.specs.Groups.{ranges};
 ghost use Rattle.runs.specs.Records.{stepSize, stepAt, answerSize};
 ghost use Rattle.runs.specs.Parts.{Wrote, Asked, Turned, Turns};
 

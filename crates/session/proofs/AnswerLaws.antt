@@ -6,7 +6,8 @@ use Rattle.views.specs.declared.refusal.Verdict.{Verdict}
 use Rattle.acts.specs.declared.Reply.{Reply}
 use Rattle.acts.specs.Replies.{noEvent, replied}
 use Rattle.groups.specs.Groups.{Ranges}
-use Rattle.group.specs.Calls.{asked, Began, Went}
+use Rattle.begin.specs.Calls.{Began}
+use Rattle.group.specs.Calls.{asked, Went}
 use Rattle.lines.specs.declared.Line.{Line}
 use Rattle.lines.specs.declared.Line.the-variants.{Unreadable}
 use Rattle.session.specs.declared.Answered.{Answered}

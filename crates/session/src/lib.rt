@@ -5,7 +5,7 @@ use views::refusal::Refusal;
 use views::refusal::Verdict;
 ghost use mathlib.Core.Path.{_≡_};
 ghost use Rattle.lines.specs.Lines.{lineOf};
-ghost use Rattle.group.specs.Calls.{ranges};
+ghost use Rattle.groups.specs.Groups.{ranges};
 ghost use Rattle.session.specs.Sessions.{Answers, groupLine, stepLine, unreadReply, nowRunning};
 
 // What a line gets, and whether a group is running after it.
@@ -43,7 +43,7 @@ fn begin(
 ) -> Answered
     ensures { λ r. ⌜ Answers running (ranges (now (list .entry)) (now (all .entry)) (now (queues .entry))) (groupLine members set) (ranges (now (list .exit)) (now (all .exit)) (now (queues .exit))) r ⌝ }
 {
-    let v = group::begin::start(list, all, queues, members, set);
+    let v = begin::start(list, all, queues, members, set);
     let reply = group::step::plain(v);
     let after = runs(v, running);
     Answered {

@@ -5,7 +5,7 @@ use Rattle.listed.proofs.start_by.Statement.{statement}
 use Rattle.listed.proofs.start_by.Tie as tie
 use Rattle.listed.proofs.start_by.Reads as reads
 use Rattle.listed.proofs.start_by.Lts as lts
-use Rattle.group.proofs.begin.start.Reads as start-reads
+use Rattle.begin.proofs.start.Reads as start-reads
 use Rattle.listed.proofs.from.Reads as from-reads
 use Rattle.listed.proofs.long.Reads as long-reads
 use Rattle.listed.proofs.spread.Reads as spread-reads

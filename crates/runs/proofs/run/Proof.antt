@@ -1,7 +1,7 @@
 -- `runs::run` meets its contract: the records pair or not, the start is accepted or not, and then every step in turn.
 use mathlib.Core.Path.{sym, _∙_}
 use borrow.Author.Tests.{not-true, not-false}
-use Rattle.group.specs.Calls.{ranges}
+use Rattle.groups.specs.Groups.{ranges}
 use Rattle.runs.proofs.Promise.{paired-long, unpaired-ran, unstarted-ran, all-ran}
 use borrow.Author.Needs.{needs}
 use Rattle.runs.proofs.run.Statement.{statement}

@@ -4,7 +4,7 @@ use Prim.Native.Nat.{_-_, _/_}
 use borrow.Author.Needs.{needs}
 use native.Mathlib.Omega.{arith}
 use lib.ListN.{length}
-use Rattle.group.specs.Calls.{ranges}
+use Rattle.groups.specs.Groups.{ranges}
 use Rattle.runs.specs.Records.{stepSize}
 use Rattle.runs.proofs.Turning.{Under, under-begins, under-turns, under-ends}
 use Rattle.runs.proofs.turns.each.Statement.{statement}

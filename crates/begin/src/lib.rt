@@ -14,8 +14,9 @@ ghost use Rattle.steps.specs.Turns.{verdictOf};
 ghost use Rattle.groups.specs.Places.{booksSize, madeAt};
 ghost use Rattle.groups.specs.Starts.{startBooks};
 ghost use Rattle.groups.specs.Steps.{startResult};
-ghost use Rattle.group.specs.Calls.{ranges, Began};
-ghost use Rattle.group.specs.Parts.{longFor};
+ghost use Rattle.groups.specs.Groups.{ranges};
+ghost use Rattle.begin.specs.Calls.{Began};
+ghost use Rattle.begin.specs.Parts.{longFor};
 
 // The first view alone is listed.
 fn lay_list(list: &mut [u8], first: u8)

@@ -3,8 +3,8 @@ use lib.ListN.{set}
 use mathlib.Core.Path.{ap}
 use Prim.Native.Nat.{ℕ, _-_}
 use borrow.Author.Needs.{needs}
-use Rattle.group.proofs.begin.lay_queues.Statement.{statement}
-use Rattle.group.proofs.begin.lay_queues.Tie as tie
+use Rattle.begin.proofs.lay_queues.Statement.{statement}
+use Rattle.begin.proofs.lay_queues.Tie as tie
 
 clear-requires : tie.Need-clear-requires
 clear-requires c κs = search needs

@@ -1,10 +1,10 @@
 use mathlib.Core.Path.{sym, _∙_}
 use Prim.Native.Nat.{_-_}
-use Rattle.group.proofs.BeginLaws.{list-room, books-long, members-few, queues-room, start-refused, start-accepted}
+use Rattle.begin.proofs.BeginLaws.{list-room, books-long, members-few, queues-room, start-refused, start-accepted}
 use Rattle.groups.specs.Starts.{startRanges}
 use borrow.Author.Needs.{needs}
-use Rattle.group.proofs.begin.start.Statement.{statement}
-use Rattle.group.proofs.begin.start.Tie as tie
+use Rattle.begin.proofs.start.Statement.{statement}
+use Rattle.begin.proofs.start.Tie as tie
 
 startable-requires : tie.Need-startable-requires
 startable-requires c κs = search needs

@@ -2,10 +2,10 @@ use mathlib.Core.Path.{sym, _∙_}
 use Prim.Native.Nat.{_-_}
 use native.Mathlib.Omega.{arith}
 use borrow.Author.Tests.{not-true, not-false}
-use Rattle.group.proofs.BeginLaws.{begin-short, begin-none, begin-many, begin-unfit, begin-empty, begin-longer, begin-accepted}
+use Rattle.begin.proofs.BeginLaws.{begin-short, begin-none, begin-many, begin-unfit, begin-empty, begin-longer, begin-accepted}
 use borrow.Author.Needs.{needs}
-use Rattle.group.proofs.begin.startable.Statement.{statement}
-use Rattle.group.proofs.begin.startable.Tie as tie
+use Rattle.begin.proofs.startable.Statement.{statement}
+use Rattle.begin.proofs.startable.Tie as tie
 
 long-requires : tie.Need-long-requires
 long-requires c κs = search needs

@@ -1,4 +1,4 @@
--- `group::begin::lay_books` meets its contract: after p turns the members below p have their books.
+-- `begin::lay_books` meets its contract: after p turns the members below p have their books.
 use mathlib.Core.Path.{_≡_, refl, sym, ap, _∙_}
 use Prim.Native.Nat.{ℕ, _+_, _-_, _*_, _≤_}
 use native.Mathlib.Omega.{arith}
@@ -7,11 +7,11 @@ use lib.ListN.{length, length-replicate}
 use Rattle.books.specs.Places.{bookSize}
 use Rattle.groups.specs.Places.{booksSize}
 use Rattle.groups.specs.Starts.{startBooks}
-use Rattle.group.proofs.BeginLaws.{part-room, lay-first, lay-turn, lay-last}
+use Rattle.begin.proofs.BeginLaws.{part-room, lay-first, lay-turn, lay-last}
 use borrow.Author.Needs.{needs}
 use borrow.Rule.Slice.PartMut.{putMid}
-use Rattle.group.proofs.begin.lay_books.Statement.{statement}
-use Rattle.group.proofs.begin.lay_books.Tie as tie
+use Rattle.begin.proofs.lay_books.Statement.{statement}
+use Rattle.begin.proofs.lay_books.Tie as tie
 
 abbrev Inv-loop : tie.InvT-loop
 Inv-loop all₀ members first p₀ all p = (p ≤ members) × (length all ≡ length all₀) × (length all₀ ≡ booksSize) × (all ≡ startBooks members first p all₀)

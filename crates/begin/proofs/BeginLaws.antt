@@ -26,8 +26,8 @@ use Rattle.acts.proofs.Committed.{accepted-holds}
 use Rattle.groups.proofs.BookBytes.{book-size}
 use Rattle.groups.proofs.StartGroup.{Startable}
 use Rattle.groups.proofs.GroupRuns.{start-holds}
-use Rattle.group.specs.Calls.{Began}
-use Rattle.group.specs.Parts.{longFor}
+use Rattle.begin.specs.Calls.{Began}
+use Rattle.begin.specs.Parts.{longFor}
 
 -- ---- lengths
 

@@ -4,8 +4,8 @@ use Rattle.slots.specs.Changes.{storeView}
 use mathlib.Core.Path.{ap, _∙_}
 use Prim.Native.Nat.{ℕ, _-_}
 use borrow.Author.Needs.{needs}
-use Rattle.group.proofs.begin.lay_list.Statement.{statement}
-use Rattle.group.proofs.begin.lay_list.Tie as tie
+use Rattle.begin.proofs.lay_list.Statement.{statement}
+use Rattle.begin.proofs.lay_list.Tie as tie
 
 clear-requires : tie.Need-clear-requires
 clear-requires c κs = search needs

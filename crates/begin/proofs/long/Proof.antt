@@ -1,10 +1,10 @@
 use mathlib.Core.Path.{refl}
 use Prim.Native.Nat.{_-_}
 use native.Mathlib.Omega.{arith}
-use Rattle.group.proofs.BeginLaws.{long-broken, long-books, long-none, long-many, long-queues}
+use Rattle.begin.proofs.BeginLaws.{long-broken, long-books, long-none, long-many, long-queues}
 use borrow.Author.Needs.{needs}
-use Rattle.group.proofs.begin.long.Statement.{statement}
-use Rattle.group.proofs.begin.long.Tie as tie
+use Rattle.begin.proofs.long.Statement.{statement}
+use Rattle.begin.proofs.long.Tie as tie
 
 returns : tie.Need-returns
 returns c = long-broken _ _ _ (c .if1 .taken)
