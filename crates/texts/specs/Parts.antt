@@ -1,4 +1,4 @@
--- What internal functions leave of a text, and what a numeral is within.
+-- A text put together, and a numeral within a limit: what internal functions leave and ask.
 use mathlib.Core.Path.{_≡_}
 use mathlib.Core.Bool.{Bool, true}
 use mathlib.Core.List.{List, _++_}
