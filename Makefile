@@ -137,6 +137,8 @@ target/bin/bench: $(SOURCES)
 .PHONY: benchmark
 BENCHMARK_CXX := $(or $(shell command -v clang++),$(CXX))
 BENCHMARK_DIR := target/benchmark/$(notdir $(BENCHMARK_CXX))
+# At fixed places, for a loop's time changes by a sixth with where it happens to lie.
+BENCHMARK_PLACES := -falign-functions=64 -falign-loops=32
 BENCHMARK_OBJECTS := $(patsubst tests/benchmark/%.cpp,$(BENCHMARK_DIR)/%.o,$(wildcard tests/benchmark/*.cpp))
 STEADY := target/benchmark/steady.txt
 benchmark: $(BENCHMARK_DIR)/benchmark target/bin/bench reference-cpp $(STEADY)
@@ -145,7 +147,7 @@ $(BENCHMARK_DIR)/benchmark: $(BENCHMARK_OBJECTS) $(LIBRARY)
 	$(BENCHMARK_CXX) -o $@ $^
 $(BENCHMARK_DIR)/%.o: tests/benchmark/%.cpp $(wildcard tests/benchmark/*.hpp tests/benchmark/*.inc) $(OUTSIDE)
 	mkdir -p $(BENCHMARK_DIR)
-	$(BENCHMARK_CXX) $(OUTSIDE_FLAGS) -O3 -c -o $@ $<
+	$(BENCHMARK_CXX) $(OUTSIDE_FLAGS) -O3 $(BENCHMARK_PLACES) -c -o $@ $<
 $(STEADY): tests/steady_script.py
 	mkdir -p target/benchmark
 	python3 tests/steady_script.py 60000 > $@
