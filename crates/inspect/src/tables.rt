@@ -1,5 +1,6 @@
 // The queues of the views made: each view's order, and what waits in it for each member. An entry is looked at once.
 use views::limits;
+use wire::format;
 ghost use mathlib.Core.Path.{_≡_};
 ghost use Prim.Native.Nat.{_+_, _*_, _≤_};
 ghost use lib.ListN.{length};
@@ -11,7 +12,7 @@ ghost use Rattle.groups.specs.Places.{orderAt};
 ghost use Rattle.inspect.specs.Parts.{entryKnown, entriesKnown, queueSound, waitingSound, tableSound};
 
 // The slot at a place: of known kind, its entry sound, its views listed.
-fn entry_known(list: &[u8], q: &[u8], made: u8, at: usize, n: u8) -> bool
+fn slot_known(list: &[u8], q: &[u8], made: u8, at: usize, n: u8) -> bool
     requires { ⌜ (5 * made ≤ length (now list)) × (at + slotSize ≤ length (now q)) ⌝ }
     ensures { λ r. ⌜ r ≡ entryKnown (viewsIn (now (list .entry)) 0 made) n (now (q .entry)) at ⌝ }
 {
@@ -22,6 +23,17 @@ fn entry_known(list: &[u8], q: &[u8], made: u8, at: usize, n: u8) -> bool
         return false;
     }
     crate::listed::info_listed(list, q, made, at)
+}
+
+// The same: most entries are client messages, and of those only the sender is asked.
+fn entry_known(list: &[u8], q: &[u8], made: u8, at: usize, n: u8) -> bool
+    requires { ⌜ (5 * made ≤ length (now list)) × (at + slotSize ≤ length (now q)) ⌝ }
+    ensures { λ r. ⌜ r ≡ entryKnown (viewsIn (now (list .entry)) 0 made) n (now (q .entry)) at ⌝ }
+{
+    if q[at + 1] == format::CLIENT {
+        return q[at] < n;
+    }
+    slot_known(list, q, made, at, n)
 }
 
 // The slots of a queue.

@@ -1,40 +1,36 @@
--- `inspect::tables::entry_known` meets its contract: it asks the three tests of the definition in their order.
-use mathlib.Core.Path.{sym, _∙_}
-use borrow.Author.Tests.{not-true, not-false}
-use Rattle.rules.proofs.Truth.{stopped, three}
-use Rattle.inspect.specs.Parts.{entryKnown}
+-- `inspect::tables::entry_known` meets its contract: of a client message only the sender is asked, and of another kind all three tests.
+use mathlib.Core.Path.{sym}
+use Rattle.wire.specs.Reader.{viewsIn}
+use Rattle.inspect.proofs.Infos.{client-known}
 use borrow.Author.Needs.{needs}
 use Rattle.inspect.proofs.tables.entry_known.Statement.{statement}
 use Rattle.inspect.proofs.tables.entry_known.Tie as tie
 
-slot-fits-requires : tie.Need-slot-fits-requires
-slot-fits-requires c κs = search needs
+add-if1 : tie.Need-add-if1
+add-if1 c = search needs
+
+shared-slice-read-if1 : tie.Need-shared-slice-read-if1
+shared-slice-read-if1 c = search needs
+
+shared-slice-read-result : tie.Need-shared-slice-read-result
+shared-slice-read-result c = search needs
 
 returns : tie.Need-returns
-unfolding entryKnown
-returns c = sym (stopped _ 0 (sym (c .before .slot-fits .ensures) ∙ not-true _ (c .if1 .taken)))
+returns c = sym (client-known (viewsIn (c .before .before .before .before .before .args .list .now) 0 (c .before .before .before .before .before .args .made)) (c .before .before .before .before .before .args .n) (c .before .before .before .before .before .args .q .now) (c .before .before .before .before .before .args .at) (c .before .if1 .taken))
 
-entry-sound-requires : tie.Need-entry-sound-requires
-entry-sound-requires c κs = (c .before .before .before .before .pre .1, sym (c .before .slot-fits .ensures) ∙ not-false _ (c .if1 .left))
+slot-known-requires : tie.Need-slot-known-requires
+slot-known-requires c κs = search needs
 
 returns-2 : tie.Need-returns-2
-unfolding entryKnown
-returns-2 c = sym (stopped _ 1 (sym (c .before .entry-sound .ensures) ∙ not-true _ (c .if2 .taken)))
-
-info-listed-requires : tie.Need-info-listed-requires
-info-listed-requires c κs = (c .before .before .before .before .before .before .pre .0, c .before .before .before .before .before .before .pre .1, sym (c .before .before .before .slot-fits .ensures) ∙ not-false _ (c .before .before .if1 .left))
-
-returns-3 : tie.Need-returns-3
-unfolding entryKnown
-returns-3 c = c .info-listed .ensures ∙ sym (three _ _ _ ∙ rw (sym (c .before .before .before .before .slot-fits .ensures) ∙ not-false _ (c .before .before .before .if1 .left), sym (c .before .before .entry-sound .ensures) ∙ not-false _ (c .before .if2 .left)))
+returns-2 c = search needs
 
 pub entry-known-spec : {M : Type 1} → statement M
 entry-known-spec =
     tie.close
     (tie.spec
-    slot-fits-requires
+    add-if1
+    shared-slice-read-if1
+    shared-slice-read-result
     returns
-    entry-sound-requires
-    returns-2
-    info-listed-requires
-    returns-3)
+    slot-known-requires
+    returns-2)
