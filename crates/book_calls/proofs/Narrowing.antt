@@ -10,6 +10,7 @@ use lib.Dec.{ltb}
 use Rattle.views.specs.declared.View.{View}
 use Rattle.views.specs.Limits.{maxMembers}
 use Rattle.views.specs.Sets.{has}
+use Rattle.views.specs.Lists.{viewOf}
 use Rattle.rules.specs.Data.{Result}
 use Rattle.rules.specs.Sound.{within, setFits}
 use Rattle.rules.specs.Group.{fits}
@@ -20,7 +21,7 @@ use Rattle.steps.specs.Turns.{verdictOf}
 use Rattle.acts.specs.Replies.{left}
 use Rattle.acts.specs.Acts.{membersIn, joinBytes}
 use Rattle.fresh.specs.Starts.{startBytes}
-use Rattle.member.specs.Calls.{viewOf, startCall, joinCall, deliverCall, deliverBytes}
+use Rattle.member.specs.Calls.{startCall, joinCall, deliverCall, deliverBytes}
 use Rattle.answers.specs.Answers.{narrowed}
 use Rattle.answers.proofs.StandIns.{RefusedAlike, need-alike, unmet-alike, view-alike, after-alike, by-width, within-large, fits-none, fits-large, has-large}
 use Rattle.book_calls.specs.Calls.{Gives}

@@ -1,8 +1,9 @@
 // Calls of the C interface that lend a book alone. Numbers come in 32 bits, so that nothing is cut off silently.
+ghost use Rattle.views.specs.Lists.{viewOf};
 ghost use Rattle.steps.specs.Turns.{verdictOf};
 ghost use Rattle.acts.specs.Acts.{joinBytes, tellBytes, collectBytes};
 ghost use Rattle.fresh.specs.Starts.{startBytes};
-ghost use Rattle.member.specs.Calls.{viewOf, startCall, joinCall, deliverCall, deliverBytes, tellCall, collectCall};
+ghost use Rattle.member.specs.Calls.{startCall, joinCall, deliverCall, deliverBytes, tellCall, collectCall};
 ghost use Rattle.book_calls.specs.Calls.{Gives};
 
 // The book of member `own` in a group of `members`, with the first view, identifier 0, of `first_set`.

@@ -7,11 +7,12 @@ use views::refusal::Refusal;
 use views::refusal::Verdict;
 ghost use mathlib.Core.Bool.{true};
 ghost use mathlib.Core.Path.{_≡_};
+ghost use Rattle.views.specs.Lists.{viewOf};
 ghost use Rattle.books.specs.Books.{bookIn, bytesSound};
 ghost use Rattle.steps.specs.Turns.{verdictOf};
 ghost use Rattle.acts.specs.Replies.{replyOf, left};
 ghost use Rattle.acts.specs.Acts.{membersIn, selfIn, joinBytes, attemptBytes, collectBytes};
-ghost use Rattle.member.specs.Calls.{Gave, viewOf, joinCall, attemptCall, collectCall};
+ghost use Rattle.member.specs.Calls.{Gave, joinCall, attemptCall, collectCall};
 ghost use Rattle.member.specs.Parts.{joining};
 
 // The view v becomes the carrier view of a sound book: 7, 11, 12.

@@ -14,6 +14,7 @@ use Rattle.views.specs.declared.refusal.Refusal.the-variants.{SetUnfit, Identif
 use Rattle.views.specs.declared.refusal.Verdict.the-variants.{Accepted, Refused}
 use Rattle.views.specs.Limits.{maxMembers}
 use Rattle.views.specs.Sets.{isEmpty, isBeyond}
+use Rattle.views.specs.Lists.{viewOf}
 use Rattle.wire.specs.Reader.{viewsIn}
 use Rattle.rules.specs.Data.{ok, accepted, need}
 use Rattle.rules.specs.Member.{all}
@@ -26,7 +27,7 @@ use Rattle.groups.specs.Groups.{Ranges, membersOf, madeOf, viewsMade, groupIn}
 use Rattle.groups.specs.Moves.{waitingCleared, tableCleared, createRanges}
 use Rattle.groups.proofs.RangesLaws.{Ranged}
 use Rattle.groups.proofs.PlaceLaws.{length-made}
-use Rattle.groups.proofs.Creating.{viewOf, Creating, created, create-says}
+use Rattle.groups.proofs.Creating.{Creating, created, create-says}
 use Rattle.carrier.specs.Carrier.{allBelow, creating, Created}
 
 -- ---- the set

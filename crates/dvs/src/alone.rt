@@ -1,8 +1,9 @@
 // The member by itself.
+ghost use Rattle.views.specs.Lists.{viewOf};
 ghost use Rattle.steps.specs.Turns.{verdictOf};
 ghost use Rattle.acts.specs.Acts.{joinBytes, attemptBytes, registerBytes, sendBytes, handBytes, tellBytes, safeBytes, collectBytes};
 ghost use Rattle.fresh.specs.Starts.{startBytes};
-ghost use Rattle.member.specs.Calls.{viewOf, startCall, joinCall, deliverCall, deliverBytes, attemptCall, registerCall, sendCall, handCall, tellCall, safeCall, collectCall};
+ghost use Rattle.member.specs.Calls.{startCall, joinCall, deliverCall, deliverBytes, attemptCall, registerCall, sendCall, handCall, tellCall, safeCall, collectCall};
 ghost use Rattle.book_calls.specs.Calls.{Gives};
 ghost use Rattle.event_calls.specs.Calls.{Shows};
 ghost use Rattle.message_calls.specs.Calls.{Passes};

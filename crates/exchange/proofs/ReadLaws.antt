@@ -15,11 +15,11 @@ use Rattle.views.specs.declared.refusal.Verdict.the-variants.{Accepted, Refused
 use Rattle.views.specs.Lists.{listOf}
 use Rattle.wire.specs.declared.Reading.{Reading}
 use Rattle.wire.specs.Format.{viewsAllowed}
-use Rattle.wire.specs.Reader.{kindIn, viewCount, viewIn, viewsIn, numberIn, messageOf as carriedIn, scanOf, wholeOf, endOf, frameIn, given, readFront, readOf}
+use Rattle.wire.specs.Reader.{kindIn, viewCount, viewIn, viewsIn, numberIn, messageOf as carriedIn, readFront, readOf}
 use Rattle.wire.proofs.FormatLaws.{views-few}
 use Rattle.wire.proofs.ReaderLaws.{length-viewsIn, list-viewsIn, front-read}
 use Rattle.wire.proofs.TripMessages.{Kind}
-use Rattle.wire.proofs.TripRead.{given-met, given-then, scanned}
+use Rattle.wire.proofs.TripRead.{scanned, front-met}
 use Rattle.wire.proofs.RoundTrip.{read-takes-all}
 use Rattle.rules.specs.Data.{Book as Ruled, Result, refused, accepted, withView, after}
 use Rattle.rules.specs.Member.{Done}
@@ -49,13 +49,6 @@ kind-carries kind x [] Kind.info a = absurd (true≢false (sym a))
 kind-carries kind x (v ∷ l) Kind.info a = refl
 kind-carries kind x l Kind.registered a = none-of l a
 kind-carries kind x l Kind.told a = none-of l a
-
-front-met : (b : List ℕ) → readFront b .verdict ≡ Accepted → (scanOf b ≡ Accepted) × (wholeOf b ≡ Accepted)
-unfolding readFront
-front-met b e =
-    let r : Reading = record { verdict = Accepted; taken = endOf b; frame = frameIn b } in
-    let whole : given (wholeOf b) r .verdict ≡ Accepted = ap (λ (y : Reading). y .verdict) (sym (given-then (scanOf b) (given (wholeOf b) r) e)) ∙ e in
-    (given-met (scanOf b) (given (wholeOf b) r) e, given-met (wholeOf b) r whole)
 
 pub read-carries : (bytes : List ℕ) (r : Reading) → r ≡ readOf bytes → r .verdict ≡ Accepted → listOf (r .frame .views) ≡ viewsOf (sentIn (r .frame) .message)
 read-carries b r is e =

@@ -9,7 +9,7 @@ use Rattle.views.specs.declared.refusal.Refusal.the-variants.{NoSuchMember}
 use Rattle.views.specs.declared.refusal.Verdict.{Verdict}
 use Rattle.views.specs.declared.refusal.Verdict.the-variants.{Accepted, Refused}
 use Rattle.views.specs.Sets.{one}
-use Rattle.rules.specs.Data.{Book as Ruled, Member, Step, Result, refused, accepted, need, after}
+use Rattle.rules.specs.Data.{Book as Ruled, Member, Step, Result, need}
 use Rattle.rules.specs.Member.{Done, attempts, registers, sends, hands, tells, reports, collects}
 use Rattle.rules.specs.Sound.{sound}
 use Rattle.rules.specs.Group.{own, pick, stepOf}
@@ -26,21 +26,12 @@ use Rattle.groups.specs.Steps.{stepResult, pickRanges, moved, leftRanges, stepR
 use Rattle.groups.proofs.RangesLaws.{RangesBytes}
 use Rattle.groups.proofs.BookSounds.{members-in, self-in, book-is, sound-book}
 use Rattle.groups.proofs.BookSteps.{attempt-opens-few}
+use Rattle.groups.proofs.AnswerLaws.{own-reply, own-verdict}
 use Rattle.carrier.proofs.Rows.{ranged, group-sound}
 use Rattle.desks.specs.Desks.{Desk, ofMember, Sat}
 use Rattle.group.specs.Calls.{asked, Went}
 
 -- ---- a result of the member's rule, and the group's
-
-own-reply : (r : Ranges) (p : Member) (x : Result Done) → nextReply (own (groupIn r) p x) ≡ replyOf x
-unfolding own after
-own-reply r p (refused f) = refl
-own-reply r p (accepted d) = refl
-
-own-verdict : (r : Ranges) (p : Member) (x : Result Done) → verdictOf (own (groupIn r) p x) ≡ verdictOf x
-unfolding own after
-own-verdict r p (refused f) = refl
-own-verdict r p (accepted d) = refl
 
 -- the books of what is left
 pub left-books : (v : Verdict) (r m : Ranges) → left v (m .books) (r .books) ≡ leftRanges v m r .books
@@ -73,7 +64,7 @@ module _ (r : Ranges) (s : rangesSound r ≡ true) where
     member-is : (t : Bool) → ltb p (membersOf r) ≡ t → (nextReply (stepResult r c) ≡ replyOf (ofMember (r .books) p onBook)) × (verdictOf (stepResult r c) ≡ verdictOf (ofMember (r .books) p onBook))
     unfolding need ofMember
     member-is false e = rw (result-is, e) (refl, refl)
-    member-is true e = rw (result-is, e, same (ltb-true _ _ e)) (own-reply r p rule, own-verdict r p rule)
+    member-is true e = rw (result-is, e, same (ltb-true _ _ e)) (own-reply (groupIn r) p rule, own-verdict (groupIn r) p rule)
 
     pub own-went : Went r c (ranges (r .list) exit (r .queues)) x
     unfolding stepReply stepRanges

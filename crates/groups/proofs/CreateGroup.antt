@@ -11,6 +11,7 @@ use lib.ListN.{length, getD, set}
 use lib.Seq.{getD-set-same}
 use Rattle.views.specs.declared.View.{View}
 use Rattle.views.specs.Limits.{maxWaiting, maxOrdered}
+use Rattle.views.specs.Lists.{viewOf}
 use Rattle.wire.specs.Reader.{viewIn}
 use Rattle.wire.proofs.ReaderLaws.{viewsIn-snoc}
 use Rattle.rules.specs.Data.{accepted}
@@ -30,7 +31,7 @@ use Rattle.groups.proofs.PlaceLaws.{length-made, place-most, snoc-place
 use Rattle.groups.proofs.Apart.{queue-still, queued-still}
 use Rattle.groups.proofs.Cleared.{cleared-changed, cleared-order, cleared-waiting, cleared-bytes}
 use Rattle.groups.proofs.Tables.{waiting-at, waiting-nobody, waiting-unmade, order-at, order-unmade, group-as}
-use Rattle.groups.proofs.Creating.{viewOf, Creating, created, create-holds}
+use Rattle.groups.proofs.Creating.{Creating, created, create-holds}
 
 module _ (r : Ranges) (fits : Ranged r) (g S : ℕ) where
   abbrev made : ℕ

@@ -11,7 +11,7 @@ use lib.Pow.{pow-mono}
 use Rattle.views.specs.declared.View.{View}
 use Rattle.views.specs.Limits.{maxMembers}
 use Rattle.views.specs.Sets.{isEmpty, isBeyond}
-use Rattle.views.specs.Lists.{idOf}
+use Rattle.views.specs.Lists.{idOf, viewOf}
 use Rattle.views.proofs.SetLaws.{both-true}
 use Rattle.views.proofs.Members.{In}
 use Rattle.rules.specs.Data.{Group, accepted}
@@ -24,9 +24,6 @@ use Rattle.groups.specs.Places.{viewSize, roomOf, tableSize, orderAt}
 use Rattle.groups.specs.Groups.{Ranges, membersOf, madeOf, viewsMade, waitingIn, orderIn, bookOf, groupIn}
 use Rattle.groups.proofs.RangesLaws.{Ranged}
 use Rattle.groups.proofs.PlaceLaws.{length-made}
-
-abbrev pub viewOf : ℕ → ℕ → View
-viewOf g S = record { id = record { 0 = g }; set = S }
 
 -- what is known where create is accepted: the set is a byte, the identifier above all made, and there is a place for the view and its queues
 pub record Creating (r : Ranges) (g S : ℕ) : Type 0 where

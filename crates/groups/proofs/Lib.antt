@@ -10,6 +10,7 @@ pub mod BookBytes
 pub mod BookSounds
 pub mod RebookLaws
 pub mod BookSteps
+pub mod AnswerLaws
 pub mod DeliverGroup
 pub mod StartBook
 pub mod StartGroup

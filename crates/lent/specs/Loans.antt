@@ -55,10 +55,6 @@ turnOf h t = cond (withinLimits h) (turnBy (t .kind) h t) (unturned RecordsUnsou
 
 -- ---- on a book's bytes
 
--- the view of an identifier and a set
-abbrev pub viewOf : ℕ → ℕ → View
-viewOf g S = record { id = record { 0 = g }; set = S }
-
 -- the step of a kind's number and a view, with what the book says of itself: its members, its own number, and how many stand in its outgoing queue
 -- and in the client view's inward list
 unfoldable pub stepIn : List ℕ → ℕ → View → Step

@@ -8,8 +8,9 @@ use views::refusal::Refusal;
 use views::refusal::Verdict;
 ghost use mathlib.Core.Bool.{true};
 ghost use mathlib.Core.Path.{_≡_};
+ghost use Rattle.views.specs.Lists.{viewOf};
 ghost use Rattle.books.specs.Books.{bytesSound};
-ghost use Rattle.lent.specs.Loans.{viewOf, stepIn, changeOf, changeBytes};
+ghost use Rattle.lent.specs.Loans.{stepIn, changeOf, changeBytes};
 
 // The step of a kind's number and a view, with what the book says of itself.
 fn asked(b: &[u8], kind: u8, view: View) -> Step

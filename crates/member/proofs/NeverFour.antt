@@ -6,6 +6,7 @@ use Prim.Native.Nat.{ℕ, _<_}
 use lib.ListN.{length}
 use Rattle.views.specs.declared.refusal.Refusal.the-variants.{RecordsUnsound}
 use Rattle.views.specs.Sets.{one}
+use Rattle.views.specs.Lists.{viewOf}
 use Rattle.wire.specs.Reader.{readOf}
 use Rattle.wire.proofs.TripViews.{AreBytes}
 use Rattle.rules.specs.Data.{Book as Ruled, Result, refused, accepted}
@@ -22,7 +23,7 @@ use Rattle.acts.specs.Replies.{left}
 use Rattle.acts.specs.Acts.{membersIn, selfIn}
 use Rattle.acts.proofs.Means.{Means}
 use Rattle.fresh.specs.Starts.{startBytes}
-use Rattle.member.specs.Calls.{onBook, viewOf, joinCall, passCall, deliverCall, attemptCall, registerCall, sendCall, handCall, tellCall, safeCall, collectCall, startCall}
+use Rattle.member.specs.Calls.{onBook, joinCall, passCall, deliverCall, attemptCall, registerCall, sendCall, handCall, tellCall, safeCall, collectCall, startCall}
 use Rattle.member.specs.Drives.{Call, after, lastOf, Within, AllWithin, NeverFour}
 use Rattle.member.proofs.CallLaws.{need-gave}
 use Rattle.member.proofs.StartMeans.{start-gave, start-means}

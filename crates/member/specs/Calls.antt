@@ -32,10 +32,6 @@ onBook b r = need (layoutFits b) RecordsUnsound r
 abbrev pub call : List ℕ → (Ruled → Result Done) → Result Done
 call b rule = onBook b (alone (membersIn b) (selfIn b) (bookIn b) (rule (bookIn b)))
 
--- the view of an identifier and a set
-abbrev pub viewOf : Identifier → ℕ → View
-viewOf g S = record { id = record { 0 = g }; set = S }
-
 unfoldable pub joinCall : View → List ℕ → Result Done
 joinCall v b = onBook b (joinAlone (membersIn b) (selfIn b) v (bookIn b))
 

@@ -4,13 +4,14 @@ use mathlib.Core.Bool.{true}
 use mathlib.Core.List.{List, [], _∷_}
 use Prim.Native.Nat.{ℕ, _^_, _<_}
 use lib.ListN.{length, getD}
+use Rattle.views.specs.Lists.{viewOf}
 use Rattle.rules.specs.Data.{Identifier, Member, Book, accepted}
 use Rattle.books.specs.Books.{bytesSound}
 use Rattle.steps.specs.Turns.{verdictOf}
 use Rattle.acts.specs.Replies.{left}
 use Rattle.acts.specs.Acts.{joinBytes, passBytes, attemptBytes, registerBytes, sendBytes, handBytes, tellBytes, safeBytes, collectBytes}
 use Rattle.fresh.specs.Starts.{startBytes}
-use Rattle.member.specs.Calls.{viewOf, joinCall, passCall, deliverCall, deliverBytes, attemptCall, registerCall, sendCall, handCall, tellCall, safeCall, collectCall, startCall}
+use Rattle.member.specs.Calls.{joinCall, passCall, deliverCall, deliverBytes, attemptCall, registerCall, sendCall, handCall, tellCall, safeCall, collectCall, startCall}
 
 pub data Call : Type 0 where
   join : Identifier → ℕ → Call  -- the view's identifier and set

@@ -15,14 +15,14 @@ use Rattle.views.specs.Lists.{idOf, noView, isRising, risesAbove, listOf}
 use Rattle.wire.specs.declared.Frame.{Frame}
 use Rattle.wire.specs.declared.Reading.{Reading}
 use Rattle.wire.specs.Format.{viewsAllowed, numbersAllowed, toldFits, contentOf}
-use Rattle.wire.specs.Reader.{kindIn, viewCount, numbersPlace, numberCount, endOf, viewsIn, numberIn, messageOf as carriedIn, scanOf, wholeOf, frameIn, given, readFront, readOf}
+use Rattle.wire.specs.Reader.{kindIn, viewCount, numbersPlace, numberCount, viewsIn, numberIn, messageOf as carriedIn, wholeOf, readFront, readOf}
 use Rattle.wire.specs.Writer.{numberOf}
 use Rattle.wire.proofs.VerdictLaws.{need-accepted}
 use Rattle.wire.proofs.FormatLaws.{views-few}
 use Rattle.wire.proofs.ReaderLaws.{length-viewsIn, list-viewsIn, front-read}
 use Rattle.wire.proofs.TripViews.{EachFits, AreBytes, get-fits, views-fit}
 use Rattle.wire.proofs.TripMessages.{Kind, client, info, registered, told, told-met}
-use Rattle.wire.proofs.TripRead.{given-met, given-then, Scanned, scanned}
+use Rattle.wire.proofs.TripRead.{Scanned, scanned, front-met}
 use Rattle.wire.proofs.RoundTrip.{read-takes-all}
 use Rattle.rules.specs.Data.{Message, accepted}
 use Rattle.rules.specs.Alone.{Sent, viewsOf, carriedOf, messageOf, sentBy, sentOf}
@@ -77,13 +77,6 @@ record Read (b : List ℕ) (m : Message) : Type 0 where
   shape : Scanned b
   content : wholeOf b ≡ Accepted
   message : m ≡ messageOf (carriedIn (kindIn b) (numberIn b)) (viewsIn b 6 (viewCount b))
-
-front-met : (b : List ℕ) → readFront b .verdict ≡ Accepted → (scanOf b ≡ Accepted) × (wholeOf b ≡ Accepted)
-unfolding readFront
-front-met b e =
-    let r : Reading = record { verdict = Accepted; taken = endOf b; frame = frameIn b } in
-    let whole : given (wholeOf b) r .verdict ≡ Accepted = ap (λ (y : Reading). y .verdict) (sym (given-then (scanOf b) (given (wholeOf b) r) e)) ∙ e in
-    (given-met (scanOf b) (given (wholeOf b) r) e, given-met (wholeOf b) r whole)
 
 reads : (b : List ℕ) (x : Sent) → sentOf (readOf b) ≡ accepted x → Read b (x .message)
 reads b x e =

@@ -16,7 +16,7 @@ use Rattle.views.specs.declared.refusal.Refusal.the-variants.{SetUnfit, Identif
 use Rattle.views.specs.declared.refusal.Verdict.{Verdict}
 use Rattle.views.specs.declared.refusal.Verdict.the-variants.{Accepted, Refused}
 use Rattle.views.specs.Limits.{maxViews}
-use Rattle.views.specs.Lists.{idOf, noView, listOf, places, placed}
+use Rattle.views.specs.Lists.{idOf, viewOf, noView, listOf, places, placed}
 use Rattle.views.specs.Sets.{both, isEmpty, isBeyond}
 use Rattle.views.proofs.PlaceLaws.{drop-used, length-places, list-placed}
 use Rattle.rules.specs.Data.{need}
@@ -25,7 +25,7 @@ use Rattle.rules.specs.Group.{fits, creates}
 use Rattle.steps.specs.Turns.{verdictOf}
 use Rattle.carrier.specs.Carrier.{allBelow}
 use Rattle.view_list.specs.declared.Creation.{Creation}
-use Rattle.view_list.specs.Creates.{madeIn, roomIn, creating, viewOf, atOf, leftViews, CreatedBy, Created}
+use Rattle.view_list.specs.Creates.{madeIn, roomIn, creating, atOf, leftViews, CreatedBy, Created}
 
 -- ---- the views made
 

@@ -8,7 +8,7 @@ use Rattle.views.specs.declared.list.Views.{Views}
 use Rattle.views.specs.declared.refusal.Verdict.{Verdict}
 use Rattle.views.specs.declared.refusal.Verdict.the-variants.{Accepted, Refused}
 use Rattle.views.specs.Limits.{maxViews}
-use Rattle.views.specs.Lists.{listOf}
+use Rattle.views.specs.Lists.{viewOf, listOf}
 use Rattle.rules.specs.Data.{Identifier, Group, Result}
 use Rattle.rules.specs.Group.{Next, fresh, creates}
 use Rattle.steps.specs.Turns.{verdictOf}
@@ -25,9 +25,6 @@ roomIn l = min (length l) maxViews
 -- the rule of create, of a group with these members, room and views; it looks at nothing else
 unfoldable pub creating : ℕ → ℕ → List View → Identifier → ℕ → Result Next
 creating n room views g S = creates (record { members = n; room = room; views = views; books = fresh S; waiting = λ p h. []; order = λ h. [] }) g S
-
-abbrev pub viewOf : Identifier → ℕ → View
-viewOf g S = record { id = record { 0 = g }; set = S }
 
 -- the place that is filled; past the end of a list of k records where nothing is
 abbrev pub atOf : Verdict → ℕ → ℕ → ℕ

@@ -15,6 +15,10 @@ use Rattle.views.specs.Sets.{both}
 abbrev pub idOf : View → ℕ
 idOf v = v .id .0
 
+-- the view of an identifier and a set
+abbrev pub viewOf : ℕ → ℕ → View
+viewOf g S = record { id = record { 0 = g }; set = S }
+
 -- the identifiers rise, the first from above g
 unfoldable pub risesAbove : ℕ → List View → Bool
 risesAbove g [] = true

@@ -1,5 +1,5 @@
 -- Join: each refusal at its place in the row; what the step on the member's book gives is what the group's rule gives.
-use mathlib.Core.Path.{_≡_, refl, sym, ap, _∙_}
+use mathlib.Core.Path.{_≡_, sym, ap, _∙_}
 use mathlib.Core.Bool.{true}
 use mathlib.Core.List.{List, _++_}
 use Prim.Native.Nat.{ℕ, zero, suc, _+_, _*_, _≤_, _<_}
@@ -13,7 +13,7 @@ use Rattle.views.specs.declared.refusal.Refusal.the-variants.{NoSuchMember, NoS
 use Rattle.views.specs.declared.refusal.Verdict.the-variants.{Refused}
 use Rattle.views.specs.Lists.{noView, findOf}
 use Rattle.wire.specs.Reader.{viewIn, viewsIn}
-use Rattle.rules.specs.Data.{Member, Group, Result, refused, accepted, need, after}
+use Rattle.rules.specs.Data.{Member, Result, need}
 use Rattle.rules.specs.Member.{Done, joins}
 use Rattle.rules.specs.Group.{own, withListed, joinStep}
 use Rattle.books.specs.Places.{membersAt, bookSize}
@@ -26,6 +26,7 @@ use Rattle.groups.specs.Places.{viewSize, bookBytes, withBook}
 use Rattle.groups.specs.Groups.{Ranges, membersOf, madeOf, viewsMade, placeOf, groupIn, rangesSound}
 use Rattle.groups.specs.Moves.{viewAt, joinRanges}
 use Rattle.groups.specs.Answers.{nextReply}
+use Rattle.groups.proofs.AnswerLaws.{own-reply, own-verdict}
 use Rattle.groups.proofs.PlaceLaws.{place-found}
 use Rattle.groups.proofs.BookSounds.{self-in, book-is, sound-book}
 use Rattle.desks.specs.Desks.{Desk, ofMember, Sat}
@@ -35,17 +36,6 @@ use Rattle.carrier.proofs.Rows.{ranged, group-sound}
 use Rattle.visits.specs.Visits.{joining, Joined}
 
 -- ---- a member's step in the group
-
--- a step of the member alone replies in the group what it replies of the book
-own-reply : (s : Group) (p : Member) (x : Result Done) → nextReply (own s p x) ≡ replyOf x
-unfolding own after
-own-reply s p (refused f) = refl
-own-reply s p (accepted d) = refl
-
-own-verdict : (s : Group) (p : Member) (x : Result Done) → verdictOf (own s p x) ≡ verdictOf x
-unfolding own after
-own-verdict s p (refused f) = refl
-own-verdict s p (accepted d) = refl
 
 -- what is asked of the books of a sound group
 pub desk-of : (r : Ranges) → rangesSound r ≡ true → (p : Member) → Desk (r .books) p

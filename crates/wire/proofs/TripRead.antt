@@ -16,7 +16,7 @@ use Rattle.views.specs.Refusals.{need}
 use Rattle.views.specs.Lists.{listOf, placed}
 use Rattle.wire.specs.declared.Reading.{Reading}
 use Rattle.wire.specs.Format.{numbersOf, viewsBytes, numbersBytes, bytesOf, viewsAllowed, numbersAllowed}
-use Rattle.wire.specs.Reader.{kindIn, viewCount, numberCount, endOf, viewsIn, numberIn, messageOf, scanOf, wholeOf, frameIn, given}
+use Rattle.wire.specs.Reader.{kindIn, viewCount, numberCount, endOf, viewsIn, numberIn, messageOf, scanOf, wholeOf, frameIn, given, readFront}
 use Rattle.wire.specs.Writer.{frameBytes, frameVerdict}
 use Rattle.wire.proofs.TripViews.{AreBytes, views-again}
 use Rattle.wire.proofs.TripMessages.{told-met, Kind, kind-of-known, Again, message-again}
@@ -37,6 +37,14 @@ pub given-then : (v : Verdict) (r : Reading) → given v r .verdict ≡ Accepted
 unfolding given
 given-then Accepted r e = refl
 given-then (Refused x) r e = cc
+
+-- the shape and the content of a message that was read were accepted
+pub front-met : (b : List ℕ) → readFront b .verdict ≡ Accepted → (scanOf b ≡ Accepted) × (wholeOf b ≡ Accepted)
+unfolding readFront
+front-met b e =
+    let r : Reading = record { verdict = Accepted; taken = endOf b; frame = frameIn b } in
+    let whole : given (wholeOf b) r .verdict ≡ Accepted = ap (λ (y : Reading). y .verdict) (sym (given-then (scanOf b) (given (wholeOf b) r) e)) ∙ e in
+    (given-met (scanOf b) (given (wholeOf b) r) e, given-met (wholeOf b) r whole)
 
 -- what accepted bytes have met as they came
 pub record Scanned (b : List ℕ) : Type 0 where

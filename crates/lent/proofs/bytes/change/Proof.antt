@@ -1,7 +1,7 @@
 -- `lent::bytes::change` meets its contract: 4, then the record is loaded, lent and kept.
 use native.Mathlib.Omega.{arith}
+use Rattle.views.specs.Lists.{viewOf}
 use Rattle.acts.proofs.Committed.{sound-size}
-use Rattle.lent.specs.Loans.{viewOf}
 use Rattle.lent.proofs.LoanLaws.{unsound-changes, sound-by, changed-few, change-done}
 use borrow.Author.Needs.{needs}
 use Rattle.lent.proofs.bytes.change.Statement.{statement}
