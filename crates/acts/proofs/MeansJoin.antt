@@ -21,12 +21,13 @@ use Rattle.books.specs.Books.{outgoingIn, bookIn, bytesSound}
 use Rattle.books.proofs.LayoutLaws.{Layout}
 use Rattle.books.proofs.Fits.{Fits}
 use Rattle.books.proofs.RecordBytes.{tolds-bytes}
+use Rattle.books.proofs.Blank.{zero-bytes}
 use Rattle.steps.specs.Turns.{joinedTo, attemptedAt}
 use Rattle.steps.proofs.MeaningMarks.{join-leaves, attempt-leaves}
 use Rattle.acts.specs.Acts.{membersIn, selfIn, joinBytes, attemptBytes, passBytes}
 use Rattle.acts.proofs.Committed.{sound-layout}
 use Rattle.acts.proofs.Means.{Means, sound-fits, means-as, gave, ownIn, newIn, queues-kept, one-left, pops, stores, stores-turned, empties-own, empties-new}
-use Rattle.acts.proofs.TurnFits.{untold-bytes, opens-few, opens-each, joined-fits, attempted-fits}
+use Rattle.acts.proofs.TurnFits.{opens-few, opens-each, joined-fits, attempted-fits}
 
 each-cons : (v : View) (l : List View) → ViewFits v → EachFits l → EachFits (v ∷ l)
 each-cons v l f g zero = f
@@ -56,7 +57,7 @@ module _ (b : List ℕ) (bytes : AreBytes b) (sound : bytesSound b ≡ true) whe
       means-as (join-leaves h (outgoingIn b) (ownIn b) (newIn b) (selfIn b) v d e)
       (stores (one-left (empties-new b layout bytes) (selfIn b) (info (h .settled) (listOf (h .opens))) (bytes selfAt) says
       (sets-fit (h .settled ∷ listOf (h .opens)) held))
-      (joinedTo v h) (joined-fits h fits v f) (untold-bytes maxMembers) refl)
+      (joinedTo v h) (joined-fits h fits v f) (zero-bytes maxMembers) refl)
 
   -- ---- attempt: the lists change sides
 

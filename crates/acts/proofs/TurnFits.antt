@@ -1,5 +1,5 @@
 -- The record after each turn is within its widths, its open views in their places, if the record before it was: so it can be stored.
-use mathlib.Core.Path.{_≡_, refl, ap}
+use mathlib.Core.Path.{_≡_, refl}
 use mathlib.Core.Logic.{⊎-elim}
 use mathlib.Core.Bool.{Bool, true, false}
 use mathlib.Core.List.{List, [], _∷_}
@@ -7,7 +7,7 @@ use Prim.Native.Nat.{ℕ, zero, suc, _+_, _^_, _≤_, _<_}
 use native.Mathlib.Omega.{arith}
 use lib.Bits.{or-lt}
 use lib.Dec.{ltb}
-use lib.ListN.{length, getD, set, replicate, length-replicate, length-set}
+use lib.ListN.{length, set, length-replicate, length-set}
 use lib.Pow.{pow-lt}
 use Rattle.views.specs.declared.View.{View}
 use Rattle.views.specs.declared.list.Views.{Views}
@@ -19,13 +19,12 @@ use Rattle.views.proofs.SetLaws.{known}
 use Rattle.views.proofs.Members.{In, top, pop}
 use Rattle.views.proofs.ListLaws.{find-in, above-in, length-above, union-in, length-union, insert-union, insert-in}
 use Rattle.views.proofs.PlaceLaws.{list-placed}
-use Rattle.wire.proofs.TripViews.{ViewFits, EachFits, AreBytes}
+use Rattle.wire.proofs.TripViews.{ViewFits, EachFits}
 use Rattle.rules.specs.Data.{Held}
 use Rattle.rules.specs.Member.{ownOr, settledBy, learned}
 use Rattle.books.specs.declared.Book.{Book}
 use Rattle.books.proofs.Fits.{OpensFit, Fits, opens-list}
 use Rattle.steps.specs.Turns.{bookOf, joinedTo, withMember, takenIn, clientTurn, infoTurn, registeredTurn, toldTurn, openedTo, attemptedAt, marked, settledAs}
-use Rattle.steps.proofs.MeaningNotes.{none-told}
 
 -- ---- lists of views
 
@@ -70,9 +69,6 @@ settled-by-fits x h f g e =
 with-fits : (q s : ℕ) → q < maxMembers → s < 256 → withMember q s < 256
 unfolding withMember
 with-fits q s h f = or-lt maxMembers s (2 ^ q) f (pow-lt h)
-
-pub untold-bytes : (n : ℕ) → AreBytes (replicate n 0)
-untold-bytes n j = let e : _≡_ {A = ℕ} (getD (replicate n 0) j 0) 0 = ap (λ (f : ℕ → ℕ). f j) (none-told n) in omega (arith, e)
 
 -- ---- records
 

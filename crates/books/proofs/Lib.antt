@@ -8,3 +8,4 @@ pub mod Behind
 pub mod QueueBooks
 pub mod InwardBooks
 pub mod RecordBytes
+pub mod Blank

@@ -12,7 +12,6 @@ pub mod RebookLaws
 pub mod BookSteps
 pub mod AnswerLaws
 pub mod DeliverGroup
-pub mod StartBook
 pub mod StartGroup
 pub mod Cleared
 pub mod Creating

@@ -23,14 +23,14 @@ use Rattle.rules.specs.Group.{fits, firstView, fresh, started}
 use Rattle.slots.proofs.Stored.{view-stored}
 use Rattle.slots.proofs.BytesKept.{set-bytes, storeView-bytes}
 use Rattle.books.specs.Places.{bookSize}
+use Rattle.books.proofs.Blank.{zero-at, zero-bytes, no-entries, no-slots}
 use Rattle.fresh.specs.Starts.{startBytes}
-use Rattle.acts.proofs.TurnFits.{untold-bytes}
+use Rattle.fresh.proofs.StartBook.{fits-byte, start-size, start-layout, start-members, start-self, start-book, start-bytes}
 use Rattle.groups.specs.Places.{viewSize, roomOf, booksSize, bookBytes, madeAt, orderAt, waitingAt, queuesSize}
 use Rattle.groups.specs.Groups.{Ranges, membersOf, madeOf, viewsMade, placeOf, bookOf, waitingIn, orderIn, groupIn}
 use Rattle.groups.specs.Starts.{startBooks, startRanges}
 use Rattle.groups.proofs.RangesLaws.{RangesBytes, Queued, Tabled, Seated, Ranged, MeansGroup}
 use Rattle.groups.proofs.BookBytes.{first-members, book-size, with-bytes, with-size, with-own, with-other}
-use Rattle.groups.proofs.StartBook.{zero-at, no-entries, no-slots, fits-byte, start-size, start-layout, start-members, start-self, start-book, start-bytes}
 
 -- what start asks: 4 for ranges not of their lengths, then 1, 2, 3
 pub record Startable (n S : ℕ) (r : Ranges) : Type 0 where
@@ -71,7 +71,7 @@ module _ (n S : ℕ) (byte : S < 256) (books : List ℕ) (size : length books �
 
   books-bytes : n < 256 → (k : ℕ) → k ≤ maxMembers → AreBytes (startBooks n S k books)
   unfolding startBooks
-  books-bytes few zero h = untold-bytes (length books)
+  books-bytes few zero h = zero-bytes (length books)
   books-bytes few (suc k) h =
       with-bytes (startBooks n S k books) k (own k) (books-bytes few k (omega arith))
       (start-bytes n S k (bookBytes books k) (book-size books size k (omega arith)) byte few (omega arith))
@@ -206,9 +206,9 @@ module _ (n S : ℕ) (r : Ranges) (asks : Startable n S r) where
   bytes-after : RangesBytes after
   unfolding startRanges
   bytes-after = record {
-    list = storeView-bytes blank-list 0 (firstView S) (untold-bytes (length (r .list))) byte;
+    list = storeView-bytes blank-list 0 (firstView S) (zero-bytes (length (r .list))) byte;
     books = books-bytes n S byte (r .books) (asks .books) (omega (arith, asks .members .1)) n (asks .members .1);
-    queues = set-bytes blank-queues madeAt 1 (untold-bytes (length (r .queues))) (omega arith);
+    queues = set-bytes blank-queues madeAt 1 (zero-bytes (length (r .queues))) (omega arith);
   }
 
   pub start-group : MeansGroup (startRanges n S r) (started n S (roomOf (r .list)))

@@ -18,8 +18,8 @@ use Rattle.rules.specs.Data.{Entry, entry, info, Item}
 use Rattle.rules.specs.Member.{joined, opened, attempted, collected}
 use Rattle.books.specs.declared.Book.{Book}
 use Rattle.books.specs.Records.{meaning}
+use Rattle.books.proofs.Blank.{none-noted, none-told}
 use Rattle.steps.specs.Turns.{joinedTo, openedTo, attemptedAt, settledAs}
-use Rattle.steps.proofs.MeaningNotes.{none-noted, none-told}
 
 -- ---- open views in their places
 

@@ -1,4 +1,4 @@
--- What is noted of members, in a set's byte and in a list of counts, as the rules' functions of a member: nothing noted, and one member more.
+-- What is noted of members, in a set's byte and in a list of counts, as the rules' functions of a member: one member more.
 use mathlib.Core.Path.{_≡_, refl, ap, fun-ext, _∙_}
 use mathlib.Core.Logic.{⊎-elim}
 use mathlib.Core.Bool.{true, false}
@@ -8,27 +8,14 @@ use native.Mathlib.Nat.{pow-suc, div-eq-of-lt, div-self}
 use native.Mathlib.Omega.{arith}
 use lib.Dec.{eqb, ltb}
 use lib.Bits.{bitOr, or-zero-r, or-shr, or-mod}
-use lib.ListN.{length, getD, set, replicate}
+use lib.ListN.{length, getD, set}
 use lib.Pow.{pow-pos, pow-add, pow-lt, shl-shr}
 use lib.Seq.{getD-set-same, getD-set-other}
 use borrow.Author.Tests.{eqb-true, eqb-false, ltb-true, ltb-false}
 use Rattle.views.specs.Sets.{has}
 use Rattle.views.specs.Points.{at}
-use Rattle.views.proofs.SetLaws.{known, has-none}
+use Rattle.views.proofs.SetLaws.{known}
 use Rattle.steps.specs.Turns.{withMember}
-
--- ---- nothing noted
-
-pub none-noted : has 0 ≡ (λ q. false)
-none-noted = fun-ext has-none
-
-zero-counts : (n q : ℕ) → _≡_ {A = ℕ} (getD (replicate n 0) q 0) 0
-zero-counts zero q = refl
-zero-counts (suc n) zero = refl
-zero-counts (suc n) (suc q) = zero-counts n q
-
-pub none-told : (n : ℕ) → _≡_ {A = ℕ → ℕ} (λ q. getD (replicate n 0) q 0) (λ q. 0)
-none-told n = fun-ext (zero-counts n)
 
 -- ---- one member more in a set
 

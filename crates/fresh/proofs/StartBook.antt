@@ -1,5 +1,5 @@
 -- The bytes that a start gives a member are its fresh book, in their layout, with the number of members and its own number.
-use mathlib.Core.Path.{_≡_, refl, ap, _∙_}
+use mathlib.Core.Path.{_≡_, refl, _∙_}
 use mathlib.Core.Bool.{true, not}
 use mathlib.Core.List.{List, []}
 use Prim.Native.Nat.{ℕ, _+_, _-_, _^_, _≤_, _<_}
@@ -13,40 +13,18 @@ use Rattle.views.specs.Limits.{maxMembers}
 use Rattle.views.specs.Sets.{isEmpty, isBeyond}
 use Rattle.views.proofs.SetLaws.{both-true}
 use Rattle.wire.proofs.TripViews.{ViewFits, AreBytes}
-use Rattle.rules.specs.Data as R
 use Rattle.rules.specs.Group.{fits, firstView, fresh}
-use Rattle.slots.specs.Slots.{entriesIn, itemsIn, slotsFit}
 use Rattle.slots.proofs.BytesKept.{set-bytes}
 use Rattle.books.specs.declared.Book.{Book}
 use Rattle.books.specs.Places.{membersAt, selfAt, carrierAt, clientAt, registeredAt, sideAt, opensAt, outgoingAt, inwardAt, bookSize}
 use Rattle.books.specs.Records.{meaning}
 use Rattle.books.specs.Books.{outgoingIn, inwardIn, bookIn}
+use Rattle.books.proofs.Blank.{none-noted, none-told, zero-at, zero-bytes, no-entries, no-slots, no-items}
 use Rattle.books.proofs.LayoutLaws.{Layout}
 use Rattle.books.proofs.Fits.{Fits}
 use Rattle.books.proofs.RecordLaws.{book-stored, layout-stored, length-record, members-kept, self-kept}
 use Rattle.books.proofs.RecordBytes.{store-bytes}
-use Rattle.steps.proofs.MeaningNotes.{none-noted, none-told}
-use Rattle.acts.specs.Acts.{membersIn, selfIn}
-use Rattle.acts.proofs.TurnFits.{untold-bytes}
 use Rattle.fresh.specs.Starts.{freshRecord, startBytes}
-
--- ---- zeros
-
-pub zero-at : (n j : ℕ) → _≡_ {A = ℕ} (getD (replicate n 0) j 0) 0
-zero-at n j = ap (λ (f : ℕ → ℕ). f j) (none-told n)
-
--- a queue, slots and items whose count is zero
-pub no-entries : (b : List ℕ) (at k : ℕ) → k ≡ 0 → entriesIn b at k ≡ []
-unfolding entriesIn
-no-entries b at k e = rw e
-
-pub no-slots : (b : List ℕ) (at k : ℕ) → k ≡ 0 → slotsFit b at k ≡ true
-unfolding slotsFit
-no-slots b at k e = rw e
-
-no-items : (b : List ℕ) (at k : ℕ) → k ≡ 0 → itemsIn b at k ≡ []
-unfolding itemsIn
-no-items b at k e = rw e
 
 -- ---- the record
 
@@ -57,7 +35,7 @@ fits-byte n S few h =
     let t = both-true (not (isEmpty S)) (not (isBeyond S n)) h in
     omega (arith, leb-false (2 ^ n) S (not-true (leb (2 ^ n) S) (t .1)), pow-mono few)
 
-pub first-fits : (S : ℕ) → S < 256 → ViewFits (firstView S)
+first-fits : (S : ℕ) → S < 256 → ViewFits (firstView S)
 first-fits S h = record { id = omega arith; set = h }
 
 fresh-fits : (S p : ℕ) → S < 256 → Fits (freshRecord S p)
@@ -127,13 +105,13 @@ module _ (n S p : ℕ) (b : List ℕ) (size : length b ≡ bookSize) (byte : S <
   unfolding startBytes
   start-layout = layout-stored seat h long (fresh-fits S p byte) seat-layout (omega arith)
 
-  pub start-members : membersIn (startBytes n S p b) ≡ n
+  pub start-members : getD (startBytes n S p b) membersAt 0 ≡ n
   unfolding startBytes
   start-members =
       members-kept seat h long (fresh-fits S p byte) ∙ getD-set-other (set zeros membersAt n) selfAt membersAt p 0 (λ e. omega arith)
       ∙ getD-set-same zeros membersAt n 0 (omega (arith, length-replicate {A = ℕ} (length b) 0))
 
-  pub start-self : selfIn (startBytes n S p b) ≡ p
+  pub start-self : getD (startBytes n S p b) selfAt 0 ≡ p
   unfolding startBytes
   start-self =
       self-kept seat h long (fresh-fits S p byte)
@@ -153,5 +131,5 @@ module _ (n S p : ℕ) (b : List ℕ) (size : length b ≡ bookSize) (byte : S <
   pub start-bytes : n < 256 → p < 256 → AreBytes (startBytes n S p b)
   unfolding startBytes
   start-bytes few own =
-      store-bytes seat h (set-bytes (set zeros membersAt n) selfAt p (set-bytes zeros membersAt n (untold-bytes (length b)) few) own)
-      (fresh-fits S p byte) (omega arith) (untold-bytes maxMembers)
+      store-bytes seat h (set-bytes (set zeros membersAt n) selfAt p (set-bytes zeros membersAt n (zero-bytes (length b)) few) own)
+      (fresh-fits S p byte) (omega arith) (zero-bytes maxMembers)
