@@ -40,7 +40,7 @@ def expected_constants():
     answers, messages, kinds = constants('answers/src/lib.rt'), constants('messages/src/lib.rt'), constants('wire/src/format.rt')
     wanted = {'DVS_' + name: limits[name] for name in ('MEMBERS', 'VIEWS', 'OPEN', 'OUTGOING', 'WAITING', 'ORDERED', 'LONGEST')}
     wanted.update(DVS_BOOK_SIZE=books['SIZE'], DVS_EVENT_SIZE=answers['EVENT'], DVS_LENGTH_SIZE=answers['LENGTH'],
-                  DVS_MESSAGE_SIZE=messages['RECORD'], DVS_VIEW_SIZE=groups['VIEW'], DVS_BOOKS_SIZE=groups['BOOKS'])
+                  DVS_MESSAGE_SIZE=messages['RECORD'], DVS_VIEW_SIZE=kinds['VIEW'], DVS_BOOKS_SIZE=groups['BOOKS'])
     wanted['DVS_LIST_SIZE(views)'] = '(DVS_VIEW_SIZE * DVS_COUNT(views))'
     wanted['DVS_QUEUES_SIZE(views)'] = '(%du + %du * DVS_COUNT(views))' % (groups['HEAD'], groups['TABLE'])
     wanted['DVS_COUNT(views)'] = '((size_t)(views))'  # as C has it, the last of the two

@@ -35,7 +35,7 @@ pub fn scan(b: &[u8]) -> Verdict
     if !format::views_allowed(kind, n) {
         return Verdict::Refused(Refusal::SectionCount);
     }
-    let at = 6 + 5 * n;
+    let at = 6 + format::VIEW * n;
     if size < at + 1 {
         return Verdict::Refused(Refusal::EndsEarly);
     }
@@ -73,7 +73,7 @@ pub fn load_views(b: &[u8], from: usize, n: usize) -> Views
     let mut at = [none; limits::VIEWS];
     let mut i = 0;
     while i < n {
-        let v = load_view(b, from + 5 * i);
+        let v = load_view(b, from + format::VIEW * i);
         at[i] = v;
         i += 1;
     }
@@ -120,7 +120,7 @@ fn read_scanned(b: &[u8]) -> Reading
 {
     let kind = b[0];
     let n = b[5] as usize;
-    let at = 6 + 5 * n;
+    let at = 6 + format::VIEW * n;
     let m = b[at] as usize;
     let g = numbers::get_number(b, 1, 4);
     let list = load_views(b, 6, n);

@@ -1,6 +1,7 @@
 // Views where they lie in bytes, five bytes each, tested in place: no list is copied for a test.
 use views::View;
 use views::ViewId;
+use wire::format;
 ghost use mathlib.Core.Bool.{not};
 ghost use mathlib.Core.Path.{_≡_};
 ghost use Prim.Native.Nat.{_+_, _*_, _≤_};
@@ -10,9 +11,6 @@ ghost use Rattle.views.specs.Lists.{isRising, risesAbove};
 ghost use Rattle.wire.specs.Reader.{viewsIn};
 ghost use Rattle.rules.specs.Member.{all};
 ghost use Rattle.rules.specs.Sound.{setFits, sameView, listed};
-
-// Bytes of a view.
-pub const SIZE: usize = 5;
 
 // The set is not empty and within n members.
 pub fn fits(n: u8, set: u8) -> bool
@@ -38,7 +36,7 @@ pub fn all_fit(b: &[u8], from: usize, count: usize, n: u8) -> bool
 {
     let mut i = 0;
     while i < count {
-        if !fits(n, b[from + SIZE * i + 4]) {
+        if !fits(n, b[from + format::VIEW * i + 4]) {
             return false;
         }
         i += 1;
@@ -54,7 +52,7 @@ pub fn rise_above(b: &[u8], from: usize, count: usize, g: ViewId) -> bool
     let mut last = g.0;
     let mut i = 0;
     while i < count {
-        let v = reader::load_view(b, from + SIZE * i);
+        let v = reader::load_view(b, from + format::VIEW * i);
         if v.id.0 <= last {
             return false;
         }
@@ -73,7 +71,7 @@ pub fn rising(b: &[u8], from: usize, count: usize) -> bool
         return true;
     }
     let first = reader::load_view(b, from);
-    rise_above(b, from + SIZE, count - 1, first.id)
+    rise_above(b, from + format::VIEW, count - 1, first.id)
 }
 
 // Every set fits, and the identifiers rise.
@@ -104,7 +102,7 @@ pub fn view_listed(list: &[u8], made: usize, v: View) -> bool
 {
     let mut i = 0;
     while i < made {
-        let w = reader::load_view(list, SIZE * i);
+        let w = reader::load_view(list, format::VIEW * i);
         if same(v, w) {
             return true;
         }
@@ -120,7 +118,7 @@ pub fn all_listed(list: &[u8], made: usize, b: &[u8], from: usize, count: usize)
 {
     let mut i = 0;
     while i < count {
-        let v = reader::load_view(b, from + SIZE * i);
+        let v = reader::load_view(b, from + format::VIEW * i);
         if !view_listed(list, made, v) {
             return false;
         }

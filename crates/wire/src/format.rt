@@ -19,6 +19,9 @@ pub const REGISTERED: u8 = 3;
 
 pub const TOLD: u8 = 4;
 
+// Bytes of a view, in a message and in lent records: its identifier and its set.
+pub const VIEW: usize = 5;
+
 // The message's kind.
 pub fn kind(m: Message) -> u8
     ensures { λ r. ⌜ r ≡ kindOf m ⌝ }

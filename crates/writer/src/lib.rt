@@ -37,7 +37,7 @@ pub fn store_views(b: &mut [u8], from: usize, list: Views, n: usize)
     let mut i = 0;
     while i < n {
         let v = list.at[i];
-        let at = from + 5 * i;
+        let at = from + format::VIEW * i;
         numbers::put_number(b, at, 4, v.id.0 as u64);
         b[at + 4] = v.set;
         i += 1;
@@ -87,7 +87,7 @@ fn store_frame(b: &mut [u8], f: Frame)
     let n = list.count;
     store_front(b, format::kind(m), view, n);
     store_views(b, 6, list, n);
-    store_numbers(b, 6 + 5 * n, m);
+    store_numbers(b, 6 + format::VIEW * n, m);
 }
 
 // The frame's bytes are written to the front of the buffer.
@@ -111,7 +111,7 @@ fn write_checked(b: &mut [u8], f: Frame) -> Written
 {
     let m = f.message;
     let n = f.views.count;
-    let size = 7 + 5 * n + 8 * (numbers_in(m) as usize);
+    let size = 7 + format::VIEW * n + 8 * (numbers_in(m) as usize);
     if b.len() < size {
         return Written {
             verdict: Verdict::Refused(Refusal::BufferTooShort),
