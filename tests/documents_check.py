@@ -1,6 +1,6 @@
 #!/usr/bin/env python3
-"""documents_check.py: whether the documents name files that are there, docs/TRUST.md counts their lines right, and README.md shows the stored
-session of the bench and the stored example.
+"""documents_check.py: whether the documents name files that are there, docs/TRUST.md counts their lines right, docs/DECISIONS.md names every
+public function that asks something of its callers, and README.md shows the stored session of the bench and the stored example.
 
     python3 tests/documents_check.py          says what is wrong, and exits with 1 where something is
     python3 tests/documents_check.py write    puts the right counts into docs/TRUST.md"""
@@ -56,6 +56,24 @@ for document in DOCUMENTS:
     for name in re.findall(r'`((?:crates|tests|examples|include|docs)/[\w./-]+\.\w+)`', document.read_text()):
         if not (ROOT / name).exists():
             faults.append('%s names %s, which is not there' % (document.relative_to(ROOT), name))
+
+
+def asking():
+    """The public functions that ask something of their callers, each with its crate: those of private modules are not public."""
+    for library in sorted((ROOT / 'crates').glob('*/src/lib.rt')):
+        modules = re.findall(r'^pub mod (\w+);', library.read_text(), re.M)
+        for source in [library] + [library.parent / (name + '.rt') for name in modules]:
+            for name, contract in re.findall(r'^pub fn (\w+)(\(.*?)\{$', source.read_text(), re.M | re.S):
+                if 'requires {' in contract:
+                    yield library.parent.parent.name, name
+
+
+decided = (ROOT / 'docs' / 'DECISIONS.md').read_text()
+named = decided.split('**Functions that ask something of their callers.**')[1].split('What a host may call')[0]
+whole = re.findall(r'all of `(\w+)`', named) + re.findall(r'`(\w+)`', re.search(r'the steps of (.*?), with', named).group(1))
+for crate, name in asking():
+    if crate not in whole and not re.search(r'`(\w+::)?%s`' % name, named):
+        faults.append('docs/DECISIONS.md does not name %s of %s, which asks something of its callers' % (name, crate))
 
 
 def shown(heading):

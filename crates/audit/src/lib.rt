@@ -1,6 +1,6 @@
 // Whether bytes are a sound book: refusal 4 of the member by itself. Only what is used is looked at, where it lies.
-pub mod layout;
-pub mod record;
+mod layout;
+mod record;
 
 ghost use mathlib.Core.Bool.{true};
 ghost use mathlib.Core.Path.{_≡_};

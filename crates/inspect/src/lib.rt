@@ -1,7 +1,7 @@
 // Whether three ranges are a sound group: refusal 4 of the group. Only what is used is looked at, where it lies.
-pub mod listed;
-pub mod seats;
-pub mod tables;
+mod listed;
+mod seats;
+mod tables;
 
 use views::limits;
 ghost use mathlib.Core.Path.{_≡_};
