@@ -7,7 +7,7 @@ use lib.ListN.{length-replicate}
 use borrow.Author.Tests.{eq-eqb, ne-eqb}
 use Rattle.views.specs.Limits.{maxOutgoing}
 use Rattle.views.specs.Sets.{both}
-use Rattle.rules.specs.Data.{entry, registered}
+use Rattle.rules.specs.Data.{Entry, entry, registered}
 use Rattle.books.specs.declared.Book.{Book}
 use Rattle.asks.proofs.AskLaws.{both-false}
 use Rattle.steps.specs.Turns.{roomFor}
@@ -18,7 +18,7 @@ use Rattle.steps.proofs.RowLaws.{together}
 module _ (h : Book) (out : ℕ) where
   pub room-asked : together h ≡ true → ltb out maxOutgoing ≡ roomFor h out
   unfolding roomFor
-  room-asked e = rw (e, length-replicate out (entry 0 registered))
+  room-asked e = rw (e, length-replicate {A = Entry} out (entry 0 registered))
 
   pub room-unasked : together h ≡ false → true ≡ roomFor h out
   unfolding roomFor

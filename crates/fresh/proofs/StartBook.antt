@@ -57,8 +57,8 @@ fresh-means : (S p : ℕ) → meaning (freshRecord S p) [] [] [] ≡ fresh S p
 unfolding fresh
 fresh-means S p = λ i. record {
   held = record { settled = firstView S; opens = [] };
-  carrier = record { view = fresh S p .carrier .view; infos = none-noted i; registrations = none-noted i; tolds = none-told maxMembers i; taken = 0; inward = [] };
-  client = fresh S p .client;
+  carrier = record { view = fresh {M = ℕ} S p .carrier .view; infos = none-noted i; registrations = none-noted i; tolds = none-told maxMembers i; taken = 0; inward = [] };
+  client = fresh {M = ℕ} S p .client;
   outgoing = [];
 }
 

@@ -16,7 +16,7 @@ use Rattle.rules.specs.Member.{all}
 use Rattle.rules.specs.Sound.{within, countFits, orderAt, bookCounts, setFits, opensRise, listed, bookListed, infoListed, fromMember}
 use Rattle.rules.specs.Alone.{viewsOf, bookViews, limitIf, setsFit, setFitsIf, bookSound}
 use Rattle.rules.proofs.TestLaws.{_and_, conditions-say, conditions-from, all-at, all-from, listed-in, listed-from, optional-in, optional-from}
-use Rattle.rules.proofs.SoundBooks.{EntryOf, QueueOf, BookSound, entry-says, entry-tests, book-says, book-tests}
+use Rattle.rules.proofs.SoundBooks.{EntryFacts, QueueFacts, BookSound, entry-says, entry-tests, book-says, book-tests}
 use Rattle.rules.proofs.Soundness.{Listed, inGroup, QueueSound}
 use Rattle.slots.specs.Slots.{queueIn}
 use Rattle.slots.proofs.Lists.{length-entries}
@@ -28,17 +28,17 @@ use Rattle.inspect.proofs.Infos.{carried-listed}
 -- ---- entries of n members
 
 module _ (views : List View) (n : ℕ) where
-  entry-in : (e : Entry) → entrySound n e ≡ true → infoListed views e ≡ true → EntryOf n (Listed views) e
+  entry-in : (e : Entry) → entrySound n e ≡ true → infoListed views e ≡ true → EntryFacts n (Listed views) e
   unfolding entrySound
   entry-in (entry q m) h i =
       let (count, (_, (rise, (sender, _)))) = conditions-say _ h in
       let carried = all-at (listed views) (viewsOf m) (sym (carried-listed views q m) ∙ i) in
       entry-says n (Listed views) (entry q m) (record { count = count; rise = rise; known = λ w j. listed-in views w (carried w j); sender = sender })
 
-  pub entries-in : (l : List Entry) → all (entrySound n) l ≡ true → all (infoListed views) l ≡ true → (e : Entry) → In e l → EntryOf n (Listed views) e
+  pub entries-in : (l : List Entry) → all (entrySound n) l ≡ true → all (infoListed views) l ≡ true → (e : Entry) → In e l → EntryFacts n (Listed views) e
   entries-in l h i e j = entry-in e (all-at (entrySound n) l h e j) (all-at (infoListed views) l i e j)
 
-  pub entries-listed : (l : List Entry) → ((e : Entry) → In e l → EntryOf n (Listed views) e) → all (infoListed views) l ≡ true
+  pub entries-listed : (l : List Entry) → ((e : Entry) → In e l → EntryFacts n (Listed views) e) → all (infoListed views) l ≡ true
   entries-listed l h = all-from (infoListed views) l go
     where
       go : (e : Entry) → In e l → infoListed views e ≡ true
@@ -49,13 +49,13 @@ module _ (views : List View) (n : ℕ) where
 -- ---- where every listed set fits
 
 module _ (views : List View) (n : ℕ) (fits : (v : View) → In v views → setFits n v ≡ true) where
-  entry-out : (e : Entry) → EntryOf n (Listed views) e → entrySound n e ≡ true
+  entry-out : (e : Entry) → EntryFacts n (Listed views) e → entrySound n e ≡ true
   unfolding entrySound
   entry-out (entry q m) h =
       let t = entry-tests n (Listed views) (entry q m) h in
       conditions-from _ (t .count and all-from (setFits n) (viewsOf m) (λ w j. fits w (t .known w j)) and t .rise and t .sender and tt)
 
-  pub entries-out : (l : List Entry) → ((e : Entry) → In e l → EntryOf n (Listed views) e) → all (entrySound n) l ≡ true
+  pub entries-out : (l : List Entry) → ((e : Entry) → In e l → EntryFacts n (Listed views) e) → all (entrySound n) l ≡ true
   entries-out l h = all-from (entrySound n) l (λ e j. entry-out e (h e j))
 
   optional-fits : (o : Option View) → ((v : View) → o ≡ some v → In v views) → setFitsIf n o ≡ true
@@ -68,14 +68,14 @@ module _ (views : List View) (n : ℕ) (q : List ℕ) (limit c : ℕ) where
   abbrev entries : List Entry
   entries = queueIn q c (c + 1)
 
-  pub queue-in : queueSound views n q limit c ≡ true → Queued q limit c × QueueOf n (Listed views) limit entries
+  pub queue-in : queueSound views n q limit c ≡ true → Queued q limit c × QueueFacts n (Listed views) limit entries
   unfolding queueSound
   queue-in h =
       let (few, (slots, (each, (carried, _)))) = conditions-say _ h in
       let k : getD q c 0 ≤ limit = leb-true _ _ few in
       (record { few = k; slots = slots }, record { short = omega (arith, k, length-entries q (c + 1) (getD q c 0)); entries = entries-in views n entries each carried })
 
-  pub queue-out : ((v : View) → In v views → setFits n v ≡ true) → Queued q limit c → QueueOf n (Listed views) limit entries → queueSound views n q limit c ≡ true
+  pub queue-out : ((v : View) → In v views → setFits n v ≡ true) → Queued q limit c → QueueFacts n (Listed views) limit entries → queueSound views n q limit c ≡ true
   unfolding queueSound
   queue-out fits h k = conditions-from _ (
       le-leb _ _ (h .few)

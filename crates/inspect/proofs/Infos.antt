@@ -33,7 +33,7 @@ carried-listed views q (info v l) = refl
 carried-listed views q registered = refl
 carried-listed views q (told k) = refl
 
-carried-info : (l : List View) → 1 ≤ length l → viewsOf (infoOf l) ≡ l
+carried-info : (l : List View) → 1 ≤ length l → viewsOf (infoOf {M = ℕ} l) ≡ l
 carried-info [] h = absurd (omega arith)
 carried-info (v ∷ l) h = refl
 
@@ -69,7 +69,7 @@ module _ (b : List ℕ) (at : ℕ) (fits : slotFits b at ≡ true) (views : List
       let w = viewsIn b (at + 11) c in
       let z : length w ≡ c = length-viewsIn b (at + 11) c in
       let f : infoIn b at ≡ w = ap (viewsIn b (at + 11)) m in
-      let k : viewsOf (messageIn b at) ≡ w = ap viewsOf (sym (held-info (kindIn b at) (numberIn b at) (infoIn b at) i)) ∙ ap (λ (l : List View). viewsOf (infoOf l)) f ∙ carried-info w (omega (arith, t .0)) in
+      let k : viewsOf (messageIn b at) ≡ w = ap viewsOf (sym (held-info (kindIn b at) (numberIn b at) (infoIn b at) i)) ∙ ap (λ (l : List View). viewsOf (infoOf {M = ℕ} l)) f ∙ carried-info w (omega (arith, t .0)) in
       ap (all (listed views)) (sym k) ∙ sym (carried-listed views (getD b at 0) (messageIn b at))
 
 -- of a client message only the sender is asked

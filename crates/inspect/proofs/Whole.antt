@@ -19,7 +19,7 @@ use Rattle.rules.specs.Sound as S
 use Rattle.rules.specs.Sound.{setFits, bookListed, sound}
 use Rattle.rules.specs.Alone.{bookSound}
 use Rattle.rules.proofs.TestLaws.{_and_, both-from, within-says, within-from, every-at, every-from, conditions-say, conditions-from, all-at, all-from, optional-in}
-use Rattle.rules.proofs.SoundBooks.{QueueOf, BookSound}
+use Rattle.rules.proofs.SoundBooks.{QueueFacts, BookSound}
 use Rattle.rules.proofs.Soundness.{Listed, inGroup, QueueSound, Sound, sound-says, sound-from}
 use Rattle.slots.specs.Slots.{queueIn}
 use Rattle.slots.proofs.Lists.{length-entries}
@@ -232,12 +232,12 @@ module _ (r : Ranges) where
           rw (book-of p k) (outgoing-in (groupIn r) (bookIn (bytes p)) by-itself x)
 
     module _ (i : ℕ) (k : i < madeOf r) where
-      order-says : Queued (r .queues) maxOrdered (orderAt i) × QueueOf n (Listed views) maxOrdered (queueIn (r .queues) (orderAt i) (orderAt i + 1))
+      order-says : Queued (r .queues) maxOrdered (orderAt i) × QueueFacts n (Listed views) maxOrdered (queueIn (r .queues) (orderAt i) (orderAt i + 1))
       unfolding tableSound
       order-says = queue-in views n (r .queues) maxOrdered (orderAt i) (both-true _ _ (tables i k) .0)
 
       waiting-says : (p : ℕ) → p < n
-          → Queued (r .queues) maxWaiting (waitingAt i p) × QueueOf n (Listed views) maxWaiting (queueIn (r .queues) (waitingAt i p) (waitingAt i p + 1))
+          → Queued (r .queues) maxWaiting (waitingAt i p) × QueueFacts n (Listed views) maxWaiting (queueIn (r .queues) (waitingAt i p) (waitingAt i p + 1))
       unfolding tableSound waitingSound
       waiting-says p m =
           let t = both-true (queueSound views n (r .queues) maxOrdered (orderAt i)) (waitingSound views n (r .queues) i) (tables i k) in

@@ -9,7 +9,7 @@ use borrow.Author.Tests.{leb-true, le-leb}
 use Rattle.views.specs.declared.View.{View}
 use Rattle.views.specs.Limits.{maxMembers, maxOrdered}
 use Rattle.views.proofs.Members.{In}
-use Rattle.rules.specs.Data.{Entry, entry, Book, rank}
+use Rattle.rules.specs.Data.{EntryOf, entry, BookOf, rank}
 use Rattle.rules.specs.Member.{all}
 use Rattle.rules.specs.Sound.{within, countFits, setFits, opensRise, fromMember}
 use Rattle.rules.specs.Alone.{viewsOf, bookViews, limitIf, setsFit, setFitsIf, bookSound}
@@ -33,69 +33,70 @@ fits-from : (n : ℕ) (o : Option View) → ((v : View) → o ≡ some v → Fit
 fits-from n none h = refl
 fits-from n (some w) h = h w refl
 
-carried-fit : (n : ℕ) (e : Entry) → setsFit n e ≡ true → (w : View) → In w (viewsIn e) → Fits n w
-carried-fit n (entry q m) h = all-at (setFits n) (viewsOf m) h
+module _ {M : Type 0} where
+  carried-fit : (n : ℕ) (e : EntryOf M) → setsFit n e ≡ true → (w : View) → In w (viewsIn e) → Fits n w
+  carried-fit n (entry q m) h = all-at (setFits n) (viewsOf m) h
 
-fit-carried : (n : ℕ) (e : Entry) → ((w : View) → In w (viewsIn e) → Fits n w) → setsFit n e ≡ true
-fit-carried n (entry q m) h = all-from (setFits n) (viewsOf m) h
+  fit-carried : (n : ℕ) (e : EntryOf M) → ((w : View) → In w (viewsIn e) → Fits n w) → setsFit n e ≡ true
+  fit-carried n (entry q m) h = all-from (setFits n) (viewsOf m) h
 
--- ---- the book
+  -- ---- the book
 
--- what every call keeps of a member's book: it is sound, and its client view is not above its carrier view
-pub record KeptAlone (n : ℕ) (b : Book) : Type 0 where
-  pub sound : bookSound n b ≡ true
-  pub below : rank (b .client .view) ≤ rank (b .carrier .view)
+  -- what every call keeps of a member's book: it is sound, and its client view is not above its carrier view
+  pub record KeptAlone (n : ℕ) (b : BookOf M) : Type 0 where
+    pub sound : bookSound n b ≡ true
+    pub below : rank (b .client .view) ≤ rank (b .carrier .view)
 
-pub members-within : (n : ℕ) (b : Book) → KeptAlone n b → within 1 n maxMembers ≡ true
-unfolding bookSound
-members-within n b k = let (m, _) = conditions-say _ (k .sound) in m
+  pub members-within : (n : ℕ) (b : BookOf M) → KeptAlone n b → within 1 n maxMembers ≡ true
+  unfolding bookSound
+  members-within n b k = let (m, _) = conditions-say _ (k .sound) in m
 
-pub alone-says : (n : ℕ) (b : Book) → KeptAlone n b → BookKept (byItself n) b
-unfolding bookSound
-alone-says n b k =
-    let (m, (c, (l, (f, (v, (r, (t, (s, (g, (o, (q, (i, (a, _))))))))))))) = conditions-say _ (k .sound) in
-    parts-of (byItself n) b
-    (book-says (byItself n) b (record {
-      count = c;
-      rise = g;
-      held = all-at (setFits n) (bookViews b) v;
-      carrier = fits-in n (b .carrier .view) r;
-      client = fits-in n (b .client .view) t;
-      inward = i;
-      arrived = a;
-    }))
-    (record {
-      short = leb-true _ _ l;
-      entries = λ e j. entry-says n (Fits n) e (record {
-        count = all-at countFits (b .outgoing) f e j;
-        rise = all-at opensRise (b .outgoing) o e j;
-        known = carried-fit n e (all-at (setsFit n) (b .outgoing) s e j);
-        sender = all-at (fromMember n) (b .outgoing) q e j;
-      });
-    })
-    (k .below)
+  pub alone-says : (n : ℕ) (b : BookOf M) → KeptAlone n b → BookKept (byItself n) b
+  unfolding bookSound
+  alone-says n b k =
+      let (m, (c, (l, (f, (v, (r, (t, (s, (g, (o, (q, (i, (a, _))))))))))))) = conditions-say _ (k .sound) in
+      parts-of (byItself n) b
+      (book-says (byItself n) b (record {
+        count = c;
+        rise = g;
+        held = all-at (setFits n) (bookViews b) v;
+        carrier = fits-in n (b .carrier .view) r;
+        client = fits-in n (b .client .view) t;
+        inward = i;
+        arrived = a;
+      }))
+      (record {
+        short = leb-true _ _ l;
+        entries = λ e j. entry-says n (Fits n) e (record {
+          count = all-at countFits (b .outgoing) f e j;
+          rise = all-at opensRise (b .outgoing) o e j;
+          known = carried-fit n e (all-at (setsFit n) (b .outgoing) s e j);
+          sender = all-at (fromMember n) (b .outgoing) q e j;
+        });
+      })
+      (k .below)
 
-pub alone-from : (n : ℕ) (b : Book) → within 1 n maxMembers ≡ true → BookKept (byItself n) b → KeptAlone n b
-unfolding bookSound
-alone-from n b m k =
-    let t = book-tests (byItself n) b (sound-of (byItself n) b k) in
-    let outgoing : (f : Entry → Bool) → ((e : Entry) → EntryTests n (Fits n) e → f e ≡ true) → all f (b .outgoing) ≡ true
-    = λ f g. all-from f (b .outgoing) (λ e j. g e (entry-tests n (Fits n) e (k .outgoing .entries e j))) in
-    record {
-      sound = conditions-from _ (
-          m
-          and t .count
-          and le-leb _ _ (k .outgoing .short)
-          and outgoing countFits (λ e u. u .count)
-          and all-from (setFits n) (bookViews b) (t .held)
-          and fits-from n (b .carrier .view) (t .carrier)
-          and fits-from n (b .client .view) (t .client)
-          and outgoing (setsFit n) (λ e u. fit-carried n e (u .known))
-          and t .rise
-          and outgoing opensRise (λ e u. u .rise)
-          and outgoing (fromMember n) (λ e u. u .sender)
-          and t .inward
-          and t .arrived
-          and tt);
-      below = k .below;
-    }
+  pub alone-from : (n : ℕ) (b : BookOf M) → within 1 n maxMembers ≡ true → BookKept (byItself n) b → KeptAlone n b
+  unfolding bookSound
+  alone-from n b m k =
+      let t = book-tests (byItself n) b (sound-of (byItself n) b k) in
+      let outgoing : (f : EntryOf M → Bool) → ((e : EntryOf M) → EntryTests n (Fits n) e → f e ≡ true) → all f (b .outgoing) ≡ true
+      = λ f g. all-from f (b .outgoing) (λ e j. g e (entry-tests n (Fits n) e (k .outgoing .entries e j))) in
+      record {
+        sound = conditions-from _ (
+            m
+            and t .count
+            and le-leb _ _ (k .outgoing .short)
+            and outgoing countFits (λ e u. u .count)
+            and all-from (setFits n) (bookViews b) (t .held)
+            and fits-from n (b .carrier .view) (t .carrier)
+            and fits-from n (b .client .view) (t .client)
+            and outgoing (setsFit n) (λ e u. fit-carried n e (u .known))
+            and t .rise
+            and outgoing opensRise (λ e u. u .rise)
+            and outgoing (fromMember n) (λ e u. u .sender)
+            and t .inward
+            and t .arrived
+            and tt);
+        below = k .below;
+      }

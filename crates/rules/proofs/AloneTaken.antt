@@ -12,64 +12,65 @@ use Rattle.views.specs.declared.View.{View}
 use Rattle.views.specs.Limits.{maxOpen, maxOrdered}
 use Rattle.views.specs.Sets.{has, isEmpty, isBeyond}
 use Rattle.views.proofs.SetLaws.{both-true, has-below}
-use Rattle.rules.specs.Data.{Member, Message, client, info, registered, told, entry, Book, accepted, after}
-use Rattle.rules.specs.Member.{Done, all, learned, took}
+use Rattle.rules.specs.Data.{Member, MessageOf, client, info, registered, told, entry, BookOf, accepted, after}
+use Rattle.rules.specs.Member.{DoneOf, all, learned, took}
 use Rattle.rules.specs.Sound.{countFits, setFits, opensRise}
-use Rattle.rules.specs.Alone.{Sent, viewsOf, deliverAlone}
+use Rattle.rules.specs.Alone.{SentOf, viewsOf, deliverAlone}
 use Rattle.rules.proofs.TestLaws.{all-at}
-use Rattle.rules.proofs.SoundBooks.{EntryOf, entry-says}
+use Rattle.rules.proofs.SoundBooks.{EntryFacts, entry-says}
 use Rattle.rules.proofs.Holding.{gives, need-holds, view-holds}
 use Rattle.rules.proofs.SoundDeliver.{took-kept}
 use Rattle.rules.proofs.AloneSound.{Fits, byItself, KeptAlone}
 use Rattle.rules.proofs.AloneKept.{call-keeps}
 
--- what the reader lets through, whatever the bytes: a told count within its limit, an info's open views rising above the settled one, at most 32 views
-pub record Readable (m : Message) : Type 0 where
-  pub count : countFits (entry 0 m) ≡ true
-  pub opens : opensRise (entry 0 m) ≡ true
+module _ {M : Type 0} where
+  -- what the reader lets through, whatever the bytes: a told count within its limit, an info's open views rising above the settled one, at most 32 views
+  pub record Readable (m : MessageOf M) : Type 0 where
+    pub count : countFits (entry 0 m) ≡ true
+    pub opens : opensRise (entry 0 m) ≡ true
 
--- the sender makes no difference to either
-count-of : (q : Member) (m : Message) → countFits (entry 0 m) ≡ true → countFits (entry q m) ≡ true
-count-of q (client x) h = h
-count-of q (info v l) h = h
-count-of q registered h = h
-count-of q (told k) h = h
+  -- the sender makes no difference to either
+  count-of : (q : Member) (m : MessageOf M) → countFits (entry 0 m) ≡ true → countFits (entry q m) ≡ true
+  count-of q (client x) h = h
+  count-of q (info v l) h = h
+  count-of q registered h = h
+  count-of q (told k) h = h
 
-rise-of : (q : Member) (m : Message) → opensRise (entry 0 m) ≡ true → opensRise (entry q m) ≡ true
-rise-of q (client x) h = h
-rise-of q (info v l) h = h
-rise-of q registered h = h
-rise-of q (told k) h = h
+  rise-of : (q : Member) (m : MessageOf M) → opensRise (entry 0 m) ≡ true → opensRise (entry q m) ≡ true
+  rise-of q (client x) h = h
+  rise-of q (info v l) h = h
+  rise-of q registered h = h
+  rise-of q (told k) h = h
 
--- a sender in the carrier view is a member
-taken-entry : (n : ℕ) (v : View) (q : Member) (m : Message) → Fits n v → has (v .set) q ≡ true → all (setFits n) (viewsOf m) ≡ true → Readable m
-    → EntryOf n (Fits n) (entry q m)
-taken-entry n v q m f h w r = entry-says n (Fits n) (entry q m) (record {
-  count = count-of q m (r .count);
-  rise = rise-of q m (r .opens);
-  known = all-at (setFits n) (viewsOf m) w;
-  sender = lt-ltb q n (has-below (v .set) n q (not-true _ (both-true (not (isEmpty (v .set))) (not (isBeyond (v .set) n)) f .1)) h);
-})
+  -- a sender in the carrier view is a member
+  taken-entry : (n : ℕ) (v : View) (q : Member) (m : MessageOf M) → Fits n v → has (v .set) q ≡ true → all (setFits n) (viewsOf m) ≡ true → Readable m
+      → EntryFacts n (Fits n) (entry q m)
+  taken-entry n v q m f h w r = entry-says n (Fits n) (entry q m) (record {
+    count = count-of q m (r .count);
+    rise = rise-of q m (r .opens);
+    known = all-at (setFits n) (viewsOf m) w;
+    sender = lt-ltb q n (has-below (v .set) n q (not-true _ (both-true (not (isEmpty (v .set))) (not (isBeyond (v .set) n)) f .1)) h);
+  })
 
--- 43 counts what an info leaves open
-took-short : (q : Member) (m : Message) (b : Book) → length (took q m b .held .opens) ≤ maxOpen
-    → (x : View) (l : List View) → m ≡ info x l → length (learned x l (b .held) .opens) ≤ maxOpen
-unfolding took
-took-short q m b h x l e = rw e at h
+  -- 43 counts what an info leaves open
+  took-short : (q : Member) (m : MessageOf M) (b : BookOf M) → length (took q m b .held .opens) ≤ maxOpen
+      → (x : View) (l : List View) → m ≡ info x l → length (learned x l (b .held) .opens) ≤ maxOpen
+  unfolding took
+  took-short q m b h x l e = rw e at h
 
-pub deliver-kept : (n : ℕ) (p : Member) (x : Sent) (q : Member) (b : Book) (d : Done) → KeptAlone n b → Readable (x .message)
-    → deliverAlone n p (accepted x) q b ≡ accepted d → KeptAlone n (d .book)
-unfolding deliverAlone after
-deliver-kept n p x q b d k r e =
-    call-keeps n p b _ d k
-    (λ i s.
-    view-holds (b .carrier .view) _ _ (λ v c.
-    need-holds (all (setFits n) (viewsOf (x .message))) _ _ (λ w.
-    need-holds _ _ _ (λ _.
-    need-holds (has (v .set) q) _ _ (λ m.
-    need-holds (ltb (b .carrier .taken) maxOrdered) _ _ (λ t.
-    need-holds (leb (length (took q (x .message) b .held .opens)) maxOpen) _ _ (λ o.
-    gives (took-kept (byItself n) b v (record { carries = c; left = ltb-true _ _ t; short = omega arith }) s q (x .message)
-    (taken-entry n v q (x .message) (s .carrier .known v c) m w r)
-    (took-short q (x .message) b (leb-true _ _ o))))))))))
-    e
+  pub deliver-kept : (n : ℕ) (p : Member) (x : SentOf M) (q : Member) (b : BookOf M) (d : DoneOf M) → KeptAlone n b → Readable (x .message)
+      → deliverAlone n p (accepted x) q b ≡ accepted d → KeptAlone n (d .book)
+  unfolding deliverAlone after
+  deliver-kept n p x q b d k r e =
+      call-keeps n p b _ d k
+      (λ i s.
+      view-holds (b .carrier .view) _ _ (λ v c.
+      need-holds (all (setFits n) (viewsOf (x .message))) _ _ (λ w.
+      need-holds _ _ _ (λ _.
+      need-holds (has (v .set) q) _ _ (λ m.
+      need-holds (ltb (b .carrier .taken) maxOrdered) _ _ (λ t.
+      need-holds (leb (length (took q (x .message) b .held .opens)) maxOpen) _ _ (λ o.
+      gives (took-kept (byItself n) b v (record { carries = c; left = ltb-true _ _ t; short = omega arith }) s q (x .message)
+      (taken-entry n v q (x .message) (s .carrier .known v c) m w r)
+      (took-short q (x .message) b (leb-true _ _ o))))))))))
+      e

@@ -20,18 +20,23 @@ use Rattle.membership.proofs.Intersection.{Att, facts, inv-4-18}
 use Rattle.rules.specs.Data.{Event, attempt}
 use Rattle.rules.specs.Group.{firstView}
 use Rattle.rules.specs.Figure1 as D
-use Rattle.rules.specs.Figure1.{Outer, Run, Total, Apart}
+use Rattle.rules.specs.Figure1.{Outer, Act, Run, Total, Apart}
 use Rattle.rules.proofs.Flat.{Flat, Holds, attemptF}
 use Rattle.rules.proofs.Ties.{Tied, carrier-is, client-is, settled-is, current-is}
 use Rattle.rules.proofs.TieAttempt.{attempt-tied}
 use Rattle.rules.proofs.Listed.{Naming, Agrees, to-named, from-named, same-view}
 
--- a step that shows nothing leaves the events as they were
-pub unseen : {M : Type 0} {v : View} {d : Outer M} {es : List (Event M)} → Run v d es → Run v d (es ++ [])
-unseen {es = es} r = rw (append-nil es) r
+-- what Figure 1 does beside one step: nothing, a step with its events, or a create and then a new view
+pub data Acts {M : Type 0} : Outer M → Outer M → List (Event M) → Type 0 where
+  nothing : {d : Outer M} → Acts d d []
+  acts : {d e : Outer M} {k : List (Event M)} → Act d e k → Acts d e k
+  made : {d e f : Outer M} {p : ℕ} {v : View} → Act d e [] → Act e f (attempt p v ∷ []) → Acts d f (attempt p v ∷ [])
 
-seen : {M : Type 0} {v : View} {d : Outer M} {es : List (Event M)} → Run v d (es ++ []) → Run v d es
-seen {es = es} r = rw (append-nil es) at r
+-- a run goes on with them
+pub goes-on : {M : Type 0} {v : View} {d e : Outer M} {l k : List (Event M)} → Run v d l → Acts d e k → Run v e (l ++ k)
+goes-on {l = l} r nothing = rw (append-nil l) r
+goes-on r (acts x) = Run.then r x
+goes-on {v = v} {l = l} r (made {e = e} x y) = Run.then {l = l} (subst (λ (k : List (Event _)). Run v e k) (append-nil l) (Run.then r x)) y
 
 module _ (size : ℕ) (weight : ℕ → ℕ) (n : Naming size) where
   -- the membership machine's surroundings: the sets of the views that the identifiers name
@@ -43,8 +48,11 @@ module _ (size : ℕ) (weight : ℕ → ℕ) (n : Naming size) where
     abbrev pub Beside : Flat M → List (Event M) → Type 1
     Beside s es = (a : State) × (d : Outer M) × Reach E a × Run (firstView S) d es × Tied a d s
 
-    module _ (s : Flat M) (es : List (Event M)) (ag : Agrees n (s .views)) (a : State) (d : Outer M) (ra : Reach E a)
-        (rd : Run (firstView S) d es) (r : Tied a d s) where
+    -- a step of each machine from here, tied after it
+    abbrev pub Follows : Outer M → Flat M → List (Event M) → Type 1
+    Follows d t k = (b : State) × (e : Outer M) × Reach E b × Acts d e k × Tied b e t
+
+    module _ (s : Flat M) (ag : Agrees n (s .views)) (a : State) (d : Outer M) (ra : Reach E a) (r : Tied a d s) where
       inv : Inv E a
       inv = reach-inv ra
 
@@ -113,12 +121,12 @@ module _ (size : ℕ) (weight : ℕ → ℕ) (n : Naming size) where
             ]
 
         -- Figure 1 has created the view already, or does so now
-        pub attempt-beside : Dec ((u : View) × In u (d .created) × (idOf u ≡ idOf v)) → Beside (attemptF s p (idOf v) os) (es ++ (attempt p v ∷ []))
+        pub attempt-beside : Dec ((u : View) × In u (d .created) × (idOf u ≡ idOf v)) → Follows d (attemptF s p (idOf v) os) (attempt p v ∷ [])
         attempt-beside (yes x) = (
           attemptS a p (idOf v),
           _,
           reach⁺,
-          Run.then rd (D.newView {d = d} p v here (from-named n ag v p hv own) (omega (arith, current-is r p))),
+          acts (D.newView {d = d} p v here (from-named n ag v p hv own) (omega (arith, current-is r p))),
           attempt-tied a d s r p (idOf v) os c l keeps opened (d .created) (r .created-listed)
               (λ u h. let y = r .created-attempted u h in (y .0, Plus2.old (y .1))) known,
         )
@@ -131,11 +139,11 @@ module _ (size : ℕ) (weight : ℕ → ℕ) (n : Naming size) where
             known q g Plus2.new = (v, here, refl)
         attempt-beside (no x) =
             let fresh : (w : View) → In w (d .created) → idOf w ≢ idOf v = λ w h e. x (w, h, e) in
-            let made = D.create v (λ w h. (fresh w h, apart w h (fresh w h) (tri (idOf w) (idOf v)))) in (
+            let first = D.create v (λ w h. (fresh w h, apart w h (fresh w h) (tri (idOf w) (idOf v)))) in (
               attemptS a p (idOf v),
               _,
               reach⁺,
-              Run.then {l = es} (seen (Run.then rd made)) (D.newView p v top (from-named n ag v p hv own) low),
+              made first (D.newView p v top (from-named n ag v p hv own) low),
               attempt-tied a d s r p (idOf v) os c l keeps opened (v ∷ d .created) (λ u h. in-list u (in-cons h)) (λ u h. by-some u (in-cons h)) known,
             )
           where

@@ -61,7 +61,7 @@ first-current false n g e = absurd (omega arith)
 module _ {M : Type 0} where
   -- ---- one step
 
-  created-stays : {d e : Outer M} {k : List (Event M)} → Act d e k → (w : View) → In w (d .created) → In w (e .created)
+  pub created-stays : {d e : Outer M} {k : List (Event M)} → Act d e k → (w : View) → In w (d .created) → In w (e .created)
   created-stays (D.create v h) w i = pop i
   created-stays (D.order p g m r h) w i = i
   created-stays (D.newView p v h t l) w i = i

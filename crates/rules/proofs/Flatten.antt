@@ -12,43 +12,85 @@ use Rattle.views.specs.Points.{at, at2}
 use Rattle.views.specs.Lists.{idOf}
 use Rattle.membership.proofs.Updates.{upd-ind}
 use Rattle.rules.specs.Data as D
-use Rattle.rules.specs.Data.{Message, Entry, entry, Item, Book, Group, rank}
+use Rattle.rules.specs.Data.{MessageOf, EntryOf, entry, Item, BookOf, GroupOf, rank}
 use Rattle.rules.specs.Group.{booked}
 use Rattle.rules.proofs.Flat as F
 use Rattle.rules.proofs.Flat.{Msg, Ent, ent, Flat}
 
--- a message with its views by identifier, and without its sender
-abbrev pub msgOf : Message → Msg ℕ
-msgOf (D.client x) = F.client x
-msgOf (D.info v l) = F.info (idOf v) (map idOf l)
-msgOf D.registered = F.registered
-msgOf (D.told k) = F.told k
+module _ {M : Type 0} where
+  -- a message with its views by identifier, and without its sender
+  abbrev pub msgOf : MessageOf M → Msg M
+  msgOf (D.client x) = F.client x
+  msgOf (D.info v l) = F.info (idOf v) (map idOf l)
+  msgOf D.registered = F.registered
+  msgOf (D.told k) = F.told k
 
-abbrev pub entOf : Entry → Ent ℕ
-entOf (entry q m) = ent q (msgOf m)
+  abbrev pub entOf : EntryOf M → Ent M
+  entOf (entry q m) = ent q (msgOf m)
 
-abbrev pub bare : Entry → Msg ℕ
-bare (entry q m) = msgOf m
+  abbrev pub bare : EntryOf M → Msg M
+  bare (entry q m) = msgOf m
 
-abbrev pub flat : Group → Flat ℕ
-flat s = record {
-  views = s .views;
-  carrier = λ p. rank (s .books p .carrier .view);
-  client = λ p. rank (s .books p .client .view);
-  settled = λ p. idOf (s .books p .held .settled);
-  opens = λ p. map idOf (s .books p .held .opens);
-  outgoing = λ p. map bare (s .books p .outgoing);
-  infos = λ p. s .books p .carrier .infos;
-  regs = λ p. s .books p .carrier .registrations;
-  tolds = λ p. s .books p .carrier .tolds;
-  taken = λ p. s .books p .carrier .taken;
-  arrived = λ p. s .books p .carrier .inward;
-  ahead = λ p. drop (s .books p .client .handed) (s .books p .client .inward);
-  given = λ p. take (s .books p .client .handed) (s .books p .client .inward);
-  reported = λ p. s .books p .client .reported;
-  waiting = λ p g. map bare (s .waiting p g);
-  order = λ g. map entOf (s .order g);
-}
+  abbrev pub flat : GroupOf M → Flat M
+  flat s = record {
+    views = s .views;
+    carrier = λ p. rank (s .books p .carrier .view);
+    client = λ p. rank (s .books p .client .view);
+    settled = λ p. idOf (s .books p .held .settled);
+    opens = λ p. map idOf (s .books p .held .opens);
+    outgoing = λ p. map bare (s .books p .outgoing);
+    infos = λ p. s .books p .carrier .infos;
+    regs = λ p. s .books p .carrier .registrations;
+    tolds = λ p. s .books p .carrier .tolds;
+    taken = λ p. s .books p .carrier .taken;
+    arrived = λ p. s .books p .carrier .inward;
+    ahead = λ p. drop (s .books p .client .handed) (s .books p .client .inward);
+    given = λ p. take (s .books p .client .handed) (s .books p .client .inward);
+    reported = λ p. s .books p .client .reported;
+    waiting = λ p g. map bare (s .waiting p g);
+    order = λ g. map entOf (s .order g);
+  }
+
+  -- ---- the fields of a book
+
+  abbrev pub carrierF : BookOf M → ℕ
+  carrierF b = rank (b .carrier .view)
+
+  abbrev pub clientF : BookOf M → ℕ
+  clientF b = rank (b .client .view)
+
+  abbrev pub settledF : BookOf M → ℕ
+  settledF b = idOf (b .held .settled)
+
+  abbrev pub opensF : BookOf M → List ℕ
+  opensF b = map idOf (b .held .opens)
+
+  abbrev pub outgoingF : BookOf M → List (Msg M)
+  outgoingF b = map bare (b .outgoing)
+
+  abbrev pub infosF : BookOf M → ℕ → Bool
+  infosF b = b .carrier .infos
+
+  abbrev pub regsF : BookOf M → ℕ → Bool
+  regsF b = b .carrier .registrations
+
+  abbrev pub toldsF : BookOf M → ℕ → ℕ
+  toldsF b = b .carrier .tolds
+
+  abbrev pub takenF : BookOf M → ℕ
+  takenF b = b .carrier .taken
+
+  abbrev pub arrivedF : BookOf M → List (Item M)
+  arrivedF b = b .carrier .inward
+
+  abbrev pub reportedF : BookOf M → ℕ
+  reportedF b = b .client .reported
+
+  abbrev pub aheadF : BookOf M → List (Item M)
+  aheadF b = drop (b .client .handed) (b .client .inward)
+
+  abbrev pub givenF : BookOf M → List (Item M)
+  givenF b = take (b .client .handed) (b .client .inward)
 
 -- ---- a field after the book of p is b
 
@@ -81,47 +123,6 @@ module _ {A B : Type 0} (f : B → A) (l : ℕ → ℕ → B) (p g : ℕ) (b : B
 pub map-snoc : {A B : Type 0} (f : A → B) (l : List A) (x : A) → map f (l ++ (x ∷ [])) ≡ map f l ++ (f x ∷ [])
 map-snoc f [] x = refl
 map-snoc {A} {B} f (y ∷ l) x = ap (λ (r : List B). f y ∷ r) (map-snoc f l x)
-
--- ---- the fields of a book
-
-abbrev pub carrierF : Book → ℕ
-carrierF b = rank (b .carrier .view)
-
-abbrev pub clientF : Book → ℕ
-clientF b = rank (b .client .view)
-
-abbrev pub settledF : Book → ℕ
-settledF b = idOf (b .held .settled)
-
-abbrev pub opensF : Book → List ℕ
-opensF b = map idOf (b .held .opens)
-
-abbrev pub outgoingF : Book → List (Msg ℕ)
-outgoingF b = map bare (b .outgoing)
-
-abbrev pub infosF : Book → ℕ → Bool
-infosF b = b .carrier .infos
-
-abbrev pub regsF : Book → ℕ → Bool
-regsF b = b .carrier .registrations
-
-abbrev pub toldsF : Book → ℕ → ℕ
-toldsF b = b .carrier .tolds
-
-abbrev pub takenF : Book → ℕ
-takenF b = b .carrier .taken
-
-abbrev pub arrivedF : Book → List (Item ℕ)
-arrivedF b = b .carrier .inward
-
-abbrev pub reportedF : Book → ℕ
-reportedF b = b .client .reported
-
-abbrev pub aheadF : Book → List (Item ℕ)
-aheadF b = drop (b .client .handed) (b .client .inward)
-
-abbrev pub givenF : Book → List (Item ℕ)
-givenF b = take (b .client .handed) (b .client .inward)
 
 -- ---- the next of a list
 

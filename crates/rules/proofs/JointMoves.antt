@@ -20,10 +20,10 @@ use Rattle.views.proofs.Members.{in-cons, in-nil, in-append}
 use Rattle.views.proofs.ListLaws.{find-in, above-keep, union-left, union-right}
 use Rattle.membership.proofs.Updates.{upd-ind, upd2-ind}
 use Rattle.rules.specs.Data as D
-use Rattle.rules.specs.Data.{Member, Message, Entry, entry, Item, item, Held, Book, Group, Step, Event, Answer, ok, event, refusal, Result, refused, accepted, need, rank}
+use Rattle.rules.specs.Data.{Member, MessageOf, EntryOf, entry, Item, item, Held, BookOf, GroupOf, Step, Event, AnswerOf, ok, event, refusal, Result, refused, accepted, need, rank}
 use Rattle.rules.specs.Member.{clientIsCarrier, outgoes, passing, takes, received, ownOr, settledBy, learned, took}
 use Rattle.rules.specs.Sound.{sound}
-use Rattle.rules.specs.Group.{Next, booked, joinStep, passStep, orderStep, takeFrom, deliverStep, stepOf, settles, step, started, start, firstView, fresh}
+use Rattle.rules.specs.Group.{NextOf, booked, joinStep, passStep, orderStep, takeFrom, deliverStep, stepOf, settles, step, started, start, firstView, fresh}
 use Rattle.rules.specs.Figure1.{At}
 use Rattle.rules.specs.Runs.{lastOf, answersOf, eventsOf}
 use Rattle.rules.proofs.Flat as F
@@ -69,120 +69,122 @@ module _ (x : View) (l : List View) (h : Held) where
       go u e (inr (v, k, f)) =
           subst (λ (w : ℕ). In w (map idOf (learned x l h .opens))) (f ∙ e) (among v (union-left v (h .opens) l k) (omega (arith, settled-max x h)))
 
--- a client message is taken in the client view, and in a carrier view that is not the client view
-abbrev tookInward : Member → ℕ → Book → Book
-tookInward q x b = let c = b .carrier in record { held = b .held; carrier = takes (c .infos) (c .registrations) (c .tolds) (c .inward) c; client = received (item q x) (b .client); outgoing = b .outgoing }
+module _ {M : Type 0} where
+  -- a client message is taken in the client view, and in a carrier view that is not the client view
+  abbrev tookInward : Member → M → BookOf M → BookOf M
+  tookInward q x b = let c = b .carrier in record { held = b .held; carrier = takes (c .infos) (c .registrations) (c .tolds) (c .inward) c; client = received (item q x) (b .client); outgoing = b .outgoing }
 
-abbrev tookArrived : Member → ℕ → Book → Book
-tookArrived q x b = let c = b .carrier in record { held = b .held; carrier = takes (c .infos) (c .registrations) (c .tolds) (c .inward ++ (item q x ∷ [])) c; client = b .client; outgoing = b .outgoing }
+  abbrev tookArrived : Member → M → BookOf M → BookOf M
+  tookArrived q x b = let c = b .carrier in record { held = b .held; carrier = takes (c .infos) (c .registrations) (c .tolds) (c .inward ++ (item q x ∷ [])) c; client = b .client; outgoing = b .outgoing }
 
-module _ (weight : Member → ℕ) where
-  module _ (s : Group) (i : Sound s) (o : Own s) (p : Member) (lt : p < s .members) where
-    abbrev b : Book
-    b = s .books p
+  module _ (weight : Member → ℕ) where
+    module _ (s : GroupOf M) (o : Own s) (p : Member) where
+      abbrev b : BookOf M
+      b = s .books p
 
-    quiet : {t u : Flat ℕ} → u ≡ t → Move maxMembers weight (flat s) t [] → Move maxMembers weight (flat s) u (shown ok)
-    unfolding shown
-    quiet e m = subst (λ (t : Flat ℕ). Move maxMembers weight (flat s) t []) (sym e) m
+      quiet : {t u : Flat M} → u ≡ t → Move maxMembers weight (flat s) t [] → Move maxMembers weight (flat s) u (shown ok)
+      unfolding shown
+      quiet e m = subst (λ (t : Flat M). Move maxMembers weight (flat s) t []) (sym e) m
 
-    -- the next of the order, in the flat group
-    next : (v : View) (e : Entry) (r : List Entry) → drop (b .carrier .taken) (s .order (idOf v)) ≡ e ∷ r → drop (b .carrier .taken) (map entOf (s .order (idOf v))) ≡ entOf e ∷ map entOf r
-    next v e r k = map-drop entOf (b .carrier .taken) (s .order (idOf v)) ∙ ap (map entOf) k
+      -- ---- 2. join
+      pub join-moves : (g : ℕ) → Holds (Moved weight s) (joinStep s p g)
+      unfolding joinStep
+      join-moves g = listed-holds _ _ (λ v e. owned weight s o p _ (join-well weight s o p v (find-in g (s .views) v e .0)))
 
-    -- a member whose client view is its carrier view has handed out no more than there is
-    fits : (v : View) → b .carrier .view ≡ some v → clientIsCarrier b ≡ true → b .client .handed ≤ length (b .client .inward)
-    fits v c d = go (b .client .view) refl
-      where
-        go : (x : Option View) → b .client .view ≡ x → b .client .handed ≤ length (b .client .inward)
-        go none e = let z : _≡_ {A = ℕ} 0 (suc (idOf v)) = sym (ap rank e) ∙ eqb-true (rank (b .client .view)) (rank (b .carrier .view)) d ∙ ap rank c in absurd (omega arith)
-        go (some u) e = handed-fits weight s i o p lt u e
-
-    -- ---- 2. join
-    pub join-moves : (g : ℕ) → Holds (Moved weight s) (joinStep s p g)
-    unfolding joinStep
-    join-moves g = listed-holds _ _ (λ v e. owned weight s i o p lt _ (join-well weight s i o p lt v (find-in g (s .views) v e .0)))
-
-    -- ---- 3. pass
-    pub pass-moves : Holds (Moved weight s) (passStep s p)
-    unfolding passStep passing
-    pass-moves =
-        then-holds _ _ (view-holds _ _ _ (λ v e. first-holds _ _ _ (λ x r k.
-        gives (need-holds _ _ _ (λ _. gives (
-          quiet (C.pass-flat s p (idOf v) x r) (F.pass p (idOf v) (bare x) (map bare r) (ap rank e) (ap (map bare) k)),
-          own' v x r k,
-        ))))))
-      where
-        own' : (v : View) (x : Entry) (r : List Entry) → b .outgoing ≡ x ∷ r
-            → Own (record {
-              members = s .members;
-              room = s .room;
-              views = s .views;
-              books = at p (outgoes r b) (s .books);
-              waiting = at2 p (idOf v) (s .waiting p (idOf v) ++ (x ∷ [])) (s .waiting);
-              order = s .order;
-            })
-        own' v x r k = record {
-          outgoing = upd-ind p (outgoes r b) (s .books) (λ q c. (e : Entry) → In e (c .outgoing) → sender e ≡ q)
-              (λ e h. o .outgoing p e (subst (λ (l : List Entry). In e l) (sym k) (pop h))) (λ q _. o .outgoing q);
-          waiting = upd2-ind p (idOf v) (s .waiting p (idOf v) ++ (x ∷ [])) (s .waiting) (λ q g l. (e : Entry) → In e l → sender e ≡ q)
-              (λ e h. last e (in-append (s .waiting p (idOf v)) h)) (λ q g _. o .waiting q g);
-        }
-          where
-            last : (e : Entry) → In e (s .waiting p (idOf v)) ⊎ In e (x ∷ []) → sender e ≡ p
-            last e (inl h) = o .waiting p (idOf v) e h
-            last e (inr h) = o .outgoing p e (subst (λ (l : List Entry). In e l) (sym k) (elim (in-cons h) [ inl f ↦ subst (λ (y : Entry). In e (y ∷ r)) f top | inr f ↦ absurd (in-nil f) ]))
-
-    -- ---- 4. order
-    pub order-moves : (g : ℕ) → Holds (Moved weight s) (orderStep s p g)
-    unfolding orderStep
-    order-moves g = listed-holds _ _ (λ v _. first-holds _ _ _ (λ x r k. need-holds _ _ _ (λ _. gives (one x r k))))
-      where
-        own' : (e : Entry) (r : List Entry) → s .waiting p g ≡ e ∷ r
-            → Own (record { members = s .members; room = s .room; views = s .views; books = s .books; waiting = at2 p g r (s .waiting); order = at g (s .order g ++ (e ∷ [])) (s .order) })
-        own' e r k = record {
-          outgoing = o .outgoing;
-          waiting = upd2-ind p g r (s .waiting) (λ q h l. (e : Entry) → In e l → sender e ≡ q)
-              (λ d h. o .waiting p g d (subst (λ (l : List Entry). In d l) (sym k) (pop h))) (λ q h _. o .waiting q h);
-        }
-
-        one : (e : Entry) (r : List Entry) → s .waiting p g ≡ e ∷ r
-            → Moved weight s (record {
-              state = record {
+      -- ---- 3. pass
+      pub pass-moves : Holds (Moved weight s) (passStep s p)
+      unfolding passStep passing
+      pass-moves =
+          then-holds _ _ (view-holds _ _ _ (λ v e. first-holds _ _ _ (λ x r k.
+          gives (need-holds _ _ _ (λ _. gives (
+            quiet (C.pass-flat s p (idOf v) x r) (F.pass p (idOf v) (bare x) (map bare r) (ap rank e) (ap (map bare) k)),
+            own' v x r k,
+          ))))))
+        where
+          own' : (v : View) (x : EntryOf M) (r : List (EntryOf M)) → b .outgoing ≡ x ∷ r
+              → Own (record {
                 members = s .members;
                 room = s .room;
                 views = s .views;
-                books = s .books;
-                waiting = at2 p g r (s .waiting);
-                order = at g (s .order g ++ (e ∷ [])) (s .order);
-              };
-              answer = ok;
-            })
-        one (entry q m) r k =
-            let f : q ≡ p = o .waiting p g (entry q m) (subst (λ (l : List Entry). In (entry q m) l) (sym k) top) in
-            (quiet (C.order-flat s p g q m r f) (F.order p g (msgOf m) (map bare r) (ap (map bare) k)), own' (entry q m) r k)
+                books = at p (outgoes r b) (s .books);
+                waiting = at2 p (idOf v) (s .waiting p (idOf v) ++ (x ∷ [])) (s .waiting);
+                order = s .order;
+              })
+          own' v x r k = record {
+            outgoing = upd-ind p (outgoes r b) (s .books) (λ q c. (e : EntryOf M) → In e (c .outgoing) → sender e ≡ q)
+                (λ e h. o .outgoing p e (subst (λ (l : List (EntryOf M)). In e l) (sym k) (pop h))) (λ q _. o .outgoing q);
+            waiting = upd2-ind p (idOf v) (s .waiting p (idOf v) ++ (x ∷ [])) (s .waiting) (λ q g l. (e : EntryOf M) → In e l → sender e ≡ q)
+                (λ e h. last e (in-append (s .waiting p (idOf v)) h)) (λ q g _. o .waiting q g);
+          }
+            where
+              last : (e : EntryOf M) → In e (s .waiting p (idOf v)) ⊎ In e (x ∷ []) → sender e ≡ p
+              last e (inl h) = o .waiting p (idOf v) e h
+              last e (inr h) = o .outgoing p e (subst (λ (l : List (EntryOf M)). In e l) (sym k) (elim (in-cons h) [ inl f ↦ subst (λ (y : EntryOf M). In e (y ∷ r)) f top | inr f ↦ absurd (in-nil f) ]))
 
-    -- ---- 5. deliver
-    took-moves : (v : View) → b .carrier .view ≡ some v → (e : Entry) (r : List Entry) → drop (b .carrier .taken) (s .order (idOf v)) ≡ e ∷ r
-        → Moved weight s (record { state = booked s p (takeFrom e b); answer = ok })
-    unfolding took learned shown
-    took-moves v c (entry q (D.client x)) r k = go (clientIsCarrier b) refl
-      where
-        go : (d : Bool) → clientIsCarrier b ≡ d
-            → Moved weight s (record { state = booked s p (cond d (tookInward q x b) (tookArrived q x b)); answer = ok })
-        go true d =
-            moved weight s i o p lt (tookInward q x b) ok _ [] (F.takeInward p (idOf v) q x (ap rank c) (eqb-true _ _ d ∙ ap rank c) (map entOf r, next v (entry q (D.client x)) r k))
-            (C.inward-flat s p (item q x) (fits v c d)) refl (o .outgoing p)
-        go false d =
-            moved weight s i o p lt (tookArrived q x b) ok _ [] (F.takeArrived p (idOf v) q x (ap rank c) (λ f. eqb-false _ _ d (f ∙ sym (ap rank c))) (map entOf r, next v (entry q (D.client x)) r k))
-            (C.arrive-flat s p (item q x)) refl (o .outgoing p)
-    took-moves v c (entry q (D.info x l)) r k =
-        moved weight s i o p lt _ ok _ [] (F.takeInfo p (idOf v) q (idOf x) (map idOf l) (map idOf (learned x l (b .held) .opens)) (ap rank c) (map entOf r, next v (entry q (D.info x l)) r k) (kept x l (b .held)))
-        (C.info-flat s p q (learned x l (b .held)) _ (settled-max x (b .held))) refl (o .outgoing p)
-    took-moves v c (entry q D.registered) r k =
-        moved weight s i o p lt _ ok _ [] (F.takeRegistered p (idOf v) q (ap rank c) (map entOf r, next v (entry q D.registered) r k)) (C.heard-flat s p q) refl (o .outgoing p)
-    took-moves v c (entry q (D.told n)) r k =
-        moved weight s i o p lt _ ok _ [] (F.takeTold p (idOf v) q n (ap rank c) (map entOf r, next v (entry q (D.told n)) r k)) (C.told-flat s p q n) refl (o .outgoing p)
+      -- ---- 4. order
+      pub order-moves : (g : ℕ) → Holds (Moved weight s) (orderStep s p g)
+      unfolding orderStep
+      order-moves g = listed-holds _ _ (λ v _. first-holds _ _ _ (λ x r k. need-holds _ _ _ (λ _. gives (one x r k))))
+        where
+          own' : (e : EntryOf M) (r : List (EntryOf M)) → s .waiting p g ≡ e ∷ r
+              → Own (record { members = s .members; room = s .room; views = s .views; books = s .books; waiting = at2 p g r (s .waiting); order = at g (s .order g ++ (e ∷ [])) (s .order) })
+          own' e r k = record {
+            outgoing = o .outgoing;
+            waiting = upd2-ind p g r (s .waiting) (λ q h l. (e : EntryOf M) → In e l → sender e ≡ q)
+                (λ d h. o .waiting p g d (subst (λ (l : List (EntryOf M)). In d l) (sym k) (pop h))) (λ q h _. o .waiting q h);
+          }
 
-    pub deliver-moves : Holds (Moved weight s) (deliverStep s p)
-    unfolding deliverStep
-    deliver-moves = view-holds _ _ _ (λ v c. first-holds _ _ _ (λ e r k. gives (took-moves v c e r k)))
+          one : (e : EntryOf M) (r : List (EntryOf M)) → s .waiting p g ≡ e ∷ r
+              → Moved weight s (record {
+                state = record {
+                  members = s .members;
+                  room = s .room;
+                  views = s .views;
+                  books = s .books;
+                  waiting = at2 p g r (s .waiting);
+                  order = at g (s .order g ++ (e ∷ [])) (s .order);
+                };
+                answer = ok;
+              })
+          one (entry q m) r k =
+              let f : q ≡ p = o .waiting p g (entry q m) (subst (λ (l : List (EntryOf M)). In (entry q m) l) (sym k) top) in
+              (quiet (C.order-flat s p g q m r f) (F.order p g (msgOf m) (map bare r) (ap (map bare) k)), own' (entry q m) r k)
+
+      -- ---- 5. deliver, on sound records
+      module _ (i : Sound s) (lt : p < s .members) where
+        -- the next of the order, in the flat group
+        next : (v : View) (e : EntryOf M) (r : List (EntryOf M)) → drop (b .carrier .taken) (s .order (idOf v)) ≡ e ∷ r → drop (b .carrier .taken) (map entOf (s .order (idOf v))) ≡ entOf e ∷ map entOf r
+        next v e r k = map-drop entOf (b .carrier .taken) (s .order (idOf v)) ∙ ap (map entOf) k
+
+        -- a member whose client view is its carrier view has handed out no more than there is
+        fits : (v : View) → b .carrier .view ≡ some v → clientIsCarrier b ≡ true → b .client .handed ≤ length (b .client .inward)
+        fits v c d = go (b .client .view) refl
+          where
+            go : (x : Option View) → b .client .view ≡ x → b .client .handed ≤ length (b .client .inward)
+            go none e = let z : _≡_ {A = ℕ} 0 (suc (idOf v)) = sym (ap rank e) ∙ eqb-true (rank (b .client .view)) (rank (b .carrier .view)) d ∙ ap rank c in absurd (omega arith)
+            go (some u) e = handed-fits weight s o p i lt u e
+
+        took-moves : (v : View) → b .carrier .view ≡ some v → (e : EntryOf M) (r : List (EntryOf M)) → drop (b .carrier .taken) (s .order (idOf v)) ≡ e ∷ r
+            → Moved weight s (record { state = booked s p (takeFrom e b); answer = ok })
+        unfolding took learned shown
+        took-moves v c (entry q (D.client x)) r k = go (clientIsCarrier b) refl
+          where
+            go : (d : Bool) → clientIsCarrier b ≡ d
+                → Moved weight s (record { state = booked s p (cond d (tookInward q x b) (tookArrived q x b)); answer = ok })
+            go true d =
+                moved weight s o p (tookInward q x b) ok _ [] (F.takeInward p (idOf v) q x (ap rank c) (eqb-true _ _ d ∙ ap rank c) (map entOf r, next v (entry q (D.client x)) r k))
+                (C.inward-flat s p (item q x) (fits v c d)) refl (o .outgoing p)
+            go false d =
+                moved weight s o p (tookArrived q x b) ok _ [] (F.takeArrived p (idOf v) q x (ap rank c) (λ f. eqb-false _ _ d (f ∙ sym (ap rank c))) (map entOf r, next v (entry q (D.client x)) r k))
+                (C.arrive-flat s p (item q x)) refl (o .outgoing p)
+        took-moves v c (entry q (D.info x l)) r k =
+            moved weight s o p _ ok _ [] (F.takeInfo p (idOf v) q (idOf x) (map idOf l) (map idOf (learned x l (b .held) .opens)) (ap rank c) (map entOf r, next v (entry q (D.info x l)) r k) (kept x l (b .held)))
+            (C.info-flat s p q (learned x l (b .held)) _ (settled-max x (b .held))) refl (o .outgoing p)
+        took-moves v c (entry q D.registered) r k =
+            moved weight s o p _ ok _ [] (F.takeRegistered p (idOf v) q (ap rank c) (map entOf r, next v (entry q D.registered) r k)) (C.heard-flat s p q) refl (o .outgoing p)
+        took-moves v c (entry q (D.told n)) r k =
+            moved weight s o p _ ok _ [] (F.takeTold p (idOf v) q n (ap rank c) (map entOf r, next v (entry q (D.told n)) r k)) (C.told-flat s p q n) refl (o .outgoing p)
+
+        pub deliver-moves : Holds (Moved weight s) (deliverStep s p)
+        unfolding deliverStep
+        deliver-moves = view-holds _ _ _ (λ v c. first-holds _ _ _ (λ e r k. gives (took-moves v c e r k)))

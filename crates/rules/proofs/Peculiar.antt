@@ -19,7 +19,7 @@ use Rattle.views.specs.Lists.{idOf, isRising, findOf, insertOf, unionOf}
 use Rattle.views.proofs.SetLaws.{known}
 use Rattle.views.proofs.Members.{In, top, pop}
 use Rattle.views.proofs.ListLaws.{rising-unique, find-in, above-keep, union-left, union-right, insert-in, insert-there}
-use Rattle.rules.specs.Data.{Member, info, Entry, entry, Held, Group}
+use Rattle.rules.specs.Data.{Member, info, EntryOf, entry, Held, GroupOf}
 use Rattle.rules.specs.Member.{ownOr, settledBy, learned, opened}
 use Rattle.rules.proofs.Soundness.{EntrySound, info-sound, Listed, Sound}
 use Rattle.rules.proofs.ListsWithin.{Within}
@@ -67,59 +67,60 @@ insert-longer v (y ∷ l) n =
     (known (eqb (idOf v) (idOf y))))
     (known (ltb (idOf y) (idOf v)))
 
--- ---- in a group, of the member p
+module _ {M : Type 0} where
+  -- ---- in a group, of the member p
 
-module _ (s : Group) (h : Sound s) (p : Member) (i : p < s .members) where
-  held-of : HeldSound (Listed (s .views)) (s .books p .held)
-  held-of = let b = h .book p i in record { short = b .opens-short; rises = b .opens-rise; known = b .held-known }
+  module _ (s : GroupOf M) (h : Sound s) (p : Member) (i : p < s .members) where
+    held-of : HeldSound (Listed (s .views)) (s .books p .held)
+    held-of = let b = h .book p i in record { short = b .opens-short; rises = b .opens-rise; known = b .held-known }
 
-  -- the next message of the carrier view's order is sound, and fewer than 128 were taken before it: 16 would not be given
-  pub next-sound : (v : View) (e : Entry) (rest : List Entry) → s .books p .carrier .view ≡ some v
-      → drop (s .books p .carrier .taken) (s .order (idOf v)) ≡ e ∷ rest → EntrySound s e × (s .books p .carrier .taken < maxOrdered)
-  next-sound v e rest c d =
-      let o = h .ordered v (h .book p i .carrier-known v c) in (
-        o .entries e (next-in (s .books p .carrier .taken) (s .order (idOf v)) e rest d),
-        omega (arith, next-below (s .books p .carrier .taken) (s .order (idOf v)) e rest d, o .short),
-      )
+    -- the next message of the carrier view's order is sound, and fewer than 128 were taken before it: 16 would not be given
+    pub next-sound : (v : View) (e : EntryOf M) (rest : List (EntryOf M)) → s .books p .carrier .view ≡ some v
+        → drop (s .books p .carrier .taken) (s .order (idOf v)) ≡ e ∷ rest → EntrySound s e × (s .books p .carrier .taken < maxOrdered)
+    next-sound v e rest c d =
+        let o = h .ordered v (h .book p i .carrier-known v c) in (
+          o .entries e (next-in (s .books p .carrier .taken) (s .order (idOf v)) e rest d),
+          omega (arith, next-below (s .books p .carrier .taken) (s .order (idOf v)) e rest d, o .short),
+        )
 
-  -- an info settles its own view or none: the set that a member has open is that view's
-  pub info-settles : (q : Member) (x : View) (l : List View) → EntrySound s (entry q (info x l))
-      → settledBy x (s .books p .held) ≡ cond (ltb (idOf (s .books p .held .settled)) (idOf x)) x (s .books p .held .settled)
-  info-settles q x l e = settled-own (s .views) (h .rising) x (s .books p .held) (info-sound e .known x top) held-of
+    -- an info settles its own view or none: the set that a member has open is that view's
+    pub info-settles : (q : Member) (x : View) (l : List View) → EntrySound s (entry q (info x l))
+        → settledBy x (s .books p .held) ≡ cond (ltb (idOf (s .books p .held .settled)) (idOf x)) x (s .books p .held .settled)
+    info-settles q x l e = settled-own (s .views) (h .rising) x (s .books p .held) (info-sound e .known x top) held-of
 
-  -- the views of both lists that are above the settled one are open afterwards, each with its own set
-  pub info-opens : (q : Member) (x : View) (l : List View) → EntrySound s (entry q (info x l)) → (w : View) → In w (s .books p .held .opens) ⊎ In w l
-      → idOf (settledBy x (s .books p .held)) < idOf w → In w (learned x l (s .books p .held) .opens)
-  unfolding learned
-  info-opens q x l e w d a =
-      above-keep _ _ w
-      (union-both (s .views) (h .rising) (s .books p .held .opens) l (λ v j. held-of .known v (pop j)) (λ v j. info-sound e .known v (pop j)) w d)
-      a
+    -- the views of both lists that are above the settled one are open afterwards, each with its own set
+    pub info-opens : (q : Member) (x : View) (l : List View) → EntrySound s (entry q (info x l)) → (w : View) → In w (s .books p .held .opens) ⊎ In w l
+        → idOf (settledBy x (s .books p .held)) < idOf w → In w (learned x l (s .books p .held) .opens)
+    unfolding learned
+    info-opens q x l e w d a =
+        above-keep _ _ w
+        (union-both (s .views) (h .rising) (s .books p .held .opens) l (λ v j. held-of .known v (pop j)) (λ v j. info-sound e .known v (pop j)) w d)
+        a
 
-  -- after an info at most 31 are open: 43 would not be given
-  pub info-short : (q : Member) (x : View) (l : List View) → EntrySound s (entry q (info x l)) → length (learned x l (s .books p .held) .opens) ≤ maxOpen
-  info-short q x l e = learned-short (s .views) (made s h) x l (s .books p .held) (info-sound e) held-of
+    -- after an info at most 31 are open: 43 would not be given
+    pub info-short : (q : Member) (x : View) (l : List View) → EntrySound s (entry q (info x l)) → length (learned x l (s .books p .held) .opens) ≤ maxOpen
+    info-short q x l e = learned-short (s .views) (made s h) x l (s .books p .held) (info-sound e) held-of
 
-  -- a carrier view above the settled one is open after the attempt, with its own set
-  pub attempt-opens : (v : View) → s .books p .carrier .view ≡ some v → idOf (s .books p .held .settled) < idOf v
-      → (opened v (s .books p .held) .opens ≡ insertOf v (s .books p .held .opens)) × In v (opened v (s .books p .held) .opens)
-  unfolding opened
-  attempt-opens v c l =
-      let b = h .book p i in
-      let j = insert-own (s .views) (h .rising) v (s .books p .held .opens) (b .carrier-known v c) (λ w k. held-of .known w (pop k)) in
-      rw (lt-ltb _ _ l) (refl, j)
+    -- a carrier view above the settled one is open after the attempt, with its own set
+    pub attempt-opens : (v : View) → s .books p .carrier .view ≡ some v → idOf (s .books p .held .settled) < idOf v
+        → (opened v (s .books p .held) .opens ≡ insertOf v (s .books p .held .opens)) × In v (opened v (s .books p .held) .opens)
+    unfolding opened
+    attempt-opens v c l =
+        let b = h .book p i in
+        let j = insert-own (s .views) (h .rising) v (s .books p .held .opens) (b .carrier-known v c) (λ w k. held-of .known w (pop k)) in
+        rw (lt-ltb _ _ l) (refl, j)
 
-  -- and where it was not open before, it is one more
-  pub attempt-inserts : (v : View) → idOf (s .books p .held .settled) < idOf v → ((w : View) → In w (s .books p .held .opens) → idOf w ≢ idOf v)
-      → length (opened v (s .books p .held) .opens) ≡ length (s .books p .held .opens) + 1
-  unfolding opened
-  attempt-inserts v l n = rw (lt-ltb _ _ l) (insert-longer v (s .books p .held .opens) n)
+    -- and where it was not open before, it is one more
+    pub attempt-inserts : (v : View) → idOf (s .books p .held .settled) < idOf v → ((w : View) → In w (s .books p .held .opens) → idOf w ≢ idOf v)
+        → length (opened v (s .books p .held) .opens) ≡ length (s .books p .held .opens) + 1
+    unfolding opened
+    attempt-inserts v l n = rw (lt-ltb _ _ l) (insert-longer v (s .books p .held .opens) n)
 
-  -- after an attempt at most 31 are open: 43 would not be given
-  pub attempt-short : (v : View) → s .books p .carrier .view ≡ some v → length (opened v (s .books p .held) .opens) ≤ maxOpen
-  attempt-short v c = opened-short (s .views) (made s h) v (s .books p .held) (h .book p i .carrier-known v c) held-of
+    -- after an attempt at most 31 are open: 43 would not be given
+    pub attempt-short : (v : View) → s .books p .carrier .view ≡ some v → length (opened v (s .books p .held) .opens) ≤ maxOpen
+    attempt-short v c = opened-short (s .views) (made s h) v (s .books p .held) (h .book p i .carrier-known v c) held-of
 
--- every view of a queued info has members, all of them the group's: 7 would not be given
-pub info-fits : (s : Group) → Sound s → (q : Member) (x : View) (l : List View) → EntrySound s (entry q (info x l))
-    → (w : View) → In w (x ∷ l) → (isEmpty (w .set) ≡ false) × (isBeyond (w .set) (s .members) ≡ false)
-info-fits s h q x l e w i = h .fits w (info-sound e .known w i)
+  -- every view of a queued info has members, all of them the group's: 7 would not be given
+  pub info-fits : (s : GroupOf M) → Sound s → (q : Member) (x : View) (l : List View) → EntrySound s (entry q (info x l))
+      → (w : View) → In w (x ∷ l) → (isEmpty (w .set) ≡ false) × (isBeyond (w .set) (s .members) ≡ false)
+  info-fits s h q x l e w i = h .fits w (info-sound e .known w i)

@@ -8,9 +8,9 @@ use native.Mathlib.Omega.{arith}
 use lib.ListN.{length, take, drop, length-append, length-take, length-drop}
 use Rattle.views.specs.declared.View.{View}
 use Rattle.views.proofs.Members.{In, top, pop, in-nil, in-cons, in-append}
-use Rattle.rules.specs.Data.{Entry, Item, item}
+use Rattle.rules.specs.Data.{EntryOf, Item, item}
 use Rattle.rules.specs.Sound.{limitAt}
-use Rattle.rules.proofs.Soundness.{EntryOf, QueueOf, ItemsFrom}
+use Rattle.rules.proofs.Soundness.{EntryFacts, QueueFacts, ItemsFrom}
 
 -- ---- one more at the end
 
@@ -22,30 +22,31 @@ in-snoc l x y i =
 pub length-snoc : {A : Type 0} (l : List A) (x : A) → length (l ++ (x ∷ [])) ≡ length l + 1
 length-snoc l x = length-append l (x ∷ [])
 
-pub queue-snoc : (n : ℕ) (Known : View → Type 0) (limit : ℕ) (l : List Entry) (e : Entry) → length l < limit → EntryOf n Known e → QueueOf n Known limit l
-    → QueueOf n Known limit (l ++ (e ∷ []))
-queue-snoc n Known limit l e h k q = record {
-  short = omega (arith, length-snoc l e);
-  entries = λ x i. ⊎-elim (λ (j : In x l). q .entries x j) (λ (j : x ≡ e). rw j k) (in-snoc l e x i);
-}
+module _ {M : Type 0} where
+  pub queue-snoc : (n : ℕ) (Known : View → Type 0) (limit : ℕ) (l : List (EntryOf M)) (e : EntryOf M) → length l < limit → EntryFacts n Known e → QueueFacts n Known limit l
+      → QueueFacts n Known limit (l ++ (e ∷ []))
+  queue-snoc n Known limit l e h k q = record {
+    short = omega (arith, length-snoc l e);
+    entries = λ x i. ⊎-elim (λ (j : In x l). q .entries x j) (λ (j : x ≡ e). rw j k) (in-snoc l e x i);
+  }
 
-pub queue-one : (n : ℕ) (Known : View → Type 0) (limit : ℕ) (e : Entry) → 1 ≤ limit → EntryOf n Known e → QueueOf n Known limit (e ∷ [])
-queue-one n Known limit e h k = record {
-  short = h;
-  entries = λ x i. ⊎-elim (λ (j : x ≡ e). rw j k) (λ (j : In x []). absurd (in-nil j)) (in-cons i);
-}
+  pub queue-one : (n : ℕ) (Known : View → Type 0) (limit : ℕ) (e : EntryOf M) → 1 ≤ limit → EntryFacts n Known e → QueueFacts n Known limit (e ∷ [])
+  queue-one n Known limit e h k = record {
+    short = h;
+    entries = λ x i. ⊎-elim (λ (j : x ≡ e). rw j k) (λ (j : In x []). absurd (in-nil j)) (in-cons i);
+  }
 
-pub items-snoc : (n : ℕ) (l : List (Item ℕ)) (q x : ℕ) → q < n → ItemsFrom n l → ItemsFrom n (l ++ (item q x ∷ []))
-items-snoc n l q x h f r y i =
-    ⊎-elim (λ (j : In (item r y) l). f r y j) (λ (j : item r y ≡ item q x). let e : r ≡ q = cc in omega arith) (in-snoc l (item q x) (item r y) i)
+  pub items-snoc : (n : ℕ) (l : List (Item M)) (q : ℕ) (x : M) → q < n → ItemsFrom n l → ItemsFrom n (l ++ (item q x ∷ []))
+  items-snoc n l q x h f r y i =
+      ⊎-elim (λ (j : In (item r y) l). f r y j) (λ (j : item r y ≡ item q x). let e : r ≡ q = cc in omega arith) (in-snoc l (item q x) (item r y) i)
 
--- ---- the first one
+  -- ---- the first one
 
-pub queue-first : (n : ℕ) (Known : View → Type 0) (limit : ℕ) (l : List Entry) (e : Entry) (rest : List Entry) → l ≡ e ∷ rest → QueueOf n Known limit l
-    → EntryOf n Known e × QueueOf n Known limit rest
-queue-first n Known limit l e rest d q =
-    let t : QueueOf n Known limit (e ∷ rest) = rw d at q in
-    (t .entries e top, record { short = omega (arith, t .short); entries = λ x i. t .entries x (pop i) })
+  pub queue-first : (n : ℕ) (Known : View → Type 0) (limit : ℕ) (l : List (EntryOf M)) (e : EntryOf M) (rest : List (EntryOf M)) → l ≡ e ∷ rest → QueueFacts n Known limit l
+      → EntryFacts n Known e × QueueFacts n Known limit rest
+  queue-first n Known limit l e rest d q =
+      let t : QueueFacts n Known limit (e ∷ rest) = rw d at q in
+      (t .entries e top, record { short = omega (arith, t .short); entries = λ x i. t .entries x (pop i) })
 
 -- ---- the next one past a position
 

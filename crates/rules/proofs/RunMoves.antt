@@ -15,7 +15,7 @@ use Rattle.views.specs.Sets.{both, has, isEmpty, isBeyond}
 use Rattle.views.specs.Lists.{idOf}
 use Rattle.views.proofs.Members.{in-nil}
 use Rattle.views.proofs.SetLaws.{both-true, has-below, has-some}
-use Rattle.rules.specs.Data.{Member, Entry, Group, Step, Event, Answer, ok, event, refusal, Result, refused, accepted, need, rank}
+use Rattle.rules.specs.Data.{Member, Entry, Group, GroupOf, Step, Event, Answer, ok, event, refusal, Result, refused, accepted, need, rank}
 use Rattle.rules.specs.Sound.{sound}
 use Rattle.rules.specs.Group.{Next, fits, stepOf, settles, step, start, started, firstView, fresh}
 use Rattle.rules.specs.Runs.{lastOf, answersOf, eventsOf}
@@ -41,27 +41,27 @@ module _ (weight : Member → ℕ) where
       pick-holds (c .kind) _ (
         create-moves weight s i o (c .first) (c .second),
         (
-          by _ _ (λ l. join-moves weight s i o p l (c .second)),
+          by _ _ (λ _. join-moves weight s o p (c .second)),
           (
-            by _ _ (λ l. pass-moves weight s i o p l),
+            by _ _ (λ _. pass-moves weight s o p),
             (
-              by _ _ (λ l. order-moves weight s i o p l (c .second)),
+              by _ _ (λ _. order-moves weight s o p (c .second)),
               (
-                by _ _ (λ l. deliver-moves weight s i o p l),
+                by _ _ (λ l. deliver-moves weight s o p i l),
                 (
-                  by _ _ (λ l. owned weight s i o p l _ (attempt-well weight s i o p l)),
+                  by _ _ (λ l. owned weight s o p _ (attempt-well weight s o p i l)),
                   (
-                    by _ _ (λ l. owned weight s i o p l _ (register-well weight s i o p l)),
+                    by _ _ (λ _. owned weight s o p _ (register-well weight s o p)),
                     (
-                      by _ _ (λ l. owned weight s i o p l _ (send-well weight s i o p l (c .second))),
+                      by _ _ (λ _. owned weight s o p _ (send-well weight s o p (c .second))),
                       (
-                        by _ _ (λ l. owned weight s i o p l _ (hand-well weight s i o p l)),
+                        by _ _ (λ _. owned weight s o p _ (hand-well weight s o p)),
                         (
-                          by _ _ (λ l. owned weight s i o p l _ (tell-well weight s i o p l)),
+                          by _ _ (λ l. owned weight s o p _ (tell-well weight s o p i l)),
                           (
-                            by _ _ (λ l. owned weight s i o p l _ (safe-well weight s i o p l)),
+                            by _ _ (λ l. owned weight s o p _ (safe-well weight s o p i l)),
                             (
-                              by _ _ (λ l. owned weight s i o p l _ (collect-well weight s i o p l)),
+                              by _ _ (λ l. owned weight s o p _ (collect-well weight s o p i l)),
                               tt,
                             ),
                           ),
@@ -111,7 +111,7 @@ module _ (weight : Member → ℕ) where
   view-or true v = refl
   view-or false v = refl
 
-  start-flat : (n S room : ℕ) → flat (started n S room) ≡ flat0 (firstView S)
+  pub start-flat : {M : Type 0} (n S room : ℕ) → flat (started {M = M} n S room) ≡ flat0 (firstView S)
   unfolding started fresh
   start-flat n S room = λ i. record {
     views = firstView S ∷ [];
@@ -132,12 +132,12 @@ module _ (weight : Member → ℕ) where
     order = λ g. [];
   }
 
-  start-own : (n S room : ℕ) → Own (started n S room)
+  pub start-own : {M : Type 0} (n S room : ℕ) → Own (started {M = M} n S room)
   unfolding started fresh
   start-own n S room = record { outgoing = λ p e h. absurd (in-nil h); waiting = λ p g e h. absurd (in-nil h) }
 
 -- what an accepted start gives: the started group, and a first set of members below the limit, not empty
-pub record Began (n S room : ℕ) (s : Group) : Type 0 where
+pub record Began {M : Type 0} (n S room : ℕ) (s : GroupOf M) : Type 0 where
   pub is : s ≡ started n S room
   pub below : (p : ℕ) → T (has S p) → p < maxMembers
   pub some-one : (p : ℕ) × T (has S p)
@@ -147,7 +147,7 @@ module _ (n S room : ℕ) where
   unfolding fits
   unfit f = let h = both-true (not (isEmpty S)) (not (isBeyond S n)) f in (not-true (isEmpty S) (h .0), not-true (isBeyond S n) (h .1))
 
-  start-began : Holds (Began n S room) (start n S room)
+  start-began : {M : Type 0} → Holds (Began {M = M} n S room) (start n S room)
   unfolding start isBeyond
   start-began =
       need-holds (both (leb 1 n) (leb n maxMembers)) _ _ (λ m. need-holds (fits n S) _ _ (λ f. need-holds (both (leb 1 room) (leb room maxViews)) _ _ (λ _.
@@ -157,8 +157,8 @@ module _ (n S room : ℕ) where
         some-one = let r = has-some n S (leb-false (2 ^ n) S (unfit f .1)) (unfit f .0) in (r .0, true-T (r .2));
       }))))
 
-  pub began : (s : Group) → start n S room ≡ accepted s → Began n S room s
-  began s e = given (subst (λ (r : Result Group). Holds (Began n S room) r) e start-began)
+  pub began : {M : Type 0} (s : GroupOf M) → start n S room ≡ accepted s → Began n S room s
+  began {M = M} s e = given (subst (λ (r : Result (GroupOf M)). Holds (Began n S room) r) e start-began)
 
 -- every list of steps from an accepted start is a run of the flat group with the same outward events
 pub runs : (weight : Member → ℕ) (n S room : ℕ) (s : Group) → start n S room ≡ accepted s → (k : List Step)

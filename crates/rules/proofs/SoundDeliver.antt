@@ -12,108 +12,109 @@ use Rattle.views.specs.Limits.{maxOpen, maxOrdered}
 use Rattle.views.specs.Points.{at}
 use Rattle.views.proofs.SetLaws.{known}
 use Rattle.membership.proofs.Updates.{upd-ind}
-use Rattle.rules.specs.Data.{Member, Message, client, info, registered, told, entry, Item, item, Book}
+use Rattle.rules.specs.Data.{Member, MessageOf, client, info, registered, told, entry, Item, item, BookOf}
 use Rattle.rules.specs.Member.{clientIsCarrier, takes, received, learned, took}
 use Rattle.rules.specs.Sound.{limitAt}
-use Rattle.rules.proofs.SoundBooks.{Setting, EntryOf, entry-from, info-sound, told-sound, ItemsFrom}
+use Rattle.rules.proofs.SoundBooks.{Setting, EntryFacts, entry-from, info-sound, told-sound, ItemsFrom}
 use Rattle.rules.proofs.HeldLaws.{held-sound, learned-well}
 use Rattle.rules.proofs.QueueLaws.{length-snoc, items-snoc, limit-le, limit-at, limit-snoc}
 use Rattle.rules.proofs.BookParts.{CarrierSound, ClientSound, BookKept}
 
--- v is the carrier view of b, in whose order a message is left
-pub record Left (s : Setting) (b : Book) (v : View) : Type 0 where
-  pub carries : b .carrier .view ≡ some v
-  pub left : b .carrier .taken < s .limit (some v)
-  pub short : s .limit (some v) ≤ maxOrdered
+module _ {M : Type 0} where
+  -- v is the carrier view of b, in whose order a message is left
+  pub record Left (s : Setting) (b : BookOf M) (v : View) : Type 0 where
+    pub carries : b .carrier .view ≡ some v
+    pub left : b .carrier .taken < s .limit (some v)
+    pub short : s .limit (some v) ≤ maxOrdered
 
-module _ (s : Setting) (b : Book) (v : View) (f : Left s b v) (k : BookKept s b) where
-  left-at : b .carrier .taken + 1 ≤ s .limit (b .carrier .view)
-  left-at = rw (f .carries) (omega (arith, f .left))
+  module _ (s : Setting) (b : BookOf M) (v : View) (f : Left s b v) (k : BookKept s b) where
+    left-at : b .carrier .taken + 1 ≤ s .limit (b .carrier .view)
+    left-at = rw (f .carries) (omega (arith, f .left))
 
-  takes-sound : (i r : Member → Bool) (t : Member → ℕ) (l : List (Item ℕ)) → ((q : Member) → q < s .members → t q ≤ maxOrdered)
-      → length l ≤ maxOrdered → ItemsFrom (s .members) l → CarrierSound s (takes i r t l (b .carrier))
-  takes-sound i r t l h n o = record { short = n; tolds-short = h; taken-in = left-at; known = k .carrier .known; from = o }
+    takes-sound : (i r : Member → Bool) (t : Member → ℕ) (l : List (Item M)) → ((q : Member) → q < s .members → t q ≤ maxOrdered)
+        → length l ≤ maxOrdered → ItemsFrom (s .members) l → CarrierSound s (takes i r t l (b .carrier))
+    takes-sound i r t l h n o = record { short = n; tolds-short = h; taken-in = left-at; known = k .carrier .known; from = o }
 
-  -- a message other than a client's
-  plain-sound : (i r : Member → Bool) (t : Member → ℕ) → ((q : Member) → q < s .members → t q ≤ maxOrdered) → CarrierSound s (takes i r t (b .carrier .inward) (b .carrier))
-  plain-sound i r t h = takes-sound i r t (b .carrier .inward) h (k .carrier .short) (k .carrier .from)
+    -- a message other than a client's
+    plain-sound : (i r : Member → Bool) (t : Member → ℕ) → ((q : Member) → q < s .members → t q ≤ maxOrdered) → CarrierSound s (takes i r t (b .carrier .inward) (b .carrier))
+    plain-sound i r t h = takes-sound i r t (b .carrier .inward) h (k .carrier .short) (k .carrier .from)
 
-  inward-room : (l : List (Item ℕ)) → limitAt (b .carrier .view) l ≤ b .carrier .taken → (length l ≤ b .carrier .taken) × (length l < maxOrdered)
-  inward-room l h = omega (arith, limit-at (b .carrier .view) v l (f .carries), f .left, f .short)
+    inward-room : (l : List (Item M)) → limitAt (b .carrier .view) l ≤ b .carrier .taken → (length l ≤ b .carrier .taken) × (length l < maxOrdered)
+    inward-room l h = omega (arith, limit-at (b .carrier .view) v l (f .carries), f .left, f .short)
 
-  received-sound : (q x : ℕ) → q < s .members → length (b .client .inward) < maxOrdered → ClientSound s (received (item q x) (b .client))
-  unfolding received
-  received-sound q x i h =
-      let c = k .client in
-      let more = limit-snoc (b .client .view) (b .client .inward) (item q x) in
-      record {
-        short = omega (arith, length-snoc (b .client .inward) (item q x));
-        handed-in = omega (arith, c .handed-in);
-        told-in = omega (arith, c .told-in);
-        reported-in = omega (arith, c .reported-in);
-        known = c .known;
-        from = items-snoc _ _ q x i (c .from);
-      }
+    received-sound : (q : ℕ) (x : M) → q < s .members → length (b .client .inward) < maxOrdered → ClientSound s (received (item q x) (b .client))
+    unfolding received
+    received-sound q x i h =
+        let c = k .client in
+        let more = limit-snoc (b .client .view) (b .client .inward) (item q x) in
+        record {
+          short = omega (arith, length-snoc (b .client .inward) (item q x));
+          handed-in = omega (arith, c .handed-in);
+          told-in = omega (arith, c .told-in);
+          reported-in = omega (arith, c .reported-in);
+          known = c .known;
+          from = items-snoc _ _ q x i (c .from);
+        }
 
-  took-client : (q x : ℕ) → q < s .members → BookKept s (took q (client x) b)
-  unfolding took received
-  took-client q x i =
-      ⊎-elim
-      (λ (t : clientIsCarrier b ≡ true).
-      let was : limitAt (b .carrier .view) (b .client .inward) ≤ b .carrier .taken = rw t at (k .inward-taken) in
-      let room = inward-room (b .client .inward) was in
-      let now : limitAt (b .carrier .view) (b .client .inward ++ (item q x ∷ [])) ≤ b .carrier .taken + 1
-      = omega (arith, limit-le (b .carrier .view) (b .client .inward ++ (item q x ∷ [])), length-snoc (b .client .inward) (item q x)) in
-      rw t (record {
-        held = k .held;
-        carrier = plain-sound _ _ _ (k .carrier .tolds-short);
-        client = received-sound q x i (room .1);
-        inward-taken = rw t now;
-        outgoing = k .outgoing;
-        below = k .below;
-      }))
-      (λ (t : clientIsCarrier b ≡ false).
-      let was : limitAt (b .carrier .view) (b .carrier .inward) ≤ b .carrier .taken = rw t at (k .inward-taken) in
-      let room = inward-room (b .carrier .inward) was in
-      let long = length-snoc (b .carrier .inward) (item q x) in
-      let now : limitAt (b .carrier .view) (b .carrier .inward ++ (item q x ∷ [])) ≤ b .carrier .taken + 1
-      = omega (arith, limit-le (b .carrier .view) (b .carrier .inward ++ (item q x ∷ []))) in
-      rw t (record {
-        held = k .held;
-        carrier = takes-sound _ _ _ _ (k .carrier .tolds-short) (omega arith) (items-snoc _ _ q x i (k .carrier .from));
-        client = k .client;
-        inward-taken = rw t now;
-        outgoing = k .outgoing;
-        below = k .below;
-      }))
-      (known (clientIsCarrier b))
+    took-client : (q : ℕ) (x : M) → q < s .members → BookKept s (took q (client x) b)
+    unfolding took received
+    took-client q x i =
+        ⊎-elim
+        (λ (t : clientIsCarrier b ≡ true).
+        let was : limitAt (b .carrier .view) (b .client .inward) ≤ b .carrier .taken = rw t at (k .inward-taken) in
+        let room = inward-room (b .client .inward) was in
+        let now : limitAt (b .carrier .view) (b .client .inward ++ (item q x ∷ [])) ≤ b .carrier .taken + 1
+        = omega (arith, limit-le (b .carrier .view) (b .client .inward ++ (item q x ∷ [])), length-snoc (b .client .inward) (item q x)) in
+        rw t (record {
+          held = k .held;
+          carrier = plain-sound _ _ _ (k .carrier .tolds-short);
+          client = received-sound q x i (room .1);
+          inward-taken = rw t now;
+          outgoing = k .outgoing;
+          below = k .below;
+        }))
+        (λ (t : clientIsCarrier b ≡ false).
+        let was : limitAt (b .carrier .view) (b .carrier .inward) ≤ b .carrier .taken = rw t at (k .inward-taken) in
+        let room = inward-room (b .carrier .inward) was in
+        let long = length-snoc (b .carrier .inward) (item q x) in
+        let now : limitAt (b .carrier .view) (b .carrier .inward ++ (item q x ∷ [])) ≤ b .carrier .taken + 1
+        = omega (arith, limit-le (b .carrier .view) (b .carrier .inward ++ (item q x ∷ []))) in
+        rw t (record {
+          held = k .held;
+          carrier = takes-sound _ _ _ _ (k .carrier .tolds-short) (omega arith) (items-snoc _ _ q x i (k .carrier .from));
+          client = k .client;
+          inward-taken = rw t now;
+          outgoing = k .outgoing;
+          below = k .below;
+        }))
+        (known (clientIsCarrier b))
 
-  -- if an info leaves at most 31 views open
-  pub took-kept : (q : Member) (m : Message) → EntryOf (s .members) (s .known) (entry q m)
-      → ((x : View) (l : List View) → m ≡ info x l → length (learned x l (b .held) .opens) ≤ maxOpen) → BookKept s (took q m b)
-  unfolding took
-  took-kept q (client x) e o = took-client q x (entry-from e)
-  took-kept q (info x l) e o = record {
-    held = held-sound (s .known) _ (learned-well (s .known) x l (b .held) (info-sound e) (k .held)) (o x l refl);
-    carrier = plain-sound _ _ _ (k .carrier .tolds-short);
-    client = k .client;
-    inward-taken = omega (arith, k .inward-taken);
-    outgoing = k .outgoing;
-    below = k .below;
-  }
-  took-kept q registered e o = record {
-    held = k .held;
-    carrier = plain-sound _ _ _ (k .carrier .tolds-short);
-    client = k .client;
-    inward-taken = omega (arith, k .inward-taken);
-    outgoing = k .outgoing;
-    below = k .below;
-  }
-  took-kept q (told n) e o = record {
-    held = k .held;
-    carrier = plain-sound _ _ _ (upd-ind q n (b .carrier .tolds) (λ r x. r < s .members → x ≤ maxOrdered) (λ _. told-sound e .1) (λ r _. k .carrier .tolds-short r));
-    client = k .client;
-    inward-taken = omega (arith, k .inward-taken);
-    outgoing = k .outgoing;
-    below = k .below;
-  }
+    -- if an info leaves at most 31 views open
+    pub took-kept : (q : Member) (m : MessageOf M) → EntryFacts (s .members) (s .known) (entry q m)
+        → ((x : View) (l : List View) → m ≡ info x l → length (learned x l (b .held) .opens) ≤ maxOpen) → BookKept s (took q m b)
+    unfolding took
+    took-kept q (client x) e o = took-client q x (entry-from e)
+    took-kept q (info x l) e o = record {
+      held = held-sound (s .known) _ (learned-well (s .known) x l (b .held) (info-sound e) (k .held)) (o x l refl);
+      carrier = plain-sound _ _ _ (k .carrier .tolds-short);
+      client = k .client;
+      inward-taken = omega (arith, k .inward-taken);
+      outgoing = k .outgoing;
+      below = k .below;
+    }
+    took-kept q registered e o = record {
+      held = k .held;
+      carrier = plain-sound _ _ _ (k .carrier .tolds-short);
+      client = k .client;
+      inward-taken = omega (arith, k .inward-taken);
+      outgoing = k .outgoing;
+      below = k .below;
+    }
+    took-kept q (told n) e o = record {
+      held = k .held;
+      carrier = plain-sound _ _ _ (upd-ind q n (b .carrier .tolds) (λ r x. r < s .members → x ≤ maxOrdered) (λ _. told-sound e .1) (λ r _. k .carrier .tolds-short r));
+      client = k .client;
+      inward-taken = omega (arith, k .inward-taken);
+      outgoing = k .outgoing;
+      below = k .below;
+    }

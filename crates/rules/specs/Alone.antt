@@ -1,5 +1,5 @@
 -- The member by itself: its part called with the same rules, on its own book. n is the number of members, p its own number.
-use mathlib.Core.Bool.{Bool, true, false, cond}
+use mathlib.Core.Bool.{Bool, true}
 use mathlib.Core.Option.{Option, none, some}
 use mathlib.Core.List.{List, [], _∷_}
 use Prim.Native.Nat.{ℕ}
@@ -10,27 +10,30 @@ use Rattle.views.specs.declared.refusal.Refusal.the-variants.{MembersOutOfRange
 use Rattle.views.specs.declared.refusal.Verdict.{Verdict}
 use Rattle.views.specs.declared.refusal.Verdict.the-variants.{Accepted, Refused}
 use Rattle.views.specs.Limits.{maxMembers, maxOpen, maxOutgoing, maxOrdered}
-use Rattle.views.specs.Sets.{both, has}
+use Rattle.views.specs.Sets.{has}
 use Rattle.views.specs.Lists.{idOf, risesAbove, listOf, noView}
 use Rattle.wire.specs.declared.Message.{Message as Carried}
 use Rattle.wire.specs.declared.Message.the-variants.{Client, Info, Registered, Told}
 use Rattle.wire.specs.declared.Frame.{Frame}
 use Rattle.wire.specs.declared.Reading.{Reading}
 use Rattle.wire.specs.Format.{bytesOf}
-use Rattle.rules.specs.Data.{Identifier, Member, Message, client, info, registered, told, Entry, entry, Book, Answer, ok, Result, refused, accepted, need, withView, after}
-use Rattle.rules.specs.Member.{Done, does, all, joins, Passing, passing, took, attempts}
+use Rattle.rules.specs.Data.{Identifier, Member, MessageOf, Message, client, info, registered, told, EntryOf, Entry, entry, BookOf, Book, ok, Result, refused, accepted, need, withView, after}
+use Rattle.rules.specs.Member.{DoneOf, does, all, joins, Passing, passing, took, attempts}
 use Rattle.rules.specs.Sound.{within, conditions, countFits, bookCounts, setFits, opensRise, fromMember, itemFromMember}
 use Rattle.rules.specs.Group.{fits, fresh}
 
 -- ---- messages in bytes
 
 -- a message and the identifier of the view it was sent in
-pub record Sent : Type 0 where
+pub record SentOf (M : Type 0) : Type 0 where
   pub view : Identifier
-  pub message : Message
+  pub message : MessageOf M
+
+abbrev pub Sent : Type 0
+Sent = SentOf ℕ
 
 -- the views that a message carries, settled first
-abbrev pub viewsOf : Message → List View
+abbrev pub viewsOf : {M : Type 0} → MessageOf M → List View
 viewsOf (client x) = []
 viewsOf (info v l) = v ∷ l
 viewsOf registered = []
@@ -47,7 +50,7 @@ abbrev pub messageBytes : Identifier → Message → List ℕ
 messageBytes g m = bytesOf g (carriedOf m) (viewsOf m)
 
 -- an info's views: settled first
-abbrev pub infoOf : List View → Message
+abbrev pub infoOf : {M : Type 0} → List View → MessageOf M
 infoOf [] = info noView []
 infoOf (v ∷ l) = info v l
 
@@ -68,7 +71,7 @@ sentOf r = sentBy (r .verdict) (r .frame)
 -- ---- 4 covers its own book, with over 31 open in place of what concerns the list; then 6
 
 -- a list could hold no other set
-abbrev pub bookViews : Book → List View
+abbrev pub bookViews : {M : Type 0} → BookOf M → List View
 bookViews b = b .held .settled ∷ b .held .opens
 
 -- the order is not there: 16 is given after 128 taken
@@ -76,14 +79,14 @@ abbrev pub limitIf : Option View → ℕ → ℕ
 limitIf none k = 0
 limitIf (some v) k = k
 
-abbrev pub setsFit : ℕ → Entry → Bool
+abbrev pub setsFit : {M : Type 0} → ℕ → EntryOf M → Bool
 setsFit n (entry q m) = all (setFits n) (viewsOf m)
 
 abbrev pub setFitsIf : ℕ → Option View → Bool
 setFitsIf n none = true
 setFitsIf n (some v) = setFits n v
 
-unfoldable pub bookSound : ℕ → Book → Bool
+unfoldable pub bookSound : {M : Type 0} → ℕ → BookOf M → Bool
 bookSound n b = conditions (
     within 1 n maxMembers
     ∷ bookCounts n (limitIf (b .carrier .view) maxOrdered) b
@@ -100,12 +103,12 @@ bookSound n b = conditions (
     ∷ all (itemFromMember n) (b .carrier .inward)
     ∷ [])
 
-unfoldable pub alone : {A : Type 0} → ℕ → Member → Book → Result A → Result A
+unfoldable pub alone : {M A : Type 0} → ℕ → Member → BookOf M → Result A → Result A
 alone n p b r = need (bookSound n b) RecordsUnsound (need (ltb p n) NoSuchMember r)
 
 -- ---- start is given the members, the first set and its number
 
-unfoldable pub startAlone : ℕ → ℕ → Member → Result Book
+unfoldable pub startAlone : {M : Type 0} → ℕ → ℕ → Member → Result (BookOf M)
 startAlone n S p =
     need (within 1 n maxMembers) MembersOutOfRange (
     need (fits n S) FirstSetUnfit (
@@ -114,7 +117,7 @@ startAlone n S p =
 
 -- ---- join is given the view
 
-unfoldable pub joinAlone : ℕ → Member → View → Book → Result Done
+unfoldable pub joinAlone : {M : Type 0} → ℕ → Member → View → BookOf M → Result (DoneOf M)
 joinAlone n p v b = alone n p b (need (fits n (v .set)) SetUnfit (joins p v b))
 
 -- ---- pass gives out bytes, into a buffer with this room
@@ -131,7 +134,7 @@ passAlone n p room b =
 
 -- ---- deliver is given bytes, which the reader read so, and a sender
 
-unfoldable pub deliverAlone : ℕ → Member → Result Sent → Member → Book → Result Done
+unfoldable pub deliverAlone : {M : Type 0} → ℕ → Member → Result (SentOf M) → Member → BookOf M → Result (DoneOf M)
 deliverAlone n p read q b =
     alone n p b (withView (b .carrier .view) NoCarrierView (λ v. after read (λ x.
     need (all (setFits n) (viewsOf (x .message))) SetUnfit (
@@ -143,6 +146,6 @@ deliverAlone n p read q b =
 
 -- ---- attempt: 43 last
 
-unfoldable pub attemptAlone : (Member → ℕ) → ℕ → Member → Book → Result Done
+unfoldable pub attemptAlone : {M : Type 0} → (Member → ℕ) → ℕ → Member → BookOf M → Result (DoneOf M)
 attemptAlone weight n p b =
     alone n p b (after (attempts weight n p b) (λ d. need (leb (length (d .book .held .opens)) maxOpen) TooManyOpen (accepted d)))

@@ -1,8 +1,9 @@
--- What the rules speak of: messages, a member's book, the group, steps, events and answers.
+-- What the rules speak of: messages, a member's book, the group, steps, events and answers. M is what a client sends: the rules pass it on and never look
+-- at it. In a group of document 01 it is an entry number, and there the words go without 'Of'.
 use mathlib.Core.Bool.{Bool, true, false}
 use mathlib.Core.Option.{Option, none, some}
 use mathlib.Core.List.{List, [], _∷_}
-use Prim.Native.Nat.{ℕ, zero, suc}
+use Prim.Native.Nat.{ℕ, suc}
 use Rattle.views.specs.declared.View.{View}
 use Rattle.views.specs.declared.refusal.Refusal.{Refusal}
 use Rattle.views.specs.Lists.{idOf}
@@ -19,17 +20,17 @@ Position = ℕ
 
 -- ---- messages
 
-pub data Message : Type 0 where
-  client : ℕ → Message  -- an entry number
-  info : View → List View → Message  -- the settled view, the open views
-  registered : Message
-  told : ℕ → Message  -- a count
+pub data MessageOf (M : Type 0) : Type 0 where
+  client : M → MessageOf M  -- what the client sent
+  info : View → List View → MessageOf M  -- the settled view, the open views
+  registered : MessageOf M
+  told : ℕ → MessageOf M  -- a count
 
 -- a queue entry: its sender together with a message
-pub data Entry : Type 0 where
-  entry : Member → Message → Entry
+pub data EntryOf (M : Type 0) : Type 0 where
+  entry : Member → MessageOf M → EntryOf M
 
--- a client message that was taken: its sender, its entry number
+-- a client message that was taken: its sender, what it sent
 pub data Item (M : Type 0) : Type 0 where
   item : Member → M → Item M
 
@@ -41,38 +42,38 @@ pub record Held : Type 0 where
   pub opens : List View
 
 -- what is kept of the carrier view (the report's cur), the one the carrier last gave; a join starts it anew
-pub record AtCarrier : Type 0 where
+pub record AtCarrierOf (M : Type 0) : Type 0 where
   pub view : Option View
   pub infos : Member → Bool  -- whose info was received
   pub registrations : Member → Bool  -- whose registration was received
   pub tolds : Member → ℕ  -- the told count received, 0 for none
   pub taken : Position  -- how many messages of its order were taken
-  pub inward : List (Item ℕ)  -- its inward list while it is not the client view
+  pub inward : List (Item M)  -- its inward list while it is not the client view
 
 -- what is kept of the client view (the report's client-cur), the last one attempted; an attempt starts it anew
-pub record AtClient : Type 0 where
+pub record AtClientOf (M : Type 0) : Type 0 where
   pub view : Option View
   pub registered : Bool
-  pub inward : List (Item ℕ)
+  pub inward : List (Item M)
   pub handed : Position  -- how many of the inward list were handed out
   pub told : Position  -- the number last told
   pub reported : Position  -- how many were reported safe
 
-pub record Book : Type 0 where
+pub record BookOf (M : Type 0) : Type 0 where
   pub held : Held
-  pub carrier : AtCarrier
-  pub client : AtClient
-  pub outgoing : List Entry
+  pub carrier : AtCarrierOf M
+  pub client : AtClientOf M
+  pub outgoing : List (EntryOf M)
 
 -- ---- the group
 
-pub record Group : Type 0 where
+pub record GroupOf (M : Type 0) : Type 0 where
   pub members : ℕ
   pub room : ℕ  -- the length of the lent list: how many views can be made
   pub views : List View  -- the views made, the first included
-  pub books : Member → Book
-  pub waiting : Member → Identifier → List Entry
-  pub order : Identifier → List Entry
+  pub books : Member → BookOf M
+  pub waiting : Member → Identifier → List (EntryOf M)
+  pub order : Identifier → List (EntryOf M)
 
 -- a step: its kind's number and its operands in the order of the step's name
 pub record Step : Type 0 where
@@ -88,10 +89,33 @@ pub data Event (M : Type 0) : Type 0 where
   hand : Member → Identifier → Item M → Event M
   safe : Member → Identifier → Item M → Event M
 
-pub data Answer : Type 0 where
-  ok : Answer
-  event : Event ℕ → Answer
-  refusal : Refusal → Answer
+pub data AnswerOf (M : Type 0) : Type 0 where
+  ok : AnswerOf M
+  event : Event M → AnswerOf M
+  refusal : Refusal → AnswerOf M
+
+-- ---- the same where a client sends entry numbers
+
+abbrev pub Message : Type 0
+Message = MessageOf ℕ
+
+abbrev pub Entry : Type 0
+Entry = EntryOf ℕ
+
+abbrev pub AtCarrier : Type 0
+AtCarrier = AtCarrierOf ℕ
+
+abbrev pub AtClient : Type 0
+AtClient = AtClientOf ℕ
+
+abbrev pub Book : Type 0
+Book = BookOf ℕ
+
+abbrev pub Group : Type 0
+Group = GroupOf ℕ
+
+abbrev pub Answer : Type 0
+Answer = AnswerOf ℕ
 
 -- ---- results: one refusal, or what is given
 

@@ -14,9 +14,9 @@ use Rattle.rules.specs.Figure1.{Outer, Run}
 use Rattle.rules.specs.Runs.{lastOf, answersOf, eventsOf, Attempted, NoneBetween}
 
 -- the outward events l of a group with the first set S
-pub record Promised (weight : Member → ℕ) (S : ℕ) (l : List (Event ℕ)) : Type 0 where
+pub record Promised {M : Type 0} (weight : Member → ℕ) (S : ℕ) (l : List (Event M)) : Type 0 where
   -- they are exactly those of some run of Figure 1, first to last
-  pub run : (d : Outer ℕ) × Run (firstView S) d l
+  pub run : (d : Outer M) × Run (firstView S) d l
   -- two attempted views with no totally registered view between their identifiers share a server that weighs more than 0
   pub share : (v w : View) → Attempted S l v → Attempted S l w → idOf w < idOf v → NoneBetween S l (idOf w) (idOf v)
       → (p : Member) × T (has (v .set) p) × T (has (w .set) p) × (0 < weight p)

@@ -1,17 +1,19 @@
 -- Refusal 4: records that no step may touch. The parts stand in the order and words of the refusal table. What only bytes can hold (a count beyond
 -- its places, an entry of unknown kind, a range not of its length) is the layout's part of it.
-use mathlib.Core.Bool.{Bool, true, false, cond, not, _||_}
+use mathlib.Core.Bool.{Bool, true, false, cond, not}
 use mathlib.Core.Option.{Option, none, some}
-use mathlib.Core.List.{List, [], _∷_, _++_}
-use Prim.Native.Nat.{ℕ, zero, suc, _+_}
+use mathlib.Core.List.{List, [], _∷_}
+use Prim.Native.Nat.{ℕ, _+_}
 use lib.Dec.{eqb, ltb, leb}
 use lib.ListN.{length}
 use Rattle.views.specs.declared.View.{View}
 use Rattle.views.specs.Limits.{maxMembers, maxViews, maxOpen, maxOutgoing, maxWaiting, maxOrdered}
 use Rattle.views.specs.Sets.{both, isEmpty, isBeyond}
 use Rattle.views.specs.Lists.{idOf, isRising, risesAbove}
-use Rattle.rules.specs.Data.{Identifier, Member, Message, client, info, registered, told, Entry, entry, Item, item, Held, AtCarrier, AtClient, Book, Group, rank}
+use Rattle.rules.specs.Data.{client, info, registered, told, EntryOf, entry, Item, item, BookOf, GroupOf}
 use Rattle.rules.specs.Member.{every, all, clientIsCarrier}
+
+-- ---- words
 
 -- lo to hi
 abbrev pub within : ℕ → ℕ → ℕ → Bool
@@ -22,79 +24,14 @@ unfoldable pub conditions : List Bool → Bool
 conditions [] = true
 conditions (c ∷ l) = both c (conditions l)
 
--- ---- where the records' parts are
-
--- every book, every queued entry (outgoing, waiting in a made view, ordered in a made view), every item of an inward list
-unfoldable pub everyBook : Group → (Book → Bool) → Bool
-everyBook s f = every (s .members) (λ p. f (s .books p))
-
-unfoldable pub everyQueue : Group → (ℕ → List Entry → Bool) → Bool
-everyQueue s f =
-    both (every (s .members) (λ p. f maxOutgoing (s .books p .outgoing)))
-    (all (λ v. both (every (s .members) (λ p. f maxWaiting (s .waiting p (idOf v)))) (f maxOrdered (s .order (idOf v)))) (s .views))
-
-abbrev pub everyEntry : Group → (Entry → Bool) → Bool
-everyEntry s f = everyQueue s (λ limit l. all f l)
-
--- ---- a count, length or position outside its limits (a position's is its queue's length)
-
-abbrev pub countFits : Entry → Bool
-countFits (entry q (client x)) = true
-countFits (entry q (info v l)) = leb (length l + 1) maxViews
-countFits (entry q registered) = true
-countFits (entry q (told k)) = within 1 k maxOrdered
-
 -- a position's limit where there is no view is 0
 abbrev pub limitAt : {A : Type 0} → Option View → List A → ℕ
 limitAt none l = 0
 limitAt (some v) l = length l
 
-abbrev pub orderAt : Group → Option View → List Entry
-orderAt s none = []
-orderAt s (some v) = s .order (idOf v)
-
--- the inward list of the carrier view
-abbrev pub carrierInward : Book → List (Item ℕ)
-carrierInward b = cond (clientIsCarrier b) (b .client .inward) (b .carrier .inward)
-
--- of n members, with the limit of the position in the carrier view's order
-unfoldable pub bookCounts : ℕ → ℕ → Book → Bool
-bookCounts n limit b = conditions (
-    leb (length (b .held .opens)) maxOpen
-    ∷ leb (length (b .client .inward)) maxOrdered
-    ∷ leb (length (b .carrier .inward)) maxOrdered
-    ∷ every n (λ q. leb (b .carrier .tolds q) maxOrdered)
-    ∷ leb (b .carrier .taken) limit
-    ∷ leb (limitAt (b .carrier .view) (carrierInward b)) (b .carrier .taken)
-    ∷ leb (b .client .handed) (limitAt (b .client .view) (b .client .inward))
-    ∷ leb (b .client .told) (limitAt (b .client .view) (b .client .inward))
-    ∷ leb (b .client .reported) (limitAt (b .client .view) (b .client .inward))
-    ∷ [])
-
-unfoldable pub counts : Group → Bool
-counts s = conditions (
-    within 1 (s .members) maxMembers
-    ∷ within 1 (s .room) maxViews
-    ∷ within 1 (length (s .views)) (s .room)
-    ∷ everyBook s (λ b. bookCounts (s .members) (length (orderAt s (b .carrier .view))) b)
-    ∷ everyQueue s (λ limit l. leb (length l) limit)
-    ∷ everyEntry s countFits
-    ∷ [])
-
--- ---- a listed set empty or beyond the members
-
+-- the view's set is not empty and not beyond n members
 abbrev pub setFits : ℕ → View → Bool
 setFits n v = both (not (isEmpty (v .set))) (not (isBeyond (v .set) n))
-
--- ---- open views (a book's or an info's) not rising above the settled one
-
-abbrev pub opensRise : Entry → Bool
-opensRise (entry q (client x)) = true
-opensRise (entry q (info v l)) = risesAbove (idOf v) l
-opensRise (entry q registered) = true
-opensRise (entry q (told k)) = true
-
--- ---- a held, carrier or client view, or one in a queued info, missing from the list
 
 abbrev pub sameView : View → View → Bool
 sameView v w = both (eqb (idOf v) (idOf w)) (eqb (v .set) (w .set))
@@ -108,38 +45,105 @@ abbrev pub listedIf : List View → Option View → Bool
 listedIf l none = true
 listedIf l (some v) = listed l v
 
-unfoldable pub bookListed : List View → Book → Bool
-bookListed l b = conditions (
-    all (listed l) (b .held .settled ∷ b .held .opens)
-    ∷ listedIf l (b .carrier .view)
-    ∷ listedIf l (b .client .view)
-    ∷ [])
+module _ {M : Type 0} where
+  -- ---- where the records' parts are
 
-abbrev pub infoListed : List View → Entry → Bool
-infoListed l (entry q (client x)) = true
-infoListed l (entry q (info v w)) = all (listed l) (v ∷ w)
-infoListed l (entry q registered) = true
-infoListed l (entry q (told k)) = true
+  -- every book, every queued entry (outgoing, waiting in a made view, ordered in a made view), every item of an inward list
+  unfoldable pub everyBook : GroupOf M → (BookOf M → Bool) → Bool
+  everyBook s f = every (s .members) (λ p. f (s .books p))
 
--- ---- a queue entry from no member
+  unfoldable pub everyQueue : GroupOf M → (ℕ → List (EntryOf M) → Bool) → Bool
+  everyQueue s f =
+      both (every (s .members) (λ p. f maxOutgoing (s .books p .outgoing)))
+      (all (λ v. both (every (s .members) (λ p. f maxWaiting (s .waiting p (idOf v)))) (f maxOrdered (s .order (idOf v)))) (s .views))
 
-abbrev pub fromMember : ℕ → Entry → Bool
-fromMember n (entry q m) = ltb q n
+  abbrev pub everyEntry : GroupOf M → (EntryOf M → Bool) → Bool
+  everyEntry s f = everyQueue s (λ limit l. all f l)
 
-abbrev pub itemFromMember : ℕ → Item ℕ → Bool
-itemFromMember n (item q x) = ltb q n
+  -- ---- a count, length or position outside its limits (a position's is its queue's length)
 
--- ---- the records are sound: 4 is given where they are not
+  abbrev pub countFits : EntryOf M → Bool
+  countFits (entry q (client x)) = true
+  countFits (entry q (info v l)) = leb (length l + 1) maxViews
+  countFits (entry q registered) = true
+  countFits (entry q (told k)) = within 1 k maxOrdered
 
-unfoldable pub sound : Group → Bool
-sound s = conditions (
-    counts s
-    ∷ isRising (s .views)
-    ∷ all (setFits (s .members)) (s .views)
-    ∷ everyBook s (λ b. risesAbove (idOf (b .held .settled)) (b .held .opens))
-    ∷ everyEntry s opensRise
-    ∷ everyBook s (bookListed (s .views))
-    ∷ everyEntry s (infoListed (s .views))
-    ∷ everyEntry s (fromMember (s .members))
-    ∷ everyBook s (λ b. both (all (itemFromMember (s .members)) (b .client .inward)) (all (itemFromMember (s .members)) (b .carrier .inward)))
-    ∷ [])
+  abbrev pub orderAt : GroupOf M → Option View → List (EntryOf M)
+  orderAt s none = []
+  orderAt s (some v) = s .order (idOf v)
+
+  -- the inward list of the carrier view
+  abbrev pub carrierInward : BookOf M → List (Item M)
+  carrierInward b = cond (clientIsCarrier b) (b .client .inward) (b .carrier .inward)
+
+  -- of n members, with the limit of the position in the carrier view's order
+  unfoldable pub bookCounts : ℕ → ℕ → BookOf M → Bool
+  bookCounts n limit b = conditions (
+      leb (length (b .held .opens)) maxOpen
+      ∷ leb (length (b .client .inward)) maxOrdered
+      ∷ leb (length (b .carrier .inward)) maxOrdered
+      ∷ every n (λ q. leb (b .carrier .tolds q) maxOrdered)
+      ∷ leb (b .carrier .taken) limit
+      ∷ leb (limitAt (b .carrier .view) (carrierInward b)) (b .carrier .taken)
+      ∷ leb (b .client .handed) (limitAt (b .client .view) (b .client .inward))
+      ∷ leb (b .client .told) (limitAt (b .client .view) (b .client .inward))
+      ∷ leb (b .client .reported) (limitAt (b .client .view) (b .client .inward))
+      ∷ [])
+
+  unfoldable pub counts : GroupOf M → Bool
+  counts s = conditions (
+      within 1 (s .members) maxMembers
+      ∷ within 1 (s .room) maxViews
+      ∷ within 1 (length (s .views)) (s .room)
+      ∷ everyBook s (λ b. bookCounts (s .members) (length (orderAt s (b .carrier .view))) b)
+      ∷ everyQueue s (λ limit l. leb (length l) limit)
+      ∷ everyEntry s countFits
+      ∷ [])
+
+  -- ---- a listed set empty or beyond the members: setFits, of every view made
+
+  -- ---- open views (a book's or an info's) not rising above the settled one
+
+  abbrev pub opensRise : EntryOf M → Bool
+  opensRise (entry q (client x)) = true
+  opensRise (entry q (info v l)) = risesAbove (idOf v) l
+  opensRise (entry q registered) = true
+  opensRise (entry q (told k)) = true
+
+  -- ---- a held, carrier or client view, or one in a queued info, missing from the list
+
+  unfoldable pub bookListed : List View → BookOf M → Bool
+  bookListed l b = conditions (
+      all (listed l) (b .held .settled ∷ b .held .opens)
+      ∷ listedIf l (b .carrier .view)
+      ∷ listedIf l (b .client .view)
+      ∷ [])
+
+  abbrev pub infoListed : List View → EntryOf M → Bool
+  infoListed l (entry q (client x)) = true
+  infoListed l (entry q (info v w)) = all (listed l) (v ∷ w)
+  infoListed l (entry q registered) = true
+  infoListed l (entry q (told k)) = true
+
+  -- ---- a queue entry from no member
+
+  abbrev pub fromMember : ℕ → EntryOf M → Bool
+  fromMember n (entry q m) = ltb q n
+
+  abbrev pub itemFromMember : ℕ → Item M → Bool
+  itemFromMember n (item q x) = ltb q n
+
+  -- ---- the records are sound: 4 is given where they are not
+
+  unfoldable pub sound : GroupOf M → Bool
+  sound s = conditions (
+      counts s
+      ∷ isRising (s .views)
+      ∷ all (setFits (s .members)) (s .views)
+      ∷ everyBook s (λ b. risesAbove (idOf (b .held .settled)) (b .held .opens))
+      ∷ everyEntry s opensRise
+      ∷ everyBook s (bookListed (s .views))
+      ∷ everyEntry s (infoListed (s .views))
+      ∷ everyEntry s (fromMember (s .members))
+      ∷ everyBook s (λ b. both (all (itemFromMember (s .members)) (b .client .inward)) (all (itemFromMember (s .members)) (b .carrier .inward)))
+      ∷ [])

@@ -38,7 +38,7 @@ info-carried : (l : List View) → Info ≡ carriedOf (infoOf l)
 info-carried [] = refl
 info-carried (v ∷ l) = refl
 
-info-views : (l : List View) → 1 ≤ length l → l ≡ viewsOf (infoOf l)
+info-views : (l : List View) → 1 ≤ length l → l ≡ viewsOf (infoOf {M = ℕ} l)
 info-views [] h = absurd (omega arith)
 info-views (v ∷ l) h = refl
 
