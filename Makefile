@@ -56,12 +56,12 @@ CXXFLAGS := -std=c++17 -O2 -Wall -Wextra -Werror
 # The headers: their numbers beside the sources', and each by itself, in each version of C and C++ and with each compiler that is here.
 .PHONY: headers
 headers:
-	python3 tests/header_check.py
+	python3 tests/checks/header_check.py
 	tests/outside/headers.sh
 
 # The library beside a plain implementation in C++: every length, limit and refusal, and random cases. Once with the host's code sanitized.
 .PHONY: outside
-OUTSIDE := $(wildcard tests/outside/*.hpp tests/outside/*.cpp tests/outside/*.inc) tests/reference_group.hpp include/dvs.h
+OUTSIDE := $(wildcard tests/outside/*.hpp tests/outside/*.cpp tests/outside/*.inc) tests/reference/reference_group.hpp include/dvs.h
 OUTSIDE_FLAGS := $(CXXFLAGS) -Wpedantic
 outside: target/outside_test target/outside_test_sanitized
 	target/outside_test_sanitized short 1 > target/outside_sanitized.log || { cat target/outside_sanitized.log; false; }
@@ -82,52 +82,53 @@ fuzz: target/outside_test
 .PHONY: outside-selftest
 WRAPPED := start join pass deliver attempt register send hand tell safe collect read write group_start group_step
 outside-selftest: target/outside_wrong
-	tests/damaged-guard/run.sh target/outside_wrong
-target/outside_wrong: $(OUTSIDE) tests/damaged-guard/wrong.cpp $(LIBRARY)
-	$(CXX) $(OUTSIDE_FLAGS) $(WRAPPED:%=-Wl,--wrap=dvs_%) -o $@ tests/outside/outside_test.cpp tests/damaged-guard/wrong.cpp $(LIBRARY)
+	tests/strength/run.sh target/outside_wrong
+target/outside_wrong: $(OUTSIDE) tests/strength/wrong.cpp $(LIBRARY)
+	$(CXX) $(OUTSIDE_FLAGS) $(WRAPPED:%=-Wl,--wrap=dvs_%) -o $@ tests/outside/outside_test.cpp tests/strength/wrong.cpp $(LIBRARY)
 
 # One rule after another of the plain implementation changed: the test must find a difference each time. Some ten minutes.
 .PHONY: outside-strength
 outside-strength: $(LIBRARY)
-	python3 tests/damaged-guard/changed_rules.py $(LIBRARY)
+	python3 tests/strength/changed_rules.py $(LIBRARY)
 
 # The C++ wrapper and both examples, installed and linked by pkg-config, with every compiler here, in C++17 and C++20 and with sanitizers.
 .PHONY: wrapper
 wrapper: $(LIBRARY)
-	tests/wrapper.sh
+	tests/wrapper/wrapper.sh
 
 # The wrong answers that the gate leaves out for time.
 .PHONY: edits
 edits:
-	tests/edits.sh
+	tests/checks/edits.sh
 
 # ---- plain implementations beside the bench
 
 # The plain references of the group and of the member by itself and the message vectors' answers, each against its own cases.
 .PHONY: reference
 reference:
-	python3 tests/reference_cases.py
-	python3 tests/references_agree.py 1 20000
-	python3 tests/member_reference.py check crates/stories/stdin
-	python3 tests/wire_vectors.py check
-	python3 tests/bench_stdin.py check
+	python3 tests/reference/reference_cases.py
+	python3 tests/reference/references_agree.py 1 20000
+	python3 tests/reference/member_reference.py check crates/stories/stdin
+	python3 tests/reference/wire_vectors.py check
+	python3 tests/scripts/bench_stdin.py check
 
 # The group and the bench as a plain C++ program, with refusal 4's check in every step and without.
 .PHONY: reference-cpp
 reference-cpp: target/reference target/reference-unchecked
-target/reference: tests/reference.cpp tests/reference_group.hpp
+target/reference: tests/reference/reference.cpp tests/reference/reference_group.hpp
 	mkdir -p target
 	$(CXX) $(CXXFLAGS) -o $@ $<
-target/reference-unchecked: tests/reference.cpp tests/reference_group.hpp
+target/reference-unchecked: tests/reference/reference.cpp tests/reference/reference_group.hpp
 	mkdir -p target
 	$(CXX) $(CXXFLAGS) -DNO_CHECK -o $@ $<
 
-# The benches beside each other: every script with its answers, a random script, and one sent line by line.
+# The benches beside each other: every script with its answers, a random script, and two sent line by line, the second in pieces too.
 .PHONY: compare
 compare: target/bin/bench reference-cpp
-	python3 tests/compare.py corpus tests/scripts target/bin/bench target/reference target/reference-unchecked
-	python3 tests/compare.py random 1 20000 target/bin/bench target/reference target/reference-unchecked
-	python3 tests/compare.py live 2 2000 target/bin/bench
+	python3 tests/reference/compare.py corpus tests/scripts target/bin/bench target/reference target/reference-unchecked
+	python3 tests/reference/compare.py random 1 20000 target/bin/bench target/reference target/reference-unchecked
+	python3 tests/reference/compare.py live 2 2000 target/bin/bench
+	python3 tests/scripts/bench_waits.py target/bin/bench
 target/bin/bench: $(SOURCES)
 	rt check bench
 	touch $@
@@ -148,6 +149,6 @@ $(BENCHMARK_DIR)/benchmark: $(BENCHMARK_OBJECTS) $(LIBRARY)
 $(BENCHMARK_DIR)/%.o: tests/benchmark/%.cpp $(wildcard tests/benchmark/*.hpp tests/benchmark/*.inc) $(OUTSIDE)
 	mkdir -p $(BENCHMARK_DIR)
 	$(BENCHMARK_CXX) $(OUTSIDE_FLAGS) -O3 $(BENCHMARK_PLACES) -c -o $@ $<
-$(STEADY): tests/steady_script.py
+$(STEADY): tests/benchmark/steady_script.py
 	mkdir -p target/benchmark
-	python3 tests/steady_script.py 60000 > $@
+	python3 tests/benchmark/steady_script.py 60000 > $@

@@ -1,7 +1,7 @@
 // A group on each side: one start, and one step by its numbers.
 //
 //   library    the three lent ranges, refusal 4 asked in every step;
-//   structs    tests/reference_group.hpp, whose host keeps structs, refusal 4 asked in every step;
+//   structs    tests/reference/reference_group.hpp, whose host keeps structs, refusal 4 asked in every step;
 //   unchecked  the same without refusal 4: what the step alone costs;
 //   bytes      tests/outside over the library's own ranges, each step parses every book.
 #pragma once

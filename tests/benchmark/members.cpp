@@ -12,7 +12,7 @@ constexpr unsigned kMost = 5;
 
 struct Slip { uint8_t bytes[DVS_LONGEST]; uint32_t length; };
 
-// The sets of tests/steady_script.py: each has a majority of the one before.
+// The sets of tests/benchmark/steady_script.py: each has a majority of the one before.
 constexpr uint32_t kSets[] = {31, 15, 31, 7, 31, 30, 14, 31};
 
 // Books as bytes, by the library or by the independent implementation.

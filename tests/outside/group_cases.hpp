@@ -1,10 +1,10 @@
 // Cases of the whole group: histories from a start, and groups that no steps need have left; both are damaged now and
-// then. A history that was not damaged is put to tests/reference_group.hpp too, a third implementation.
+// then. A history that was not damaged is put to tests/reference/reference_group.hpp too, a third implementation.
 #pragma once
 
 #include <memory>
 
-#include "../reference_group.hpp"
+#include "../reference/reference_group.hpp"
 #include "calls.hpp"
 #include "damage.hpp"
 #include "generate.hpp"
@@ -55,8 +55,8 @@ class GroupCases {
     store_third(reply, event);
     bool same_event = answer != plain::kAccepted || memcmp(event, c_.event.mine(), sizeof event) == 0;
     if (reply.refusal == answer && same_event) return answer;
-    printf("\nDIFFERENCE of tests/reference_group.hpp in step %u %u %" PRIu64 ": %u, expected %u\n", kind, first, second,
-           reply.refusal, answer);
+    printf("\nDIFFERENCE of tests/reference/reference_group.hpp in step %u %u %" PRIu64 ": %u, expected %u\n", kind,
+           first, second, reply.refusal, answer);
     c_.tally.say_again();
   }
 

@@ -2,13 +2,13 @@
 """documents_check.py: whether the documents name files that are there, docs/TRUST.md counts their lines right, docs/DECISIONS.md names every
 public function that asks something of its callers, and README.md shows the stored session of the bench and the stored example.
 
-    python3 tests/documents_check.py          says what is wrong, and exits with 1 where something is
-    python3 tests/documents_check.py write    puts the right counts into docs/TRUST.md"""
+    python3 tests/checks/documents_check.py          says what is wrong, and exits with 1 where something is
+    python3 tests/checks/documents_check.py write    puts the right counts into docs/TRUST.md"""
 import pathlib
 import re
 import sys
 
-ROOT = pathlib.Path(__file__).resolve().parent.parent
+ROOT = pathlib.Path(__file__).resolve().parents[2]
 DOCUMENTS = [ROOT / 'README.md'] + sorted((ROOT / 'docs').glob('*.md'))
 TRUST = ROOT / 'docs' / 'TRUST.md'
 faults = []
@@ -48,7 +48,7 @@ right = counted(text)
 if sys.argv[1:] == ['write']:
     TRUST.write_text(right)
 elif right != text:
-    faults.append('docs/TRUST.md has wrong counts of lines: python3 tests/documents_check.py write')
+    faults.append('docs/TRUST.md has wrong counts of lines: python3 tests/checks/documents_check.py write')
 for document in DOCUMENTS:
     for link in re.findall(r'\]\(([^)#]+)\)', document.read_text()):
         if not link.startswith('http') and not (document.parent / link).exists():

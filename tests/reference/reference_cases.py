@@ -1,6 +1,6 @@
 """The cases that the specification gives, asked of the reference.
 
-    python3 tests/reference_cases.py
+    python3 tests/reference/reference_cases.py
 """
 
 from reference import Group, Refused, bench, read_message, start

@@ -1,16 +1,16 @@
 #!/usr/bin/env python3
 """Puts the stored scripts together for the gate: crates/bench/stdin and crates/bench/stdout.
 
-    python3 tests/bench_stdin.py          writes both files
-    python3 tests/bench_stdin.py check    says whether they are what it would write
+    python3 tests/scripts/bench_stdin.py          writes both files
+    python3 tests/scripts/bench_stdin.py check    says whether they are what it would write
 
 One run of the bench has no group running only once, so the first script is the one about that; of every other script the lines from
 its first accepted `group` on are taken. The last line lacks its byte 10."""
 import os
 import sys
 
-ROOT = os.path.dirname(os.path.dirname(os.path.abspath(__file__)))
-SCRIPTS = os.path.join(ROOT, 'tests', 'scripts')
+SCRIPTS = os.path.dirname(os.path.abspath(__file__))
+ROOT = os.path.dirname(os.path.dirname(SCRIPTS))
 FIRST = 'bench-before-the-group'
 LAST = 'whole-case'
 

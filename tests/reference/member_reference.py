@@ -4,9 +4,9 @@ It is written from the words of the specification alone, apart from the engine a
 from the reference of the group, so that each can be compared with it line by line.
 Quoted words are the specification's.
 
-    python3 tests/member_reference.py STORIES            the answers to the lines of a file
-    python3 tests/member_reference.py check STORIES      whether the file stdout beside it has them
-    python3 tests/member_reference.py random SEED LINES  a long hostile script
+    python3 tests/reference/member_reference.py STORIES            the answers to the lines of a file
+    python3 tests/reference/member_reference.py check STORIES      whether the file stdout beside it has them
+    python3 tests/reference/member_reference.py random SEED LINES  a long hostile script
 
 A view is a pair (identifier, set); a set is a number, bit 0 for member 0.
 A queue entry is a pair (sender, message); a message is one of

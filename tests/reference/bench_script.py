@@ -1,4 +1,4 @@
-"""Random bench scripts that get far, with the answers that tests/reference.py gives.
+"""Random bench scripts that get far, with the answers that tests/reference/reference.py gives.
 
 Each line is drawn, then tried on the reference's group: a refusal changes nothing, so
 a refused draw may be dropped and another drawn. Most lines kept are accepted ones;

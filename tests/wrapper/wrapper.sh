@@ -2,7 +2,7 @@
 # Installs the library to a folder of its own and links against it by pkg-config alone: the wrapper's cases, the first example and the offices, with
 # every compiler here, in C++17 and C++20, with all warnings and sanitizers; and the C header in a C99 program.
 set -euo pipefail
-cd "$(dirname "${BASH_SOURCE[0]}")/.."
+cd "$(dirname "${BASH_SOURCE[0]}")/../.."
 work=$(mktemp -d)
 trap 'rm -rf "$work"' EXIT
 
@@ -20,7 +20,7 @@ for compiler in g++ clang++; do
   command -v "$compiler" > /dev/null || continue
   for standard in 17 20; do
     flags=(-std=c++"$standard" -O1 -g "${warnings[@]}" "${cflags[@]}" -fsanitize=address,undefined -fno-sanitize-recover=all)
-    "$compiler" "${flags[@]}" -fno-exceptions -fno-rtti -o "$work/wrapper" tests/wrapper.cpp "${libs[@]}"
+    "$compiler" "${flags[@]}" -fno-exceptions -fno-rtti -o "$work/wrapper" tests/wrapper/wrapper.cpp "${libs[@]}"
     "$work/wrapper" > "$work/out"
     "$compiler" "${flags[@]}" -o "$work/first" examples/first/first.cpp "${libs[@]}"
     "$work/first" | diff examples/first/expected.txt -

@@ -2,7 +2,7 @@
 reference of the group and to references of the member by itself, one for each member,
 whose bytes are carried in the same order. Their answers must be the same.
 
-    python3 tests/references_agree.py SEED STEPS
+    python3 tests/reference/references_agree.py SEED STEPS
 """
 
 import random

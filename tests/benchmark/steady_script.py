@@ -1,6 +1,6 @@
 """A steady bench script in which every line is accepted, to measure speed with.
 
-    python3 tests/steady_script.py LINES
+    python3 tests/benchmark/steady_script.py LINES
 
 A group of five sends, orders, takes, hands out, tells and reports safe, round after round;
 when a view's order has no room for another round the next view is made, attempted,

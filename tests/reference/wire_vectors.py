@@ -1,10 +1,10 @@
 #!/usr/bin/env python3
 """Messages as bytes, a second time, in plain Python: the lines that the program `vectors` is run on, and the answers it must give.
 
-    python3 tests/wire_vectors.py stdin  > crates/vectors/stdin
-    python3 tests/wire_vectors.py stdout > crates/vectors/stdout
-    python3 tests/wire_vectors.py check      whether those two files are what this makes
-    python3 tests/wire_vectors.py count      how many lines get which answer
+    python3 tests/reference/wire_vectors.py stdin  > crates/vectors/stdin
+    python3 tests/reference/wire_vectors.py stdout > crates/vectors/stdout
+    python3 tests/reference/wire_vectors.py check      whether those two files are what this makes
+    python3 tests/reference/wire_vectors.py count      how many lines get which answer
 
 Nothing here is taken from the code of the repository: `read` and `write` below follow the words of the format and of the rows
 'reader' and 'writer' of the table of refusals. The lines are:
@@ -354,7 +354,7 @@ def count():
 
 
 def check():
-    folder = os.path.join(os.path.dirname(os.path.abspath(__file__)), '..', 'crates', 'vectors')
+    folder = os.path.join(os.path.dirname(os.path.abspath(__file__)), '..', '..', 'crates', 'vectors')
     for name, text in (('stdin', INPUT), ('stdout', OUTPUT)):
         with open(os.path.join(folder, name)) as f:
             if f.read() != text:

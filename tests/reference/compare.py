@@ -1,12 +1,12 @@
 """Benches beside each other: the same script for every command, their answers line by line.
 
-    python3 tests/compare.py random SEED LINES CMD...   a random script
-    python3 tests/compare.py live SEED LINES CMD...     each line sent when the last was answered
-    python3 tests/compare.py corpus DIR CMD...          every DIR/NAME.txt, with DIR/NAME.out as answers
-    python3 tests/compare.py write SEED LINES           the random script itself, to standard output
-    python3 tests/compare.py histogram SEED LINES       how often each answer comes in it
+    python3 tests/reference/compare.py random SEED LINES CMD...   a random script
+    python3 tests/reference/compare.py live SEED LINES CMD...     each line sent when the last was answered
+    python3 tests/reference/compare.py corpus DIR CMD...          every DIR/NAME.txt, with DIR/NAME.out as answers
+    python3 tests/reference/compare.py write SEED LINES           the random script itself, to standard output
+    python3 tests/reference/compare.py histogram SEED LINES       how often each answer comes in it
 
-A command is one argument, taken apart at spaces. The answers of tests/reference.py are
+A command is one argument, taken apart at spaces. The answers of tests/reference/reference.py are
 always among those compared. The exit status is 1 where two answers differ.
 """
 

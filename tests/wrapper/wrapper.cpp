@@ -18,7 +18,7 @@ using dvs::Set;
 
 void expect(bool holds, int line) {
   if (holds) return;
-  std::fprintf(stderr, "tests/wrapper.cpp:%d: not so\n", line);
+  std::fprintf(stderr, "tests/wrapper/wrapper.cpp:%d: not so\n", line);
   std::exit(1);
 }
 #define EXPECT(holds) expect((holds), __LINE__)

@@ -7,7 +7,7 @@ import pathlib
 import re
 import sys
 
-ROOT = pathlib.Path(__file__).resolve().parent.parent
+ROOT = pathlib.Path(__file__).resolve().parents[2]
 WIDTHS = {'u8': 'uint8_t', 'u32': 'uint32_t', 'u64': 'uint64_t'}
 BOOK_PLACES = ('MEMBERS', 'SELF', 'SETTLED', 'CARRIER', 'CLIENT', 'REGISTERED', 'HANDED', 'TOLD', 'REPORTED', 'TAKEN', 'OPENS', 'OUTGOING')
 faults = []

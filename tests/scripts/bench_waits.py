@@ -1,6 +1,6 @@
 """A bench answers a line before the next is sent.
 
-    python3 tests/bench_waits.py [CMD]      target/bin/bench if none is given
+    python3 tests/scripts/bench_waits.py [CMD]      target/bin/bench if none is given
 
 Whoever waits for an answer gets it: each line is sent only when the one before was answered.
 A line may also come in pieces, and the last may lack the byte that ends it.

@@ -2,7 +2,7 @@
 """How much the test from outside sees: one rule after another of the plain implementation is changed, and the test must
 find a difference with the library each time. Some ten minutes: each change is a compilation.
 
-    python3 tests/damaged-guard/changed_rules.py LIBRARY [NUMBER ..]
+    python3 tests/strength/changed_rules.py LIBRARY [NUMBER ..]
 """
 import pathlib
 import re
@@ -161,9 +161,8 @@ CHANGES = {
 def difference(library, name, old, new):
     """What the test says of the change, or None if it finds nothing."""
     shutil.rmtree(WORK, ignore_errors=True)
-    for part in ("tests/outside", "include"):
+    for part in ("tests/outside", "tests/reference", "include"):
         shutil.copytree(ROOT / part, WORK / part)
-    shutil.copy(ROOT / "tests/reference_group.hpp", WORK / "tests")
     path = WORK / "tests/outside" / name
     text = path.read_text()
     if old not in text:

@@ -3,7 +3,7 @@
 It is written from the words of the specification alone, apart from the engine,
 so that the two can be compared line by line. Quoted words are the specification's.
 
-    python3 tests/reference.py < script > replies
+    python3 tests/reference/reference.py < script > replies
 
 A view is a pair (identifier, set); a set is a number, bit 0 for member 0.
 A queue entry is a pair (sender, message); a message is one of
