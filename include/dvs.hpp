@@ -8,7 +8,7 @@
 //   auto started = book.start(5, dvs::Set::below(5), dvs::Member{2});         // member 2 of 5, all in the first view
 //   if (!started) log(dvs::text(started.refusal()));
 //   auto joined = book.join({dvs::Identifier{1}, dvs::Set{0b111}});           // the carrier gave a view
-//   while (auto packet = book.pass()) my_carrier.post(packet->bytes());       // what is to go over the line
+//   while (auto message = book.pass()) my_carrier.post(message->bytes());     // what is to go over the line
 //   auto taken = book.deliver(bytes, dvs::Member{0});                         // what came over it, in the view's order
 //   if (auto event = book.attempt()) work_in(event->view, event->set);        // the view is now the primary one
 #ifndef DVS_HPP
@@ -44,12 +44,12 @@ inline Result<std::size_t> write(const Message &message, MutableBytes buffer) no
   return static_cast<std::size_t>(detail::get(length, 0, length.size()));
 }
 
-inline Result<Packet> write(const Message &message) noexcept {
-  Packet packet;
-  const Result<std::size_t> length = write(message, packet.places);
+inline Result<MessageBytes> write(const Message &message) noexcept {
+  MessageBytes written;
+  const Result<std::size_t> length = write(message, written.places);
   if (!length) return length.refusal();
-  packet.length = *length;
-  return packet;
+  written.length = *length;
+  return written;
 }
 
 // ---- the member by itself
@@ -98,12 +98,12 @@ class Book {
   // The carrier gave a view.
   Result<void> join(View view) noexcept { return refused(dvs_join(data(), size(), number(view.identifier), view.set.bits)); }
   // The first outgoing message, as bytes for the carrier; Refusal::none_outgoing when there is no more.
-  Result<Packet> pass() noexcept {
-    Packet packet;
-    const Result<std::size_t> length = pass(packet.places);
+  Result<MessageBytes> pass() noexcept {
+    MessageBytes passed;
+    const Result<std::size_t> length = pass(passed.places);
     if (!length) return length.refusal();
-    packet.length = *length;
-    return packet;
+    passed.length = *length;
+    return passed;
   }
   // The same into a buffer of the host's; gives the length.
   Result<std::size_t> pass(MutableBytes buffer) noexcept {

@@ -346,7 +346,7 @@ struct Message {
 };
 
 // A message's bytes as they go over the line.
-struct Packet {
+struct MessageBytes {
   std::array<std::uint8_t, DVS_LONGEST> places{};
   std::size_t length = 0;
 

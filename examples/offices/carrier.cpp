@@ -55,8 +55,8 @@ void Carrier::weather(unsigned lost, unsigned late) {
 
 void Carrier::hold(dvs::Member office, bool held) { seat(office).held = held; }
 
-void Carrier::post(dvs::Member office, const dvs::Packet &packet) {
-  channels_[*seat(office).view].waiting[dvs::number(office)].push_back(packet);
+void Carrier::post(dvs::Member office, const dvs::MessageBytes &message) {
+  channels_[*seat(office).view].waiting[dvs::number(office)].push_back(message);
 }
 
 bool Carrier::reaches_keeper(dvs::Member office, const Channel &channel) const {
@@ -68,7 +68,7 @@ bool Carrier::reaches_keeper(dvs::Member office, const Channel &channel) const {
 void Carrier::carry() {
   for (auto &[identifier, channel] : channels_) {
     for (dvs::Member office : everyone()) {
-      std::deque<dvs::Packet> &waiting = channel.waiting[dvs::number(office)];
+      std::deque<dvs::MessageBytes> &waiting = channel.waiting[dvs::number(office)];
       if (waiting.empty() || channel.order.size() == DVS_ORDERED || !reaches_keeper(office, channel)) continue;
       if (chance_.percent(percent_lost_)) {
         ++lost_;

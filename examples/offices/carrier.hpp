@@ -28,7 +28,7 @@ class Chance {
 
 struct Letter {
   dvs::Member sender{};
-  dvs::Packet packet;
+  dvs::MessageBytes message;
 };
 
 class Carrier {
@@ -47,7 +47,7 @@ class Carrier {
   void hold(dvs::Member office, bool held);
 
   // A message of the office in its view.
-  void post(dvs::Member office, const dvs::Packet &packet);
+  void post(dvs::Member office, const dvs::MessageBytes &message);
   // One try for the first message of every office, from the office to the one that keeps the view's order.
   void carry();
   // The next message of the order, from there to the office, if it comes through now; or one of an earlier view that comes too late.
@@ -63,7 +63,7 @@ class Carrier {
  private:
   struct Channel {
     dvs::View view;
-    std::array<std::deque<dvs::Packet>, kOffices> waiting;
+    std::array<std::deque<dvs::MessageBytes>, kOffices> waiting;
     std::vector<Letter> order;
   };
   struct Seat {

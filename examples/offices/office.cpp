@@ -33,8 +33,8 @@ bool Office::turn(Carrier &carrier, Watch &watch) {
   }
   moved |= report_safe(watch);
   moved |= book_.collect().accepted();
-  while (const auto packet = book_.pass()) {
-    carrier.post(own_, *packet);
+  while (const auto message = book_.pass()) {
+    carrier.post(own_, *message);
     moved = true;
   }
   return moved;
@@ -46,7 +46,7 @@ bool Office::take(Carrier &carrier) {
   for (int i = 0; i < 2; ++i) {
     const std::optional<Letter> letter = carrier.take(own_);
     if (!letter) break;
-    const dvs::Result<void> taken = book_.deliver(letter->packet.bytes(), letter->sender);
+    const dvs::Result<void> taken = book_.deliver(letter->message.bytes(), letter->sender);
     expect(taken || taken.refusal() == dvs::Refusal::another_view, "what the carrier brings is taken, or was sent in another view");
     if (taken) took = true;
     else ++tally_.too_late;

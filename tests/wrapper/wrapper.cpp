@@ -62,9 +62,9 @@ void messages() {
   dvs::Message longest{dvs::MessageKind::info, Identifier{0x01020304}, 0, {}};
   for (std::uint32_t i = 0; i < DVS_VIEWS; ++i) EXPECT(longest.views.push_back({Identifier{i}, Set{1}}));
   EXPECT(!longest.views.push_back({Identifier{99}, Set{1}}));
-  const auto packet = dvs::write(longest);
-  EXPECT(packet && packet->length == DVS_LONGEST);
-  const auto back = dvs::read(packet->bytes());
+  const auto written = dvs::write(longest);
+  EXPECT(written && written->length == DVS_LONGEST);
+  const auto back = dvs::read(written->bytes());
   EXPECT(back && back->view == longest.view && back->record() == longest.record());
 
   const dvs::Message client{dvs::MessageKind::client, Identifier{5}, 0x0102030405060708u, {}};
@@ -89,7 +89,7 @@ void books() {
   std::array<dvs::Book, 5> book;
   for (std::uint32_t i = 0; i < 5; ++i) EXPECT(book[i].start(5, Set{31}, Member{i}).accepted());
   const auto form = [&](dvs::View view) {
-    std::vector<std::pair<Member, dvs::Packet>> order;
+    std::vector<std::pair<Member, dvs::MessageBytes>> order;
     for (std::uint32_t i = 0; i < 5; ++i) {
       if (!view.set.has(Member{i})) continue;
       EXPECT(book[i].join(view).accepted());
