@@ -4,8 +4,8 @@
  * The library keeps no memory of its own, calls nothing but C's memcpy, memmove and memset, and never blocks; some 5 KB of stack are enough. The host
  * lends byte ranges, each as a pointer and a length in bytes, and gives plain numbers. A call answers any bytes, any lengths and any numbers:
  *
- *   0            accepted: the lent ranges are what the step makes of them;
- *   1 to 43      refused by one number (DVS_REFUSED_...), and every lent byte is as it was.
+ *   0                   accepted: the lent ranges are what the step makes of them;
+ *   1 to DVS_REFUSALS   refused by one number (DVS_REFUSED_...), and every lent byte is as it was.
  *
  * What is asked of the host is what C asks of it: a pointer is good for its length (it may be null where the length is 0), the ranges of one call do
  * not overlap, and no two threads use one range at a time.
@@ -105,49 +105,51 @@ extern "C" {
 /* ---- refusals; docs/REFUSALS.md has a section for each */
 
 #define DVS_ACCEPTED 0u
-#define DVS_REFUSED_MEMBERS_OUT_OF_RANGE 1u
-#define DVS_REFUSED_FIRST_SET_UNFIT 2u
-#define DVS_REFUSED_LIST_LENGTH 3u
-#define DVS_REFUSED_RECORDS_UNSOUND 4u
-#define DVS_REFUSED_UNKNOWN_STEP 5u
-#define DVS_REFUSED_NO_SUCH_MEMBER 6u
-#define DVS_REFUSED_SET_UNFIT 7u
-#define DVS_REFUSED_IDENTIFIER_NOT_ABOVE 8u
-#define DVS_REFUSED_LIST_FULL 9u
-#define DVS_REFUSED_NO_SUCH_VIEW 10u
-#define DVS_REFUSED_NOT_IN_SET 11u
-#define DVS_REFUSED_NOT_ABOVE_CARRIER 12u
-#define DVS_REFUSED_NO_CARRIER_VIEW 13u
-#define DVS_REFUSED_NONE_OUTGOING 14u
-#define DVS_REFUSED_WAITING_FULL 15u
-#define DVS_REFUSED_ORDER_FULL 16u
-#define DVS_REFUSED_NONE_WAITING 17u
-#define DVS_REFUSED_NONE_TO_DELIVER 18u
-#define DVS_REFUSED_NOT_ABOVE_CLIENT 19u
-#define DVS_REFUSED_INFO_MISSING 20u
-#define DVS_REFUSED_TEST_FAILED 21u
-#define DVS_REFUSED_NO_CLIENT_VIEW 22u
-#define DVS_REFUSED_ALREADY_REGISTERED 23u
-#define DVS_REFUSED_OUTGOING_FULL 24u
-#define DVS_REFUSED_NONE_TO_HAND 25u
-#define DVS_REFUSED_CLIENT_NOT_CARRIER 26u
-#define DVS_REFUSED_NOTHING_NEW_TO_TELL 27u
-#define DVS_REFUSED_NONE_TO_REPORT 28u
-#define DVS_REFUSED_TOLD_TOO_LOW 29u
-#define DVS_REFUSED_NOT_ABOVE_SETTLED 30u
-#define DVS_REFUSED_REGISTRATION_MISSING 31u
-#define DVS_REFUSED_ENDS_EARLY 32u
-#define DVS_REFUSED_UNKNOWN_KIND 33u
-#define DVS_REFUSED_SECTION_COUNT 34u
-#define DVS_REFUSED_EMPTY_SET 35u
-#define DVS_REFUSED_NOT_RISING 36u
-#define DVS_REFUSED_TOLD_OUT_OF_RANGE 37u
-#define DVS_REFUSED_BYTES_LEFT_OVER 38u
-#define DVS_REFUSED_BUFFER_TOO_SHORT 39u
-#define DVS_REFUSED_LINE_UNREADABLE 40u /* of the bench alone */
-#define DVS_REFUSED_ANOTHER_VIEW 41u
-#define DVS_REFUSED_SENDER_NOT_IN_VIEW 42u
-#define DVS_REFUSED_TOO_MANY_OPEN 43u
+#define DVS_REFUSED_MEMBERS_OUT_OF_RANGE 1u  /* the number of members is not 1 to 8 */
+#define DVS_REFUSED_FIRST_SET_UNFIT 2u       /* the first set is empty or beyond the members */
+#define DVS_REFUSED_LIST_LENGTH 3u           /* the list does not have room for 1 to 32 views */
+#define DVS_REFUSED_RECORDS_UNSOUND 4u       /* the lent bytes are no sound record, or not of their length */
+#define DVS_REFUSED_UNKNOWN_STEP 5u          /* there is no step of this kind */
+#define DVS_REFUSED_NO_SUCH_MEMBER 6u        /* there is no such member */
+#define DVS_REFUSED_SET_UNFIT 7u             /* a set is empty or beyond the members */
+#define DVS_REFUSED_IDENTIFIER_NOT_ABOVE 8u  /* the identifier is not above all made before */
+#define DVS_REFUSED_LIST_FULL 9u             /* the list of views is full */
+#define DVS_REFUSED_NO_SUCH_VIEW 10u         /* there is no such view */
+#define DVS_REFUSED_NOT_IN_SET 11u           /* the member is not in the view */
+#define DVS_REFUSED_NOT_ABOVE_CARRIER 12u    /* the view is not above the carrier view */
+#define DVS_REFUSED_NO_CARRIER_VIEW 13u      /* the member has no carrier view */
+#define DVS_REFUSED_NONE_OUTGOING 14u        /* no message is outgoing */
+#define DVS_REFUSED_WAITING_FULL 15u         /* 8 messages of the member wait in the view already */
+#define DVS_REFUSED_ORDER_FULL 16u           /* the view's order has its 128 messages */
+#define DVS_REFUSED_NONE_WAITING 17u         /* no message of the member waits in the view */
+#define DVS_REFUSED_NONE_TO_DELIVER 18u      /* the member has taken every message of the view */
+#define DVS_REFUSED_NOT_ABOVE_CLIENT 19u     /* the carrier view is not above the client view */
+#define DVS_REFUSED_INFO_MISSING 20u         /* the info of a member of the view is missing */
+#define DVS_REFUSED_TEST_FAILED 21u          /* the view has no majority of a view that is held */
+#define DVS_REFUSED_NO_CLIENT_VIEW 22u       /* the member has no client view */
+#define DVS_REFUSED_ALREADY_REGISTERED 23u   /* the client has registered in this view already */
+#define DVS_REFUSED_OUTGOING_FULL 24u        /* 16 messages are outgoing already */
+#define DVS_REFUSED_NONE_TO_HAND 25u         /* every entry taken was handed out */
+#define DVS_REFUSED_CLIENT_NOT_CARRIER 26u   /* the client view is not the carrier view */
+#define DVS_REFUSED_NOTHING_NEW_TO_TELL 27u  /* nothing was handed out since the last count told */
+#define DVS_REFUSED_NONE_TO_REPORT 28u       /* every entry handed out was reported safe */
+#define DVS_REFUSED_TOLD_TOO_LOW 29u         /* a member has not told that its client has the entry */
+#define DVS_REFUSED_NOT_ABOVE_SETTLED 30u    /* the carrier view is not above the settled view */
+#define DVS_REFUSED_REGISTRATION_MISSING 31u /* the registration of a member of the view is missing */
+#define DVS_REFUSED_ENDS_EARLY 32u           /* the message ends early */
+#define DVS_REFUSED_UNKNOWN_KIND 33u         /* there is no message of this kind */
+#define DVS_REFUSED_SECTION_COUNT 34u        /* a section of the message has a wrong count */
+#define DVS_REFUSED_EMPTY_SET 35u            /* a view in the message has an empty set */
+#define DVS_REFUSED_NOT_RISING 36u           /* the identifiers in the message do not rise */
+#define DVS_REFUSED_TOLD_OUT_OF_RANGE 37u    /* the count told is not 1 to 128 */
+#define DVS_REFUSED_BYTES_LEFT_OVER 38u      /* bytes are left over behind the message */
+#define DVS_REFUSED_BUFFER_TOO_SHORT 39u     /* the buffer is too short for the message */
+#define DVS_REFUSED_LINE_UNREADABLE 40u      /* the bench cannot read the line */
+#define DVS_REFUSED_ANOTHER_VIEW 41u         /* the message was sent in another view */
+#define DVS_REFUSED_SENDER_NOT_IN_VIEW 42u   /* the sender is not in the view */
+#define DVS_REFUSED_TOO_MANY_OPEN 43u        /* more than 31 views would be open */
+
+#define DVS_REFUSALS 43u /* how many there are: the highest number */
 
 /*
  * ---- the member by itself: one office's part, over a carrier of the host's own

@@ -110,7 +110,7 @@ constexpr const char *text(Refusal refusal) noexcept {
     case Refusal::none: return "accepted";
     case Refusal::members_out_of_range: return "the number of members is not 1 to 8";
     case Refusal::first_set_unfit: return "the first set is empty or beyond the members";
-    case Refusal::list_length: return "the list has not room for 1 to 32 views";
+    case Refusal::list_length: return "the list does not have room for 1 to 32 views";
     case Refusal::records_unsound: return "the lent bytes are no sound record, or not of their length";
     case Refusal::unknown_step: return "there is no step of this kind";
     case Refusal::no_such_member: return "there is no such member";
@@ -147,7 +147,7 @@ constexpr const char *text(Refusal refusal) noexcept {
     case Refusal::told_out_of_range: return "the count told is not 1 to 128";
     case Refusal::bytes_left_over: return "bytes are left over behind the message";
     case Refusal::buffer_too_short: return "the buffer is too short for the message";
-    case Refusal::line_unreadable: return "the line is unreadable";
+    case Refusal::line_unreadable: return "the bench cannot read the line";
     case Refusal::another_view: return "the message was sent in another view";
     case Refusal::sender_not_in_view: return "the sender is not in the view";
     case Refusal::too_many_open: return "more than 31 views would be open";

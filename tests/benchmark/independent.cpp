@@ -64,8 +64,8 @@ uint32_t group_step(uint8_t* list, size_t list_size, uint8_t* books, size_t book
 }
 
 template <class Do> uint32_t Kept::step(Do what) {
-  if (m_.opens > kOpen || m_.outgoings > kOutgoing || m_.side > 1) return kUnsound;
-  if (m_.inward[0].count > kOrdered || m_.inward[1].count > kOrdered) return kUnsound;
+  if (m_.opens > kOpen || m_.outgoings > kOutgoing || m_.side > 1) return kRecordsUnsound;
+  if (m_.inward[0].count > kOrdered || m_.inward[1].count > kOrdered) return kRecordsUnsound;
   Refusal r = m_.admit();
   return r ? r : what();
 }

@@ -7,27 +7,27 @@
 namespace plain {
 
 inline Refusal start_refusal(uint32_t members, uint32_t first_set, uint32_t own) {
-  if (members < 1 || members > kMembers) return kBadMembers;
-  if (!set_fits(first_set, members)) return kBadFirstSet;
-  return own < members ? kAccepted : kBadMember;
+  if (members < 1 || members > kMembers) return kMembersOutOfRange;
+  if (!set_fits(first_set, members)) return kFirstSetUnfit;
+  return own < members ? kAccepted : kNoSuchMember;
 }
 
 // A book as plain data, with the calls that set the member by itself apart from a group's.
 struct ByItself : Member {
   // 4, of what the book's bytes mean, and 6: before anything else of a call.
   Refusal admit() const {
-    if (members < 1 || members > kMembers || !sound(Setting{members}, kOrdered)) return kUnsound;
-    return own < members ? kAccepted : kBadMember;
+    if (members < 1 || members > kMembers || !sound(Setting{members}, kOrdered)) return kRecordsUnsound;
+    return own < members ? kAccepted : kNoSuchMember;
   }
 
   Refusal join(uint32_t view, uint32_t set) {
-    if (!set_fits(set, members)) return kBadSet;
-    if (!(set >> own & 1)) return kNotInView;
+    if (!set_fits(set, members)) return kSetUnfit;
+    if (!(set >> own & 1)) return kNotInSet;
     return Member::join(View{view, static_cast<uint8_t>(set)});
   }
 
   Refusal pass(Range buffer, uint32_t& size) {
-    if (!has_carrier) return kNoCarrier;
+    if (!has_carrier) return kNoCarrierView;
     if (outgoings == 0) return kNoneOutgoing;
     Message message = outgoing[0].message(carrier.id);
     if (Refusal r = write(message, buffer.at, buffer.size)) return r;
@@ -37,11 +37,11 @@ struct ByItself : Member {
   }
 
   Refusal deliver(const uint8_t* bytes, size_t size, uint32_t sender) {
-    if (!has_carrier) return kNoCarrier;
+    if (!has_carrier) return kNoCarrierView;
     Message message;
     if (Refusal r = read(bytes, size, message)) return r;
     for (unsigned i = 0; i < message.count; ++i)
-      if (!set_fits(message.views[i].set, members)) return kBadSet;
+      if (!set_fits(message.views[i].set, members)) return kSetUnfit;
     if (message.view != carrier.id) return kAnotherView;
     if (sender >= kMembers || !(carrier.set >> sender & 1)) return kSenderNotInView;
     if (taken >= kOrdered) return kOrderFull;
@@ -55,7 +55,7 @@ class Alone {
   ByItself m_;
 
   template <class Do> Refusal change(Do what) {
-    if (book_.size != kBookSize || !load(book_.at, m_)) return kUnsound;
+    if (book_.size != kBookSize || !load(book_.at, m_)) return kRecordsUnsound;
     Refusal r = m_.admit();
     if (r == kAccepted) r = what();
     if (r == kAccepted) store(m_, book_.at);
@@ -63,7 +63,7 @@ class Alone {
   }
 
   template <class Do> Refusal show(Range event, Do what) {
-    if (event.size != kEventSize) return kUnsound;
+    if (event.size != kEventSize) return kRecordsUnsound;
     Event e;
     Refusal r = change([&] { return what(e); });
     if (r == kAccepted) e.store(event.at);
@@ -74,14 +74,14 @@ class Alone {
   explicit Alone(Range book) : book_(book) {}
 
   Refusal start(uint32_t members, uint32_t first_set, uint32_t own) {
-    if (book_.size != kBookSize) return kUnsound;
+    if (book_.size != kBookSize) return kRecordsUnsound;
     if (Refusal r = start_refusal(members, first_set, own)) return r;
     store_fresh(book_.at, members, static_cast<uint8_t>(first_set), own);
     return kAccepted;
   }
 
   Refusal pass(Range buffer, Range length) {
-    if (length.size != kLengthSize) return kUnsound;
+    if (length.size != kLengthSize) return kRecordsUnsound;
     uint32_t size = 0;
     Refusal r = change([&] { return m_.pass(buffer, size); });
     if (r == kAccepted) put(length.at, kLengthSize, size);

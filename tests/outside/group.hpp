@@ -68,7 +68,7 @@ class Group {
   }
 
   Refusal create(uint64_t id, uint64_t set) {
-    if (!set_fits(set, members())) return kBadSet;
+    if (!set_fits(set, members())) return kSetUnfit;
     if (id <= view(made() - 1).id) return kIdentifierNotAbove;
     if (made() == room()) return kListFull;
     put_view(list_.at + kViewSize * made(), View{static_cast<uint32_t>(id), static_cast<uint8_t>(set)});
@@ -81,12 +81,12 @@ class Group {
   Refusal join(unsigned p, uint64_t id) {
     unsigned i = find(id);
     if (i == made()) return kNoSuchView;
-    if (!(view(i).set >> p & 1)) return kNotInView;
+    if (!(view(i).set >> p & 1)) return kNotInSet;
     return m_.join(view(i));
   }
 
   Refusal pass(unsigned p) {
-    if (!m_.has_carrier) return kNoCarrier;
+    if (!m_.has_carrier) return kNoCarrierView;
     if (m_.outgoings == 0) return kNoneOutgoing;
     Queue to = waiting(find(m_.carrier.id), p);
     if (to.count() == kWaiting) return kWaitingFull;
@@ -107,9 +107,9 @@ class Group {
   }
 
   Refusal deliver() {
-    if (!m_.has_carrier) return kNoCarrier;
+    if (!m_.has_carrier) return kNoCarrierView;
     Queue from = order(find(m_.carrier.id));
-    if (m_.taken == from.count()) return kNoneLeft;
+    if (m_.taken == from.count()) return kNoneToDeliver;
     const Slot& e = from.slots()[m_.taken];
     return m_.take(e.message(m_.carrier.id), e.sender());
   }
@@ -134,10 +134,10 @@ class Group {
   Group(Range list, Range books, Range queues) : list_(list), books_(books), queues_(queues) {}
 
   Refusal start(uint32_t members, uint32_t first_set) {
-    if (!lengths()) return kUnsound;
-    if (members < 1 || members > kMembers) return kBadMembers;
-    if (!set_fits(first_set, members)) return kBadFirstSet;
-    if (room() < 1 || room() > kViews) return kBadListLength;
+    if (!lengths()) return kRecordsUnsound;
+    if (members < 1 || members > kMembers) return kMembersOutOfRange;
+    if (!set_fits(first_set, members)) return kFirstSetUnfit;
+    if (room() < 1 || room() > kViews) return kListLength;
     memset(list_.at, 0, list_.size);
     memset(books_.at, 0, books_.size);
     memset(queues_.at, 0, queues_.size);
@@ -148,14 +148,14 @@ class Group {
   }
 
   Refusal step(uint32_t kind, uint32_t first, uint64_t second, Range event) {
-    if (event.size != kEventSize || !sound()) return kUnsound;
-    if (kind < kCreate || kind > kCollect) return kBadKind;
+    if (event.size != kEventSize || !sound()) return kRecordsUnsound;
+    if (kind < kCreate || kind > kCollect) return kUnknownStep;
     Event e;
     Refusal r;
     if (kind == kCreate) {
       r = create(first, second);
     } else {
-      if (first >= members()) return kBadMember;
+      if (first >= members()) return kNoSuchMember;
       load(book(first), m_);
       r = member_step(kind, first, second, e);
       if (r == kAccepted) store(m_, book(first));

@@ -177,7 +177,7 @@ class GroupCases {
     for (unsigned n = 0; n < length; ++n) {
       unsigned which = 0, at = r.below(sum);
       while (at >= weights[style][which]) at -= weights[style][which++];
-      if (step(r, which + 1, wide) == plain::kUnsound) return;
+      if (step(r, which + 1, wide) == plain::kRecordsUnsound) return;
       if (r.chance(40)) flow(r);
       if (r.chance(60)) together(r);
       if (r.chance(40)) damaged(r);
@@ -192,7 +192,7 @@ class GroupCases {
     random_group(r, list_.range(), books_.range(), queues_.range());
     for (Lent* lent : {&list_, &books_, &queues_}) lent->copy_to_theirs();
     for (unsigned n = r.between(10, 60); n > 0; --n) {
-      if (step(r, r.between(1, 12), true) == plain::kUnsound) return;
+      if (step(r, r.between(1, 12), true) == plain::kRecordsUnsound) return;
       if (r.chance(500)) damaged(r);
     }
   }

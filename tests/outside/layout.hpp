@@ -32,14 +32,8 @@ constexpr size_t kRecordKind = 0, kRecordView = 1, kRecordNumber = 5, kRecordCou
 
 // The refusals, numbered as in document 01's table.
 enum Refusal : uint32_t {
-  kAccepted = 0, kBadMembers = 1, kBadFirstSet = 2, kBadListLength = 3, kUnsound = 4, kBadKind = 5, kBadMember = 6,
-  kBadSet = 7, kIdentifierNotAbove = 8, kListFull = 9, kNoSuchView = 10, kNotInView = 11, kNotAboveCarrier = 12,
-  kNoCarrier = 13, kNoneOutgoing = 14, kWaitingFull = 15, kOrderFull = 16, kNoneWaiting = 17, kNoneLeft = 18,
-  kNotAboveClient = 19, kInfoMissing = 20, kTestFailed = 21, kNoClient = 22, kRegisteredAlready = 23,
-  kOutgoingFull = 24, kNoneToHand = 25, kClientNotCarrier = 26, kToldAlready = 27, kNoneToReport = 28,
-  kToldTooLow = 29, kNotAboveSettled = 30, kRegistrationMissing = 31, kEndsEarly = 32, kUnknownMessage = 33,
-  kSectionCount = 34, kEmptySet = 35, kNotRising = 36, kToldOutOfRange = 37, kLeftOver = 38, kTooShort = 39,
-  kUnreadable = 40, kAnotherView = 41, kSenderNotInView = 42, kTooManyOpen = 43
+  kAccepted = 0,
+#include "../reference/refusals.inc"
 };
 
 enum MessageKind : uint8_t { kClient = 1, kInfo = 2, kRegistered = 3, kTold = 4 };

@@ -174,7 +174,7 @@ struct Member {
   }
 
   Refusal attempt(Event& e) {
-    if (!has_carrier) return kNoCarrier;
+    if (!has_carrier) return kNoCarrierView;
     if (has_client && carrier.id <= client.id) return kNotAboveClient;
     if (carrier.set & ~infos) return kInfoMissing;
     bool passes = majority(carrier.set, settled.set);
@@ -196,8 +196,8 @@ struct Member {
   }
 
   Refusal enroll(Event& e) {
-    if (!has_client) return kNoClient;
-    if (registered) return kRegisteredAlready;
+    if (!has_client) return kNoClientView;
+    if (registered) return kAlreadyRegistered;
     if (in_step() && outgoings == kOutgoing) return kOutgoingFull;
     Message m;
     m.kind = kRegistered;
@@ -208,7 +208,7 @@ struct Member {
   }
 
   Refusal send(uint64_t entry, Event& e) {
-    if (!has_client) return kNoClient;
+    if (!has_client) return kNoClientView;
     if (in_step() && outgoings == kOutgoing) return kOutgoingFull;
     Message m;
     m.kind = kClient, m.number = entry;
@@ -218,7 +218,7 @@ struct Member {
   }
 
   Refusal hand(Event& e) {
-    if (!has_client) return kNoClient;
+    if (!has_client) return kNoClientView;
     if (handed >= mine().count) return kNoneToHand;
     const Item& item = mine().items[handed++];
     e.kind = kHand, e.member = own, e.view = client.id, e.sender = item.sender, e.entry = item.number;
@@ -226,9 +226,9 @@ struct Member {
   }
 
   Refusal tell() {
-    if (!has_client) return kNoClient;
+    if (!has_client) return kNoClientView;
     if (!in_step()) return kClientNotCarrier;
-    if (handed == 0 || handed == told) return kToldAlready;
+    if (handed == 0 || handed == told) return kNothingNewToTell;
     if (outgoings == kOutgoing) return kOutgoingFull;
     Message m;
     m.kind = kTold, m.number = handed;
@@ -238,7 +238,7 @@ struct Member {
   }
 
   Refusal safe(Event& e) {
-    if (!has_client) return kNoClient;
+    if (!has_client) return kNoClientView;
     if (!in_step()) return kClientNotCarrier;
     if (reported >= handed) return kNoneToReport;
     for (unsigned q = 0; q < members; ++q)
@@ -249,7 +249,7 @@ struct Member {
   }
 
   Refusal collect() {
-    if (!has_carrier) return kNoCarrier;
+    if (!has_carrier) return kNoCarrierView;
     if (carrier.id <= settled.id) return kNotAboveSettled;
     if (carrier.set & ~registrations) return kRegistrationMissing;
     settled = carrier;

@@ -95,7 +95,7 @@ class MemberCases {
     for (unsigned n = r.between(0, 4); n > 0; --n) {
       damage_book(r, probe_);
       for (unsigned k = r.between(1, 3); k > 0; --k)
-        if (any_call(r, probe_) == plain::kUnsound) break;
+        if (any_call(r, probe_) == plain::kRecordsUnsound) break;
     }
   }
 
@@ -197,7 +197,7 @@ class MemberCases {
     for (unsigned n = r.between(1, 3); n > 0; --n) {
       damage_book(r, probe_);
       for (unsigned k = r.between(1, 3); k > 0; --k)
-        if (any_call(r, probe_) == plain::kUnsound) return;
+        if (any_call(r, probe_) == plain::kRecordsUnsound) return;
     }
   }
 };

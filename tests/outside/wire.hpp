@@ -37,7 +37,7 @@ inline Refusal read(const uint8_t* bytes, size_t size, Message& m) {
   m = Message();
   if (!left(1)) return kEndsEarly;
   m.kind = bytes[at++];
-  if (m.kind < 1 || m.kind > 4) return kUnknownMessage;
+  if (m.kind < 1 || m.kind > 4) return kUnknownKind;
   if (!left(4)) return kEndsEarly;
   m.view = static_cast<uint32_t>(get(bytes + at, 4));
   at += 4;
@@ -56,7 +56,7 @@ inline Refusal read(const uint8_t* bytes, size_t size, Message& m) {
     at += 8;
   }
   if (Refusal r = content(m)) return r;
-  return at == size ? kAccepted : kLeftOver;
+  return at == size ? kAccepted : kBytesLeftOver;
 }
 
 inline size_t length(const Message& m) { return 7 + kViewSize * m.count + 8 * numbers_of(m.kind); }
@@ -73,10 +73,10 @@ inline void encode(const Message& m, uint8_t* buffer) {
 
 // Writes a message to the front of a buffer; what lies behind it stays.
 inline Refusal write(const Message& m, uint8_t* buffer, size_t size) {
-  if (m.kind < 1 || m.kind > 4) return kUnknownMessage;
+  if (m.kind < 1 || m.kind > 4) return kUnknownKind;
   if (!views_fit(m.kind, m.count)) return kSectionCount;
   if (Refusal r = content(m)) return r;
-  if (size < length(m)) return kTooShort;
+  if (size < length(m)) return kBufferTooShort;
   encode(m, buffer);
   return kAccepted;
 }
@@ -106,14 +106,14 @@ inline Message load_record(const uint8_t* record) {
 // Reader and writer as a host calls them, with lent records and lengths of any size.
 inline Refusal read_record(const uint8_t* bytes, size_t size, Range record) {
   Message m;
-  if (record.size != kRecordSize) return kUnsound;
+  if (record.size != kRecordSize) return kRecordsUnsound;
   if (Refusal r = read(bytes, size, m)) return r;
   store_record(m, record.at);
   return kAccepted;
 }
 
 inline Refusal write_record(const uint8_t* record, size_t record_size, Range buffer, Range len) {
-  if (record_size != kRecordSize || len.size != kLengthSize) return kUnsound;
+  if (record_size != kRecordSize || len.size != kLengthSize) return kRecordsUnsound;
   Message m = load_record(record);
   if (Refusal r = write(m, buffer.at, buffer.size)) return r;
   put(len.at, kLengthSize, length(m));

@@ -6,7 +6,7 @@ what Member.faulty finds in what they do mean.
 """
 
 from member_reference import (
-    BOOK_FAULTY,
+    RECORDS_UNSOUND,
     MOST_IN_INFO,
     MOST_MEMBERS,
     MOST_OPEN,
@@ -62,12 +62,12 @@ class Reading:
 
     def mark(self, at):
         value = self.number(at)
-        refuse_if(value > 1, BOOK_FAULTY)
+        refuse_if(value > 1, RECORDS_UNSOUND)
         return value == 1
 
     def count(self, at, limit):
         value = self.number(at)
-        refuse_if(value > limit, BOOK_FAULTY)
+        refuse_if(value > limit, RECORDS_UNSOUND)
         return value
 
     def view(self, at):
@@ -83,12 +83,12 @@ class Reading:
     def entry(self, at):
         sender = self.number(at + ENTRY_SENDER)
         kind = self.number(at + ENTRY_KIND)
-        refuse_if(kind not in KINDS, BOOK_FAULTY)
+        refuse_if(kind not in KINDS, RECORDS_UNSOUND)
         name = KINDS[kind]
         if name == "info":
             views = self.views(at + ENTRY_VIEWS, MOST_IN_INFO)
             # An info carries its settled view at the least.
-            refuse_if(views == [], BOOK_FAULTY)
+            refuse_if(views == [], RECORDS_UNSOUND)
             return sender, ("info", views[0], views[1:])
         if name == "registered":
             return sender, ("registered",)
@@ -100,7 +100,7 @@ class Reading:
         return [(self.number(place), self.number(place + 1, 8)) for place in places]
 
     def member(self):
-        refuse_if(len(self.data) != SIZE, BOOK_FAULTY)
+        refuse_if(len(self.data) != SIZE, RECORDS_UNSOUND)
         m = Member()
         m.members = self.number(MEMBERS)
         m.own = self.number(OWN)

@@ -19,12 +19,12 @@ refusals' numbers, which both references share, in refusals.py.
 import sys
 
 from refusals import (
-    MEMBERS_NOT_1_TO_8, FIRST_SET_BAD, BOOK_FAULTY, NO_SUCH_MEMBER, SET_BAD, NOT_IN_ITS_SET, NOT_ABOVE_CARRIER,
-    NO_CARRIER_VIEW, NONE_OUTGOING, TAKEN_128, NOT_ABOVE_CLIENT, INFO_MISSING, TEST_FAILED, NO_CLIENT_VIEW,
-    REGISTERED_ALREADY, OUTGOING_FULL, NONE_LEFT_TO_HAND, CLIENT_IS_NOT_CARRIER, NOTHING_NEW_TO_TELL, NONE_UNREPORTED,
-    TOLD_TOO_LOW, NOT_ABOVE_SETTLED, REGISTRATION_MISSING, BYTES_END_EARLY, MESSAGE_KIND, SECTION_COUNT, EMPTY_SET,
-    IDENTIFIERS_NOT_RISING, TOLD_NOT_1_TO_128, BYTES_LEFT_OVER, BUFFER_TOO_SHORT, ANOTHER_VIEW, SENDER_NOT_IN_IT,
-    OVER_31_OPEN, Refused, refuse_if,
+    MEMBERS_OUT_OF_RANGE, FIRST_SET_UNFIT, RECORDS_UNSOUND, NO_SUCH_MEMBER, SET_UNFIT, NOT_IN_SET, NOT_ABOVE_CARRIER,
+    NO_CARRIER_VIEW, NONE_OUTGOING, ORDER_FULL, NOT_ABOVE_CLIENT, INFO_MISSING, TEST_FAILED, NO_CLIENT_VIEW,
+    ALREADY_REGISTERED, OUTGOING_FULL, NONE_TO_HAND, CLIENT_NOT_CARRIER, NOTHING_NEW_TO_TELL, NONE_TO_REPORT,
+    TOLD_TOO_LOW, NOT_ABOVE_SETTLED, REGISTRATION_MISSING, ENDS_EARLY, UNKNOWN_KIND, SECTION_COUNT, EMPTY_SET,
+    NOT_RISING, TOLD_OUT_OF_RANGE, BYTES_LEFT_OVER, BUFFER_TOO_SHORT, ANOTHER_VIEW, SENDER_NOT_IN_VIEW,
+    TOO_MANY_OPEN, Refused, refuse_if,
 )
 
 # "Words and bounds"; 31 open is the limit of the member by itself.
@@ -117,7 +117,7 @@ class Bytes:
         self.rest = bytes(data)
 
     def number(self, width):
-        refuse_if(len(self.rest) < width, BYTES_END_EARLY)
+        refuse_if(len(self.rest) < width, ENDS_EARLY)
         taken, self.rest = self.rest[:width], self.rest[width:]
         return int.from_bytes(taken, "big")
 
@@ -127,7 +127,7 @@ def read_message(data):
     bytes come, then 35 to 38"."""
     come = Bytes(data)
     kind = come.number(1)
-    refuse_if(not 1 <= kind <= 4, MESSAGE_KIND)
+    refuse_if(not 1 <= kind <= 4, UNKNOWN_KIND)
     identifier = come.number(4)
     count = come.number(1)
     refuse_if(not (1 <= count <= MOST_IN_INFO if kind == 2 else count == 0), SECTION_COUNT)
@@ -139,8 +139,8 @@ def read_message(data):
     refuse_if(count != (1 if kind in (1, 4) else 0), SECTION_COUNT)
     numbers = [come.number(8) for _ in range(count)]
     refuse_if(any(members_set == 0 for _, members_set in views), EMPTY_SET)
-    refuse_if(not rising(views), IDENTIFIERS_NOT_RISING)
-    refuse_if(kind == 4 and not 1 <= numbers[0] <= MOST_TAKEN, TOLD_NOT_1_TO_128)
+    refuse_if(not rising(views), NOT_RISING)
+    refuse_if(kind == 4 and not 1 <= numbers[0] <= MOST_TAKEN, TOLD_OUT_OF_RANGE)
     refuse_if(come.rest != b"", BYTES_LEFT_OVER)
     if kind == 1:
         return identifier, ("client", numbers[0])
@@ -237,14 +237,14 @@ class Member:
         )
 
     def check_book(self):
-        refuse_if(self.faulty(), BOOK_FAULTY)
+        refuse_if(self.faulty(), RECORDS_UNSOUND)
         refuse_if(self.own >= self.members, NO_SUCH_MEMBER)
 
     # The steps. Each checks in the table's order, then changes.
 
     def start(self, members, first_set, own):
-        refuse_if(not 1 <= members <= MOST_MEMBERS, MEMBERS_NOT_1_TO_8)
-        refuse_if(empty_or_beyond(first_set, members), FIRST_SET_BAD)
+        refuse_if(not 1 <= members <= MOST_MEMBERS, MEMBERS_OUT_OF_RANGE)
+        refuse_if(empty_or_beyond(first_set, members), FIRST_SET_UNFIT)
         refuse_if(own >= members, NO_SUCH_MEMBER)
         self.__init__()
         self.members = members
@@ -261,8 +261,8 @@ class Member:
     def join(self, identifier, members_set):
         self.check_book()
         view = (identifier, members_set)
-        refuse_if(self.set_bad(view), SET_BAD)
-        refuse_if(not in_set(self.own, members_set), NOT_IN_ITS_SET)
+        refuse_if(self.set_bad(view), SET_UNFIT)
+        refuse_if(not in_set(self.own, members_set), NOT_IN_SET)
         refuse_if(not is_above(view, self.carrier), NOT_ABOVE_CARRIER)
         # "it becomes the carrier view"; "The inward list of a carrier view left without
         # an attempt goes."
@@ -293,10 +293,10 @@ class Member:
         refuse_if(self.carrier is None, NO_CARRIER_VIEW)
         identifier, message = read_message(data)
         carried = [message[1]] + message[2] if message[0] == "info" else []
-        refuse_if(any(self.set_bad(view) for view in carried), SET_BAD)
+        refuse_if(any(self.set_bad(view) for view in carried), SET_UNFIT)
         refuse_if(identifier != self.carrier[0], ANOTHER_VIEW)
-        refuse_if(not in_set(sender, self.carrier[1]), SENDER_NOT_IN_IT)
-        refuse_if(self.taken >= MOST_TAKEN, TAKEN_128)
+        refuse_if(not in_set(sender, self.carrier[1]), SENDER_NOT_IN_VIEW)
+        refuse_if(self.taken >= MOST_TAKEN, ORDER_FULL)
         if message[0] == "info":
             self.take_info(sender, message[1], message[2])
         elif message[0] == "registered":
@@ -319,7 +319,7 @@ class Member:
             now_settled = self.settled
         # "open views are both lists together, keeping only those above the settled one"
         now_open = only_above(both_together(self.open, open_views), now_settled)
-        refuse_if(len(now_open) > MOST_OPEN, OVER_31_OPEN)
+        refuse_if(len(now_open) > MOST_OPEN, TOO_MANY_OPEN)
         self.settled = now_settled
         self.open = now_open
         self.infos |= 1 << sender
@@ -335,7 +335,7 @@ class Member:
         # "attempting a view not above its settled one, or whose identifier is open
         # already, opens nothing; 43 is then not given"
         now_open = only_above(both_together(self.open, [self.carrier]), self.settled)
-        refuse_if(len(now_open) > MOST_OPEN, OVER_31_OPEN)
+        refuse_if(len(now_open) > MOST_OPEN, TOO_MANY_OPEN)
         # "the carrier view becomes open and becomes the client view; the old inward
         # list goes"
         self.open = now_open
@@ -365,7 +365,7 @@ class Member:
         """"noted for the client view; outgoing gains a registered message"."""
         self.check_book()
         refuse_if(self.client is None, NO_CLIENT_VIEW)
-        refuse_if(self.registered, REGISTERED_ALREADY)
+        refuse_if(self.registered, ALREADY_REGISTERED)
         self.refuse_if_outgoing_full()
         self.registered = True
         self.queue(("registered",))
@@ -383,7 +383,7 @@ class Member:
         """"the next of the client view's inward list is given out"."""
         self.check_book()
         refuse_if(self.client is None, NO_CLIENT_VIEW)
-        refuse_if(self.handed >= len(self.inward), NONE_LEFT_TO_HAND)
+        refuse_if(self.handed >= len(self.inward), NONE_TO_HAND)
         sender, entry = self.inward[self.handed]
         self.handed += 1
         return line("hand", self.own, self.client[0], sender, entry)
@@ -392,7 +392,7 @@ class Member:
         """"outgoing gains told, with the number handed out in this view"."""
         self.check_book()
         refuse_if(self.client is None, NO_CLIENT_VIEW)
-        refuse_if(not same_view(self.client, self.carrier), CLIENT_IS_NOT_CARRIER)
+        refuse_if(not same_view(self.client, self.carrier), CLIENT_NOT_CARRIER)
         # "count told already, or 0"
         refuse_if(self.handed == 0 or self.handed == self.told, NOTHING_NEW_TO_TELL)
         self.refuse_if_outgoing_full()
@@ -404,8 +404,8 @@ class Member:
         """"the next handed message not yet reported is reported"."""
         self.check_book()
         refuse_if(self.client is None, NO_CLIENT_VIEW)
-        refuse_if(not same_view(self.client, self.carrier), CLIENT_IS_NOT_CARRIER)
-        refuse_if(self.reported >= self.handed, NONE_UNREPORTED)
+        refuse_if(not same_view(self.client, self.carrier), CLIENT_NOT_CARRIER)
+        refuse_if(self.reported >= self.handed, NONE_TO_REPORT)
         # "Safe rests on told counts, the member's own included"
         counts = [self.told_counts[p] for p in members_of(self.client[1])]
         refuse_if(any(count < self.reported + 1 for count in counts), TOLD_TOO_LOW)

@@ -19,7 +19,7 @@ import os
 import sys
 
 from member_layout import SIZE, Reading, to_bytes
-from member_reference import BOOK_FAULTY, OK, Member, Refused, line, refuse_if
+from member_reference import RECORDS_UNSOUND, OK, Member, Refused, line, refuse_if
 
 BOOKS = 4
 MOST_LENT = 5240
@@ -69,7 +69,7 @@ class Lent:
         data = self.bytes_lent()
         try:
             if name == "start":
-                refuse_if(len(data) != SIZE, BOOK_FAULTY)
+                refuse_if(len(data) != SIZE, RECORDS_UNSOUND)
                 m, data = Member(), bytes(SIZE)
             else:
                 m = Reading(data).member()

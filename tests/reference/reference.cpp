@@ -74,7 +74,7 @@ class Output {
   void reply(const Reply& r) {
     static const char* const names[] = {"ok", "attempt", "register", "send", "hand", "safe"};
     room();
-    if (r.refusal != kNone) {
+    if (r.refusal != kAccepted) {
       text("refused"), number(r.refusal);
     } else {
       text(names[r.event]);
@@ -94,10 +94,10 @@ struct Bench {
   void answer(const char* line, size_t size) {
     uint64_t operands[2] = {0, 0};
     const Command* c = size > kLine ? nullptr : parse(line, size, operands);
-    if (!c || (c->kind != 0 && !running)) return out.reply(refuse(kUnreadable));
+    if (!c || (c->kind != 0 && !running)) return out.reply(refuse(kLineUnreadable));
     if (c->kind != 0) return out.reply(group.step(c->kind, operands[0], operands[1]));
     Refusal r = group.start(operands[0], operands[1], kLent);
-    if (r == kNone) running = true;
+    if (r == kAccepted) running = true;
     out.reply(refuse(r));
   }
 };

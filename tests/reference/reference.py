@@ -14,12 +14,12 @@ A queue entry is a pair (sender, message); a message is one of
 import sys
 
 from refusals import (
-    MEMBERS_NOT_1_TO_8, FIRST_SET_BAD, LIST_NOT_1_TO_32, UNKNOWN_KIND, NO_SUCH_MEMBER, SET_BAD, IDENTIFIER_NOT_ABOVE,
-    LIST_FULL, NO_SUCH_VIEW, NOT_IN_ITS_SET, NOT_ABOVE_CARRIER, NO_CARRIER_VIEW, NONE_OUTGOING, WAITING_FULL,
-    ORDER_FULL, NONE_WAITING, NONE_LEFT_TO_DELIVER, NOT_ABOVE_CLIENT, INFO_MISSING, TEST_FAILED, NO_CLIENT_VIEW,
-    REGISTERED_ALREADY, OUTGOING_FULL, NONE_LEFT_TO_HAND, CLIENT_IS_NOT_CARRIER, NOTHING_NEW_TO_TELL, NONE_UNREPORTED,
-    TOLD_TOO_LOW, NOT_ABOVE_SETTLED, REGISTRATION_MISSING, BYTES_END_EARLY, MESSAGE_KIND, SECTION_COUNT, EMPTY_SET,
-    IDENTIFIERS_NOT_RISING, TOLD_NOT_1_TO_128, BYTES_LEFT_OVER, LINE_UNREADABLE, Refused, refuse_if,
+    MEMBERS_OUT_OF_RANGE, FIRST_SET_UNFIT, LIST_LENGTH, UNKNOWN_STEP, NO_SUCH_MEMBER, SET_UNFIT, IDENTIFIER_NOT_ABOVE,
+    LIST_FULL, NO_SUCH_VIEW, NOT_IN_SET, NOT_ABOVE_CARRIER, NO_CARRIER_VIEW, NONE_OUTGOING, WAITING_FULL,
+    ORDER_FULL, NONE_WAITING, NONE_TO_DELIVER, NOT_ABOVE_CLIENT, INFO_MISSING, TEST_FAILED, NO_CLIENT_VIEW,
+    ALREADY_REGISTERED, OUTGOING_FULL, NONE_TO_HAND, CLIENT_NOT_CARRIER, NOTHING_NEW_TO_TELL, NONE_TO_REPORT,
+    TOLD_TOO_LOW, NOT_ABOVE_SETTLED, REGISTRATION_MISSING, ENDS_EARLY, UNKNOWN_KIND, SECTION_COUNT, EMPTY_SET,
+    NOT_RISING, TOLD_OUT_OF_RANGE, BYTES_LEFT_OVER, LINE_UNREADABLE, Refused, refuse_if,
 )
 
 # "Words and bounds"
@@ -101,9 +101,9 @@ class Group:
     """The views made with their queues, and what each member keeps."""
 
     def __init__(self, members, first_set, room):
-        refuse_if(not 1 <= members <= MOST_MEMBERS, MEMBERS_NOT_1_TO_8)
-        refuse_if(empty_or_beyond(first_set, members), FIRST_SET_BAD)
-        refuse_if(not 1 <= room <= MOST_VIEWS, LIST_NOT_1_TO_32)
+        refuse_if(not 1 <= members <= MOST_MEMBERS, MEMBERS_OUT_OF_RANGE)
+        refuse_if(empty_or_beyond(first_set, members), FIRST_SET_UNFIT)
+        refuse_if(not 1 <= room <= MOST_VIEWS, LIST_LENGTH)
         first = (0, first_set)
         self.members = members
         self.room = room
@@ -116,7 +116,7 @@ class Group:
     def step(self, kind, x=0, y=0):
         """One step with its operands: ("ok",), ("refused", R) or the event it gives."""
         try:
-            refuse_if(kind not in STEPS, UNKNOWN_KIND)
+            refuse_if(kind not in STEPS, UNKNOWN_STEP)
             name, does, _ = STEPS[kind]
             if name == "create":
                 return does(self, x, y)
@@ -152,7 +152,7 @@ OK = ("ok",)
 
 def create(group, identifier, members_set):
     """"the carrier makes the view"."""
-    refuse_if(empty_or_beyond(members_set, group.members), SET_BAD)
+    refuse_if(empty_or_beyond(members_set, group.members), SET_UNFIT)
     refuse_if(any(identifier <= made for made, _ in group.views), IDENTIFIER_NOT_ABOVE)
     refuse_if(len(group.views) >= group.room, LIST_FULL)
     group.views.append((identifier, members_set))
@@ -164,7 +164,7 @@ def create(group, identifier, members_set):
 def join(group, member, identifier):
     m = group.member[member]
     view = view_made(group, identifier)
-    refuse_if(not in_set(member, view[1]), NOT_IN_ITS_SET)
+    refuse_if(not in_set(member, view[1]), NOT_IN_SET)
     refuse_if(not is_above(identifier, m["carrier"]), NOT_ABOVE_CARRIER)
     # "The inward list of a carrier view left without an attempt goes."
     if m["carrier"] is not None and not client_is_carrier(m):
@@ -208,7 +208,7 @@ def deliver(group, member, _):
     m = group.member[member]
     refuse_if(m["carrier"] is None, NO_CARRIER_VIEW)
     identifier = m["carrier"][0]
-    refuse_if(m["taken"] >= len(group.order[identifier]), NONE_LEFT_TO_DELIVER)
+    refuse_if(m["taken"] >= len(group.order[identifier]), NONE_TO_DELIVER)
     sender, message = group.order[identifier][m["taken"]]
     m["taken"] += 1
     if message[0] == "info":
@@ -271,7 +271,7 @@ def register(group, member, _):
     """"noted for the client view; outgoing gains a registered message"."""
     m = group.member[member]
     refuse_if(m["client"] is None, NO_CLIENT_VIEW)
-    refuse_if(m["registered"], REGISTERED_ALREADY)
+    refuse_if(m["registered"], ALREADY_REGISTERED)
     refuse_if_outgoing_full(m)
     m["registered"] = True
     queue(m, member, ("registered",))
@@ -293,7 +293,7 @@ def hand(group, member, _):
     refuse_if(m["client"] is None, NO_CLIENT_VIEW)
     identifier = m["client"][0]
     inward = m["inward"][identifier]
-    refuse_if(m["handed"] >= len(inward), NONE_LEFT_TO_HAND)
+    refuse_if(m["handed"] >= len(inward), NONE_TO_HAND)
     sender, entry = inward[m["handed"]]
     m["handed"] += 1
     return ("hand", member, identifier, sender, entry)
@@ -303,7 +303,7 @@ def tell(group, member, _):
     """"outgoing gains told, with the number handed out in this view"."""
     m = group.member[member]
     refuse_if(m["client"] is None, NO_CLIENT_VIEW)
-    refuse_if(not client_is_carrier(m), CLIENT_IS_NOT_CARRIER)
+    refuse_if(not client_is_carrier(m), CLIENT_NOT_CARRIER)
     # "count told already, or 0"
     refuse_if(m["handed"] == 0 or m["handed"] == m["told"], NOTHING_NEW_TO_TELL)
     refuse_if_outgoing_full(m)
@@ -316,8 +316,8 @@ def safe(group, member, _):
     """"the next handed message not yet reported is reported"."""
     m = group.member[member]
     refuse_if(m["client"] is None, NO_CLIENT_VIEW)
-    refuse_if(not client_is_carrier(m), CLIENT_IS_NOT_CARRIER)
-    refuse_if(m["reported"] >= m["handed"], NONE_UNREPORTED)
+    refuse_if(not client_is_carrier(m), CLIENT_NOT_CARRIER)
+    refuse_if(m["reported"] >= m["handed"], NONE_TO_REPORT)
     identifier, members_set = m["client"]
     # "Safe rests on told counts, the member's own included"
     counts = [m["told_counts"].get(p, 0) for p in members_of(members_set)]
@@ -371,13 +371,13 @@ def read_message(data):
     rest = list(data)
 
     def number(width):
-        refuse_if(len(rest) < width, BYTES_END_EARLY)
+        refuse_if(len(rest) < width, ENDS_EARLY)
         taken = rest[:width]
         del rest[:width]
         return int.from_bytes(bytes(taken), "big")
 
     kind = number(1)
-    refuse_if(kind not in (1, 2, 3, 4), MESSAGE_KIND)
+    refuse_if(kind not in (1, 2, 3, 4), UNKNOWN_KIND)
     identifier = number(4)
     view_count = number(1)
     allowed = range(1, MOST_VIEWS + 1) if kind == 2 else [0]
@@ -388,8 +388,8 @@ def read_message(data):
     numbers = [number(8) for _ in range(number_count)]
     refuse_if(any(members_set == 0 for _, members_set in views), EMPTY_SET)
     rising = all(views[i][0] < views[i + 1][0] for i in range(view_count - 1))
-    refuse_if(not rising, IDENTIFIERS_NOT_RISING)
-    refuse_if(kind == 4 and not 1 <= numbers[0] <= MOST_ORDERED, TOLD_NOT_1_TO_128)
+    refuse_if(not rising, NOT_RISING)
+    refuse_if(kind == 4 and not 1 <= numbers[0] <= MOST_ORDERED, TOLD_OUT_OF_RANGE)
     refuse_if(rest != [], BYTES_LEFT_OVER)
     if kind == 1:
         return identifier, ("client", numbers[0])

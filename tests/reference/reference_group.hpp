@@ -20,12 +20,8 @@ constexpr bool kCheck = true;
 
 // The refusals, numbered as in document 01's table.
 enum Refusal : uint8_t {
-  kNone = 0, kBadMembers = 1, kBadFirstSet = 2, kBadListLength = 3, kBadRecords = 4, kBadKind = 5, kBadMember = 6,
-  kBadSet = 7, kIdentifierNotAbove = 8, kListFull = 9, kNoSuchView = 10, kNotInView = 11, kNotAboveCarrier = 12,
-  kNoCarrier = 13, kNoneOutgoing = 14, kWaitingFull = 15, kOrderFull = 16, kNoneWaiting = 17, kNoneLeft = 18,
-  kNotAboveClient = 19, kInfoMissing = 20, kTestFailed = 21, kNoClient = 22, kRegisteredAlready = 23,
-  kOutgoingFull = 24, kNoneToHand = 25, kClientNotCarrier = 26, kToldAlready = 27, kNoneToReport = 28,
-  kToldTooLow = 29, kNotAboveSettled = 30, kRegistrationMissing = 31, kUnreadable = 40
+  kAccepted = 0,
+#include "refusals.inc"
 };
 
 struct View { uint32_t id; uint8_t set; };
@@ -80,7 +76,7 @@ struct Channel {
 enum Event : uint8_t { kOk, kAttempted, kDidRegister, kSent, kHanded, kSafe };
 
 struct Reply {
-  Refusal refusal = kNone;
+  Refusal refusal = kAccepted;
   Event event = kOk;
   uint8_t member = 0, who = 0;  // who: the new view's set, or the sender
   uint32_t id = 0;
@@ -130,9 +126,9 @@ struct Group {
 };
 
 inline Refusal Group::start(uint64_t members_given, uint64_t first, uint64_t length_given) {
-  if (members_given < 1 || members_given > kMembers) return kBadMembers;
-  if (first == 0 || first >> members_given != 0) return kBadFirstSet;
-  if (length_given < 1 || length_given > kViews) return kBadListLength;
+  if (members_given < 1 || members_given > kMembers) return kMembersOutOfRange;
+  if (first == 0 || first >> members_given != 0) return kFirstSetUnfit;
+  if (length_given < 1 || length_given > kViews) return kListLength;
   members = static_cast<uint8_t>(members_given);
   length = static_cast<uint8_t>(length_given);
   made = 1;
@@ -148,7 +144,7 @@ inline Refusal Group::start(uint64_t members_given, uint64_t first, uint64_t len
     b.inward[0].count = b.inward[1].count = 0;
     b.outgoing.clear();
   }
-  return kNone;
+  return kAccepted;
 }
 
 // The place of a made view, or `made`. Identifiers rise, so a binary search would do; 32 at most are not worth it.
@@ -222,10 +218,10 @@ inline bool Group::sound() const {
 }
 
 inline Reply Group::step(uint8_t kind, uint64_t first, uint64_t second) {
-  if (kCheck && !sound()) return refuse(kBadRecords);
-  if (kind < 1 || kind > 12) return refuse(kBadKind);
+  if (kCheck && !sound()) return refuse(kRecordsUnsound);
+  if (kind < 1 || kind > 12) return refuse(kUnknownStep);
   if (kind == 1) return create(first, second);
-  if (first >= members) return refuse(kBadMember);
+  if (first >= members) return refuse(kNoSuchMember);
   auto p = static_cast<uint8_t>(first);
   Book& b = books[p];
   switch (kind) {
@@ -244,7 +240,7 @@ inline Reply Group::step(uint8_t kind, uint64_t first, uint64_t second) {
 }
 
 inline Reply Group::create(uint64_t id, uint64_t set) {
-  if (!set_allowed(set)) return refuse(kBadSet);
+  if (!set_allowed(set)) return refuse(kSetUnfit);
   if (id <= list[made - 1].id) return refuse(kIdentifierNotAbove);
   if (made == length) return refuse(kListFull);
   list[made] = View{static_cast<uint32_t>(id), static_cast<uint8_t>(set)};
@@ -257,7 +253,7 @@ inline Reply Group::create(uint64_t id, uint64_t set) {
 inline Reply Group::join(Book& b, unsigned p, uint64_t id) {
   unsigned i = find(id);
   if (i == made) return refuse(kNoSuchView);
-  if (!(list[i].set >> p & 1)) return refuse(kNotInView);
+  if (!(list[i].set >> p & 1)) return refuse(kNotInSet);
   if (b.has_carrier && id <= b.carrier.id) return refuse(kNotAboveCarrier);
   b.carrier = list[i];
   b.has_carrier = true;
@@ -281,7 +277,7 @@ inline void copy(Entry& to, const Entry& from) {
 }
 
 inline Reply Group::pass(Book& b, unsigned p) {
-  if (!b.has_carrier) return refuse(kNoCarrier);
+  if (!b.has_carrier) return refuse(kNoCarrierView);
   if (b.outgoing.count == 0) return refuse(kNoneOutgoing);
   auto& waiting = channels[find(b.carrier.id)].waiting[p];
   if (waiting.full()) return refuse(kWaitingFull);
@@ -322,9 +318,9 @@ inline void open_view(Book& b, const View& v) {
 }
 
 inline Reply Group::deliver(Book& b) {
-  if (!b.has_carrier) return refuse(kNoCarrier);
+  if (!b.has_carrier) return refuse(kNoCarrierView);
   auto& order = channels[find(b.carrier.id)].order;
-  if (b.taken >= order.count) return refuse(kNoneLeft);
+  if (b.taken >= order.count) return refuse(kNoneToDeliver);
   const Entry& e = order.places[b.taken++];
   auto bit = static_cast<uint8_t>(1u << e.sender);
   switch (e.kind) {
@@ -345,7 +341,7 @@ inline Reply Group::deliver(Book& b) {
 }
 
 inline Reply Group::attempt(Book& b, uint8_t p) {
-  if (!b.has_carrier) return refuse(kNoCarrier);
+  if (!b.has_carrier) return refuse(kNoCarrierView);
   if (b.has_client && b.carrier.id <= b.client.id) return refuse(kNotAboveClient);
   if (b.carrier.set & ~b.infos) return refuse(kInfoMissing);
   bool passes = majority(b.carrier.set, b.settled.set);
@@ -367,8 +363,8 @@ inline void gain(Book& b, uint8_t p, MessageKind kind, uint64_t number) {
 }
 
 inline Reply Group::enroll(Book& b, uint8_t p) {
-  if (!b.has_client) return refuse(kNoClient);
-  if (b.registered) return refuse(kRegisteredAlready);
+  if (!b.has_client) return refuse(kNoClientView);
+  if (b.registered) return refuse(kAlreadyRegistered);
   if (b.in_step()) {
     if (b.outgoing.full()) return refuse(kOutgoingFull);
     gain(b, p, kRegistered, 0);
@@ -378,7 +374,7 @@ inline Reply Group::enroll(Book& b, uint8_t p) {
 }
 
 inline Reply Group::send(Book& b, uint8_t p, uint64_t number) {
-  if (!b.has_client) return refuse(kNoClient);
+  if (!b.has_client) return refuse(kNoClientView);
   if (b.in_step()) {
     if (b.outgoing.full()) return refuse(kOutgoingFull);
     gain(b, p, kClient, number);
@@ -387,7 +383,7 @@ inline Reply Group::send(Book& b, uint8_t p, uint64_t number) {
 }
 
 inline Reply Group::hand(Book& b, uint8_t p) {
-  if (!b.has_client) return refuse(kNoClient);
+  if (!b.has_client) return refuse(kNoClientView);
   auto& inward = b.inward[b.side];
   if (b.handed >= inward.count) return refuse(kNoneToHand);
   const Item& item = inward.places[b.handed++];
@@ -395,9 +391,9 @@ inline Reply Group::hand(Book& b, uint8_t p) {
 }
 
 inline Reply Group::tell(Book& b, uint8_t p) {
-  if (!b.has_client) return refuse(kNoClient);
+  if (!b.has_client) return refuse(kNoClientView);
   if (!b.in_step()) return refuse(kClientNotCarrier);
-  if (b.handed == 0 || b.handed == b.told) return refuse(kToldAlready);
+  if (b.handed == 0 || b.handed == b.told) return refuse(kNothingNewToTell);
   if (b.outgoing.full()) return refuse(kOutgoingFull);
   gain(b, p, kTold, b.handed);
   b.told = b.handed;
@@ -405,7 +401,7 @@ inline Reply Group::tell(Book& b, uint8_t p) {
 }
 
 inline Reply Group::safe(Book& b, uint8_t p) {
-  if (!b.has_client) return refuse(kNoClient);
+  if (!b.has_client) return refuse(kNoClientView);
   if (!b.in_step()) return refuse(kClientNotCarrier);
   if (b.reported >= b.handed) return refuse(kNoneToReport);
   for (unsigned q = 0; q < members; ++q)
@@ -415,7 +411,7 @@ inline Reply Group::safe(Book& b, uint8_t p) {
 }
 
 inline Reply Group::collect(Book& b) {
-  if (!b.has_carrier) return refuse(kNoCarrier);
+  if (!b.has_carrier) return refuse(kNoCarrierView);
   if (b.carrier.id <= b.settled.id) return refuse(kNotAboveSettled);
   if (b.carrier.set & ~b.registrations) return refuse(kRegistrationMissing);
   b.settled = b.carrier;
