@@ -5,7 +5,7 @@
 test: gate
 	$(MAKE) headers outside offices
 
-# Layout, the header's numbers, proofs, must-fail edits, programs.
+# Layout, the list of refusals, the header's numbers, what the documents name, proofs, must-fail edits, programs.
 gate:
 	.ci/run
 
@@ -61,7 +61,8 @@ headers:
 
 # The library beside a plain implementation in C++: every length, limit and refusal, and random cases. Once with the host's code sanitized.
 .PHONY: outside
-OUTSIDE := $(wildcard tests/outside/*.hpp tests/outside/*.cpp tests/outside/*.inc) tests/reference/reference_group.hpp include/dvs.h
+REFERENCE := tests/reference/reference_group.hpp tests/reference/refusals.inc
+OUTSIDE := $(wildcard tests/outside/*.hpp tests/outside/*.cpp tests/outside/*.inc) $(REFERENCE) include/dvs.h
 OUTSIDE_FLAGS := $(CXXFLAGS) -Wpedantic
 outside: target/outside_test target/outside_test_sanitized
 	target/outside_test_sanitized short 1 > target/outside_sanitized.log || { cat target/outside_sanitized.log; false; }
@@ -80,11 +81,11 @@ fuzz: target/outside_test
 
 # One fault after another put into the library's calls: the test from outside must report each.
 .PHONY: outside-selftest
-WRAPPED := start join pass deliver attempt register send hand tell safe collect read write group_start group_step
+WRAPPED = $(shell sed -nE 's/^uint32_t (dvs_[a-z_]*).*/\1/p' include/dvs.h)
 outside-selftest: target/outside_wrong
 	tests/strength/run.sh target/outside_wrong
 target/outside_wrong: $(OUTSIDE) tests/strength/wrong.cpp $(LIBRARY)
-	$(CXX) $(OUTSIDE_FLAGS) $(WRAPPED:%=-Wl,--wrap=dvs_%) -o $@ tests/outside/outside_test.cpp tests/strength/wrong.cpp $(LIBRARY)
+	$(CXX) $(OUTSIDE_FLAGS) $(WRAPPED:%=-Wl,--wrap=%) -o $@ tests/outside/outside_test.cpp tests/strength/wrong.cpp $(LIBRARY)
 
 # One rule after another of the plain implementation changed: the test must find a difference each time. Some ten minutes.
 .PHONY: outside-strength
@@ -115,10 +116,10 @@ reference:
 # The group and the bench as a plain C++ program, with refusal 4's check in every step and without.
 .PHONY: reference-cpp
 reference-cpp: target/reference target/reference-unchecked
-target/reference: tests/reference/reference.cpp tests/reference/reference_group.hpp
+target/reference: tests/reference/reference.cpp $(REFERENCE)
 	mkdir -p target
 	$(CXX) $(CXXFLAGS) -o $@ $<
-target/reference-unchecked: tests/reference/reference.cpp tests/reference/reference_group.hpp
+target/reference-unchecked: tests/reference/reference.cpp $(REFERENCE)
 	mkdir -p target
 	$(CXX) $(CXXFLAGS) -DNO_CHECK -o $@ $<
 

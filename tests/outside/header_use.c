@@ -22,12 +22,12 @@ HOLDS(steps_to_12, DVS_STEP_HAND == 9 && DVS_STEP_TELL == 10 && DVS_STEP_SAFE ==
 static const unsigned refusals[] = {
 #include "refusals.inc"
 };
-HOLDS(refusals_numbered, sizeof refusals / sizeof refusals[0] == DVS_REFUSED_TOO_MANY_OPEN + 1);
+HOLDS(refusals_numbered, sizeof refusals / sizeof refusals[0] == DVS_REFUSALS + 1);
 
 unsigned use(uint8_t *at, size_t size);
 
 unsigned use(uint8_t *at, size_t size) {
-  uint32_t sum = refusals[size % 44];
+  uint32_t sum = refusals[size % (DVS_REFUSALS + 1)];
   sum += dvs_start(at, size, 1, 1, 0) + dvs_join(at, size, 1, 1) + dvs_pass(at, size, at, size, at, size);
   sum += dvs_deliver(at, size, at, size, 0) + dvs_attempt(at, size, at, size) + dvs_register(at, size, at, size);
   sum += dvs_send(at, size, 1, at, size) + dvs_hand(at, size, at, size) + dvs_tell(at, size) + dvs_safe(at, size, at, size);

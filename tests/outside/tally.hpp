@@ -20,7 +20,8 @@ constexpr bool named_in_order() {
     if (kNamed[i] != i) return false;
   return true;
 }
-static_assert(named_in_order() && sizeof kNamed / sizeof kNamed[0] == 44, "the header's refusals are document 01's");
+constexpr unsigned kAnswers = DVS_REFUSALS + 1;
+static_assert(named_in_order() && sizeof kNamed / sizeof kNamed[0] == kAnswers, "the header's refusals are numbered");
 
 // The exported functions; a group's step is counted by its kind.
 enum Function : unsigned {
@@ -29,8 +30,6 @@ enum Function : unsigned {
   kFnStepDeliver, kFnStepAttempt, kFnStepRegister, kFnStepSend, kFnStepHand, kFnStepTell, kFnStepSafe,
   kFnStepCollect, kFunctions
 };
-
-constexpr unsigned kAnswers = 44;
 
 struct Promise {
   const char* name;
