@@ -120,10 +120,11 @@ PARTS = [
 ]
 
 
-def place(pattern):
-    found = sorted(ROOT.glob(pattern))
+def place(pattern, before):
+    """The one file of the pattern that has the text."""
+    found = [path for path in ROOT.glob(pattern) if before in path.read_text()]
     if len(found) != 1:
-        sys.exit('%s: %d files, where this program looks for one' % (pattern, len(found)))
+        sys.exit("%s: %d files with '%s', where this program looks for one" % (pattern, len(found), before.strip()))
     return found[0]
 
 
@@ -141,7 +142,7 @@ def current(path, text, before, behind, part):
 writing = sys.argv[1:] == ['write']
 stale = []
 for pattern, before, behind, part in PARTS:
-    path = place(pattern)
+    path = place(pattern, before)
     text = path.read_text()
     right = current(path.relative_to(ROOT), text, before, behind, part)
     if right != text:
