@@ -1,5 +1,5 @@
 // Runs the member by itself over lines of standard input, and writes an answer to each. There are four books, 0 to 3;
-// tests/member_script.py says what the lines mean. A number that is too large for its place is cut.
+// tests/reference/member_script.py says what the lines mean. A number that is too large for its place is cut.
 mod call;
 mod desk;
 mod show;
