@@ -18,8 +18,19 @@ def source(path):
 
 
 def constants(path):
-    """The numbers that a source names."""
-    return {name: int(value) for name, value in re.findall(r'pub const (\w+): \w+ = (\d+);', source(path))}
+    """The numbers that a source names: each a number, or an expression of others, its own or another module's."""
+    known = {}
+
+    def number(match):
+        module, name = match.groups()
+        if not module:
+            return str(known[name])
+        paths = list((ROOT / 'crates').glob('%s/src/lib.rt' % module)) or list((ROOT / 'crates').glob('*/src/%s.rt' % module))
+        return str(constants(paths[0].relative_to(ROOT / 'crates'))[name])
+
+    for name, value in re.findall(r'pub const (\w+): \w+ = ([^;]+);', source(path)):
+        known[name] = eval(re.sub(r'\b(?:(?:\w+::)*(\w+)::)?([A-Z]\w*)', number, value.replace(' as usize', '')))
+    return known
 
 
 def found(pattern, text, where):
@@ -40,7 +51,7 @@ def expected_constants():
     answers, messages, kinds = constants('answers/src/lib.rt'), constants('messages/src/lib.rt'), constants('wire/src/format.rt')
     wanted = {'DVS_' + name: limits[name] for name in ('MEMBERS', 'VIEWS', 'OPEN', 'OUTGOING', 'WAITING', 'ORDERED', 'LONGEST')}
     wanted.update(DVS_BOOK_SIZE=books['SIZE'], DVS_EVENT_SIZE=answers['EVENT'], DVS_LENGTH_SIZE=answers['LENGTH'],
-                  DVS_MESSAGE_SIZE=messages['RECORD'], DVS_VIEW_SIZE=kinds['VIEW'], DVS_BOOKS_SIZE=groups['BOOKS'])
+                  DVS_MESSAGE_SIZE=messages['RECORD'], DVS_VIEW_SIZE=groups['VIEW'], DVS_BOOKS_SIZE=groups['BOOKS'])
     wanted['DVS_LIST_SIZE(views)'] = '(DVS_VIEW_SIZE * DVS_COUNT(views))'
     wanted['DVS_QUEUES_SIZE(views)'] = '(%du + %du * DVS_COUNT(views))' % (groups['HEAD'], groups['TABLE'])
     wanted['DVS_COUNT(views)'] = '((size_t)(views))'  # as C has it, the last of the two

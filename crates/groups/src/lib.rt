@@ -8,7 +8,7 @@ ghost use Rattle.groups.specs.Groups.{placeOf};
 ghost use Rattle.groups.specs.Places.{orderAt, waitingAt};
 
 // Bytes of a view in the list, and of the eight books.
-pub const VIEW: usize = wire::format::VIEW;
+pub const VIEW: usize = views::sizes::VIEW;
 
 pub const BOOKS: usize = 41872;
 

@@ -49,8 +49,14 @@ pub fn info_listed(list: &[u8], b: &[u8], made: u8, at: usize) -> bool
     requires { ⌜ (5 * made ≤ length (now list)) × (at + slotSize ≤ length (now b)) × (slotFits (now b) at ≡ true) ⌝ }
     ensures { λ r. ⌜ r ≡ infoListed (viewsIn (now (list .entry)) 0 made) (entryIn (now (b .entry)) at) ⌝ }
 {
-    if b[at + 1] == format::INFO {
-        return rows::all_listed(list, made as usize, b, at + 11, b[at + 10] as usize);
+    if b[at + slots::KIND] == format::INFO {
+        return rows::all_listed(
+            list,
+            made as usize,
+            b,
+            at + slots::VIEWS,
+            b[at + slots::COUNT] as usize,
+        );
     }
     true
 }

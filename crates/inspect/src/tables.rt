@@ -30,7 +30,7 @@ fn entry_known(list: &[u8], q: &[u8], made: u8, at: usize, n: u8) -> bool
     requires { ⌜ (5 * made ≤ length (now list)) × (at + slotSize ≤ length (now q)) ⌝ }
     ensures { λ r. ⌜ r ≡ entryKnown (viewsIn (now (list .entry)) 0 made) n (now (q .entry)) at ⌝ }
 {
-    if q[at + 1] == format::CLIENT {
+    if q[at + slots::KIND] == format::CLIENT {
         return q[at] < n;
     }
     slot_known(list, q, made, at, n)

@@ -5,6 +5,7 @@ use acts::Reply;
 use books::Book;
 use views::Member;
 use views::View;
+use views::sizes;
 ghost use mathlib.Core.Bool.{true};
 ghost use mathlib.Core.Path.{_≡_};
 ghost use Prim.Native.Nat.{_+_, _*_, _≤_};
@@ -28,7 +29,7 @@ fn of_item(b: &[u8], at: usize, k: u8, kind: u8, h: Book) -> Event
     let i = at + 1 + slots::ITEM * (k as usize);
     let member = Member(b[books::SELF]);
     let sender = Member(b[i]);
-    let entry = numbers::get_number(b, i + 1, 8);
+    let entry = numbers::get_number(b, i + slots::ITEM_NUMBER, sizes::NUMBER);
     let id = h.client.view.id;
     let view = View { id, set: 0 };
     Event {
