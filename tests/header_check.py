@@ -56,20 +56,10 @@ def expected_constants():
     wanted['DVS_QUEUES_SIZE(views)'] = '(%du + %du * DVS_COUNT(views))' % (groups['HEAD'], groups['TABLE'])
     wanted['DVS_COUNT(views)'] = '((size_t)(views))'  # as C has it, the last of the two
     wanted.update({'DVS_BOOK_' + name: books[name] for name in BOOK_PLACES})
-    # the places in an event and in a message's record, as the code stores them
-    text = source('answers/src/lib.rt')
-    view = int(found(r'store_view\(out, (\d+), e\.view\)', text, 'answers'))
-    wanted.update(DVS_EVENT_KIND=int(found(r'out\[(\d+)\] = e\.kind;', text, 'answers')),
-                  DVS_EVENT_MEMBER=int(found(r'out\[(\d+)\] = e\.member\.0;', text, 'answers')),
-                  DVS_EVENT_VIEW=view, DVS_EVENT_SET=view + 4,
-                  DVS_EVENT_SENDER=int(found(r'out\[(\d+)\] = e\.sender\.0;', text, 'answers')),
-                  DVS_EVENT_ENTRY=int(found(r'put_number\(out, (\d+), 8, e\.entry\)', text, 'answers')))
-    text = source('messages/src/lib.rt')
-    wanted.update(DVS_MESSAGE_KIND=int(found(r'out\[(\d+)\] = kind;', text, 'messages')),
-                  DVS_MESSAGE_VIEW=int(found(r'put_number\(out, (\d+), 4, view\.0 as u64\)', text, 'messages')),
-                  DVS_MESSAGE_NUMBER=int(found(r'put_number\(out, (\d+), 8, x\)', text, 'messages')),
-                  DVS_MESSAGE_COUNT=int(found(r'put_number\(out, (\d+), 1, n as u64\)', text, 'messages')),
-                  DVS_MESSAGE_VIEWS=int(found(r'store_views\(out, (\d+), list, limits::VIEWS\)', text, 'messages')))
+    # the places in an event and in a message's record
+    wanted.update({'DVS_EVENT_' + name: answers[name] for name in ('KIND', 'MEMBER', 'VIEW', 'SENDER', 'ENTRY')})
+    wanted['DVS_EVENT_SET'] = answers['VIEW'] + constants('views/src/sizes.rt')['IDENTIFIER']
+    wanted.update({'DVS_MESSAGE_' + name: messages[name] for name in ('KIND', 'VIEW', 'NUMBER', 'COUNT', 'VIEWS')})
     wanted.update({'DVS_' + name: kinds[name] for name in ('CLIENT', 'INFO', 'REGISTERED', 'TOLD')})
     # the steps, by the arms of the dispatcher; the refusals, by their numbers
     arms = re.findall(r'^\s+(\d+) => .*?(\w+)\((?:list|all),', source('group/src/step.rt'), flags=re.M)
