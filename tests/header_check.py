@@ -61,9 +61,10 @@ def expected_constants():
     wanted['DVS_EVENT_SET'] = answers['VIEW'] + constants('views/src/sizes.rt')['IDENTIFIER']
     wanted.update({'DVS_MESSAGE_' + name: messages[name] for name in ('KIND', 'VIEW', 'NUMBER', 'COUNT', 'VIEWS')})
     wanted.update({'DVS_' + name: kinds[name] for name in ('CLIENT', 'INFO', 'REGISTERED', 'TOLD')})
-    # the steps, by the arms of the dispatcher; the refusals, by their numbers
-    arms = re.findall(r'^\s+(\d+) => .*?(\w+)\((?:list|all),', source('group/src/step.rt'), flags=re.M)
-    wanted.update({'DVS_STEP_' + name.upper(): int(number) for number, name in arms})
+    # the steps, by the kinds of the dispatcher's arms; the refusals, by their numbers
+    steps = constants('views/src/kinds.rt')
+    arms = re.findall(r'^\s+kinds::(\w+) => .*?(\w+)\((?:list|all),', source('group/src/step.rt'), flags=re.M)
+    wanted.update({'DVS_STEP_' + name.upper(): steps[kind] for kind, name in arms})
     wanted['DVS_ACCEPTED'] = int(found(r'Verdict::Accepted => (\d+),', source('views/src/refusal.rt'), 'refusals'))
     refusals = re.findall(r'Refusal::(\w+) => (\d+),', source('views/src/refusal.rt'))
     wanted.update({'DVS_REFUSED_' + screaming(name): int(number) for name, number in refusals})

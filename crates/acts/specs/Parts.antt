@@ -10,6 +10,7 @@ use Rattle.views.specs.declared.refusal.Verdict.{Verdict}
 use Rattle.views.specs.declared.refusal.Verdict.the-variants.{Accepted, Refused}
 use Rattle.views.specs.Limits.{maxOpen}
 use Rattle.views.specs.Sizes.{numberSize}
+use Rattle.views.specs.Kinds.{attemptKind}
 use Rattle.views.specs.Lists.{idOf}
 use Rattle.rules.specs.Data.{Member}
 use Rattle.rules.specs.Member.{clientIsCarrier}
@@ -41,7 +42,7 @@ itemEvent b c k kind h =
     cond (leb (getD b c 0) k) noEvent (happened kind (selfIn b) (named (idOf (h .client .view))) (getD b i 0) (get b (i + itemNumber) numberSize))
 
 unfoldable pub attemptEvent : Book → Member → Event
-attemptEvent h p = happened 6 p (h .carrier .view) 0 0
+attemptEvent h p = happened attemptKind p (h .carrier .view) 0 0
 
 -- 43, with the record h as it was
 unfoldable pub fewIf : Verdict → Stepped → Book → Stepped

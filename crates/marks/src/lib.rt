@@ -5,6 +5,7 @@ use acts::Reply;
 use books::Book;
 use views::Member;
 use views::View;
+use views::kinds;
 use views::sizes;
 ghost use mathlib.Core.Bool.{true};
 ghost use mathlib.Core.Path.{_≡_};
@@ -50,7 +51,7 @@ pub fn hand(b: &mut [u8]) -> Reply
     let h = books::load(b);
     let at = books::INWARD + books::APART * (h.side as usize);
     let s = client_turns::hand(h, b[at]);
-    let e = of_item(b, at, h.handed.0, acts::HAND, h);
+    let e = of_item(b, at, h.handed.0, kinds::HAND, h);
     acts::keep(b, s, e)
 }
 
@@ -63,7 +64,7 @@ pub fn safe(b: &mut [u8]) -> Reply
     let h = books::load(b);
     let at = books::INWARD + books::APART * (h.side as usize);
     let s = client_turns::safe(b[books::MEMBERS], h, b[at]);
-    let e = of_item(b, at, h.reported.0, acts::SAFE, h);
+    let e = of_item(b, at, h.reported.0, kinds::SAFE, h);
     acts::keep(b, s, e)
 }
 
