@@ -18,8 +18,19 @@ def source(path):
 
 
 def constants(path):
-    """The numbers that a source names."""
-    return {name: int(value) for name, value in re.findall(r'pub const (\w+): \w+ = (\d+);', source(path))}
+    """The numbers that a source names: each a number, or an expression of others, its own or another module's."""
+    known = {}
+
+    def number(match):
+        module, name = match.groups()
+        if not module:
+            return str(known[name])
+        paths = list((ROOT / 'crates').glob('%s/src/lib.rt' % module)) or list((ROOT / 'crates').glob('*/src/%s.rt' % module))
+        return str(constants(paths[0].relative_to(ROOT / 'crates'))[name])
+
+    for name, value in re.findall(r'pub const (\w+): \w+ = ([^;]+);', source(path)):
+        known[name] = eval(re.sub(r'\b(?:(?:\w+::)*(\w+)::)?([A-Z]\w*)', number, value.replace(' as usize', '')))
+    return known
 
 
 def found(pattern, text, where):
@@ -40,29 +51,20 @@ def expected_constants():
     answers, messages, kinds = constants('answers/src/lib.rt'), constants('messages/src/lib.rt'), constants('wire/src/format.rt')
     wanted = {'DVS_' + name: limits[name] for name in ('MEMBERS', 'VIEWS', 'OPEN', 'OUTGOING', 'WAITING', 'ORDERED', 'LONGEST')}
     wanted.update(DVS_BOOK_SIZE=books['SIZE'], DVS_EVENT_SIZE=answers['EVENT'], DVS_LENGTH_SIZE=answers['LENGTH'],
-                  DVS_MESSAGE_SIZE=messages['RECORD'], DVS_VIEW_SIZE=kinds['VIEW'], DVS_BOOKS_SIZE=groups['BOOKS'])
+                  DVS_MESSAGE_SIZE=messages['RECORD'], DVS_VIEW_SIZE=groups['VIEW'], DVS_BOOKS_SIZE=groups['BOOKS'])
     wanted['DVS_LIST_SIZE(views)'] = '(DVS_VIEW_SIZE * DVS_COUNT(views))'
     wanted['DVS_QUEUES_SIZE(views)'] = '(%du + %du * DVS_COUNT(views))' % (groups['HEAD'], groups['TABLE'])
     wanted['DVS_COUNT(views)'] = '((size_t)(views))'  # as C has it, the last of the two
     wanted.update({'DVS_BOOK_' + name: books[name] for name in BOOK_PLACES})
-    # the places in an event and in a message's record, as the code stores them
-    text = source('answers/src/lib.rt')
-    view = int(found(r'store_view\(out, (\d+), e\.view\)', text, 'answers'))
-    wanted.update(DVS_EVENT_KIND=int(found(r'out\[(\d+)\] = e\.kind;', text, 'answers')),
-                  DVS_EVENT_MEMBER=int(found(r'out\[(\d+)\] = e\.member\.0;', text, 'answers')),
-                  DVS_EVENT_VIEW=view, DVS_EVENT_SET=view + 4,
-                  DVS_EVENT_SENDER=int(found(r'out\[(\d+)\] = e\.sender\.0;', text, 'answers')),
-                  DVS_EVENT_ENTRY=int(found(r'put_number\(out, (\d+), 8, e\.entry\)', text, 'answers')))
-    text = source('messages/src/lib.rt')
-    wanted.update(DVS_MESSAGE_KIND=int(found(r'out\[(\d+)\] = kind;', text, 'messages')),
-                  DVS_MESSAGE_VIEW=int(found(r'put_number\(out, (\d+), 4, view\.0 as u64\)', text, 'messages')),
-                  DVS_MESSAGE_NUMBER=int(found(r'put_number\(out, (\d+), 8, x\)', text, 'messages')),
-                  DVS_MESSAGE_COUNT=int(found(r'put_number\(out, (\d+), 1, n as u64\)', text, 'messages')),
-                  DVS_MESSAGE_VIEWS=int(found(r'store_views\(out, (\d+), list, limits::VIEWS\)', text, 'messages')))
+    # the places in an event and in a message's record
+    wanted.update({'DVS_EVENT_' + name: answers[name] for name in ('KIND', 'MEMBER', 'VIEW', 'SENDER', 'ENTRY')})
+    wanted['DVS_EVENT_SET'] = answers['VIEW'] + constants('views/src/sizes.rt')['IDENTIFIER']
+    wanted.update({'DVS_MESSAGE_' + name: messages[name] for name in ('KIND', 'VIEW', 'NUMBER', 'COUNT', 'VIEWS')})
     wanted.update({'DVS_' + name: kinds[name] for name in ('CLIENT', 'INFO', 'REGISTERED', 'TOLD')})
-    # the steps, by the arms of the dispatcher; the refusals, by their numbers
-    arms = re.findall(r'^\s+(\d+) => .*?(\w+)\((?:list|all),', source('group/src/step.rt'), flags=re.M)
-    wanted.update({'DVS_STEP_' + name.upper(): int(number) for number, name in arms})
+    # the steps, by the kinds of the dispatcher's arms; the refusals, by their numbers
+    steps = constants('views/src/kinds.rt')
+    arms = re.findall(r'^\s+kinds::(\w+) => .*?(\w+)\((?:list|all),', source('group/src/step.rt'), flags=re.M)
+    wanted.update({'DVS_STEP_' + name.upper(): steps[kind] for kind, name in arms})
     wanted['DVS_ACCEPTED'] = int(found(r'Verdict::Accepted => (\d+),', source('views/src/refusal.rt'), 'refusals'))
     refusals = re.findall(r'Refusal::(\w+) => (\d+),', source('views/src/refusal.rt'))
     wanted.update({'DVS_REFUSED_' + screaming(name): int(number) for name, number in refusals})

@@ -9,10 +9,12 @@ use Rattle.views.specs.declared.refusal.Refusal.the-variants.{TooManyOpen}
 use Rattle.views.specs.declared.refusal.Verdict.{Verdict}
 use Rattle.views.specs.declared.refusal.Verdict.the-variants.{Accepted, Refused}
 use Rattle.views.specs.Limits.{maxOpen}
+use Rattle.views.specs.Sizes.{numberSize}
+use Rattle.views.specs.Kinds.{attemptKind}
 use Rattle.views.specs.Lists.{idOf}
 use Rattle.rules.specs.Data.{Member}
 use Rattle.rules.specs.Member.{clientIsCarrier}
-use Rattle.slots.specs.Slots.{slotSize, itemSize}
+use Rattle.slots.specs.Slots.{slotSize, itemSize, itemNumber}
 use Rattle.slots.specs.Changes.{storeShort}
 use Rattle.books.specs.declared.Book.{Book}
 use Rattle.books.specs.Places.{outgoingAt}
@@ -37,10 +39,10 @@ saidBytes m b =
 unfoldable pub itemEvent : List ℕ → ℕ → ℕ → ℕ → Book → Event
 itemEvent b c k kind h =
     let i = c + 1 + itemSize * k in
-    cond (leb (getD b c 0) k) noEvent (happened kind (selfIn b) (named (idOf (h .client .view))) (getD b i 0) (get b (i + 1) 8))
+    cond (leb (getD b c 0) k) noEvent (happened kind (selfIn b) (named (idOf (h .client .view))) (getD b i 0) (get b (i + itemNumber) numberSize))
 
 unfoldable pub attemptEvent : Book → Member → Event
-attemptEvent h p = happened 6 p (h .carrier .view) 0 0
+attemptEvent h p = happened attemptKind p (h .carrier .view) 0 0
 
 -- 43, with the record h as it was
 unfoldable pub fewIf : Verdict → Stepped → Book → Stepped

@@ -4,6 +4,7 @@ use Prim.Native.Nat.{ℕ}
 use Rattle.views.specs.declared.View.{View}
 use Rattle.views.specs.declared.refusal.Verdict.{Verdict}
 use Rattle.views.specs.declared.refusal.Verdict.the-variants.{Accepted, Refused}
+use Rattle.views.specs.Kinds.{attemptKind, registerKind, sendKind, handKind, safeKind}
 use Rattle.views.specs.Lists.{noView}
 use Rattle.rules.specs.Data.{Identifier, Member, item, Event as Outward, attempt, register, send, hand, safe, Answer, ok, event, refusal, Result, refused, accepted}
 use Rattle.rules.specs.Member.{Done}
@@ -23,11 +24,11 @@ named g = record { id = record { 0 = g }; set = 0 }
 
 -- attempt P I S, register P I, send P I V, hand P I Q V, safe P I Q V
 abbrev pub outwardOf : Outward ℕ → Event
-outwardOf (attempt p v) = happened 6 p v 0 0
-outwardOf (register p g) = happened 7 p (named g) 0 0
-outwardOf (send p g x) = happened 8 p (named g) 0 x
-outwardOf (hand p g (item q x)) = happened 9 p (named g) q x
-outwardOf (safe p g (item q x)) = happened 11 p (named g) q x
+outwardOf (attempt p v) = happened attemptKind p v 0 0
+outwardOf (register p g) = happened registerKind p (named g) 0 0
+outwardOf (send p g x) = happened sendKind p (named g) 0 x
+outwardOf (hand p g (item q x)) = happened handKind p (named g) q x
+outwardOf (safe p g (item q x)) = happened safeKind p (named g) q x
 
 abbrev pub eventOf : Answer → Event
 eventOf ok = noEvent

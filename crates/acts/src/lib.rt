@@ -16,18 +16,7 @@ ghost use Rattle.books.specs.Records.{storeRecord};
 ghost use Rattle.acts.specs.Replies.{noEvent, replied, left};
 ghost use Rattle.acts.specs.Parts.{saidBytes};
 
-// The kinds of the steps that are outward events.
-pub const ATTEMPT: u8 = 6;
-
-pub const REGISTER: u8 = 7;
-
-pub const SEND: u8 = 8;
-
-pub const HAND: u8 = 9;
-
-pub const SAFE: u8 = 11;
-
-// An outward event in numbers: the kind 0 for none, and 0 for what an event does not have.
+// An outward event in numbers: the kind of its step, 0 for none, and 0 for what an event does not have.
 pub struct Event {
     pub kind: u8,
     pub member: Member,

@@ -2,28 +2,44 @@
 -- a range that must have its length, a number that is taken in one byte.
 use mathlib.Core.Bool.{cond}
 use mathlib.Core.List.{List, _∷_, _++_}
-use Prim.Native.Nat.{ℕ}
+use Prim.Native.Nat.{ℕ, _+_}
 use lib.Dec.{eqb, ltb}
 use lib.ListN.{length}
 use Rattle.numbers.specs.Number.{digits}
 use Rattle.views.specs.declared.refusal.Refusal.the-variants.{RecordsUnsound}
 use Rattle.views.specs.declared.refusal.Verdict.{Verdict}
+use Rattle.views.specs.Sizes.{viewSize, numberSize}
 use Rattle.views.specs.Refusals.{need}
 use Rattle.wire.specs.Format.{viewBytes}
 use Rattle.acts.specs.declared.Event.{Event}
 
-abbrev pub eventSize : ℕ
-eventSize = 16
+-- where the parts of an event stand: kind 1 byte, member 1, view 5, sender 1, entry number 8
+abbrev pub eventKind : ℕ
+eventKind = 0
 
--- kind 1, member 1, the view's identifier 4 and set 1, sender 1, entry number 8
+abbrev pub eventMember : ℕ
+eventMember = eventKind + 1
+
+abbrev pub eventView : ℕ
+eventView = eventMember + 1
+
+abbrev pub eventSender : ℕ
+eventSender = eventView + viewSize
+
+abbrev pub eventEntry : ℕ
+eventEntry = eventSender + 1
+
+abbrev pub eventSize : ℕ
+eventSize = eventEntry + numberSize
+
 unfoldable pub eventBytes : Event → List ℕ
-eventBytes e = (e .kind ∷ e .member .0 ∷ viewBytes (e .view)) ++ (e .sender .0 ∷ digits 8 (e .entry))
+eventBytes e = (e .kind ∷ e .member .0 ∷ viewBytes (e .view)) ++ (e .sender .0 ∷ digits numberSize (e .entry))
 
 abbrev pub lengthSize : ℕ
 lengthSize = 4
 
 abbrev pub lengthBytes : ℕ → List ℕ
-lengthBytes n = digits 4 n
+lengthBytes n = digits lengthSize n
 
 -- 4, before anything else, for a range that is not of its length
 unfoldable pub sized : List ℕ → ℕ → Verdict → Verdict

@@ -10,10 +10,23 @@ use acts::Reply;
 use views::refusal;
 use views::refusal::Refusal;
 use views::refusal::Verdict;
+use views::sizes;
 
-// Bytes of an event, and of the length of a message.
-pub const EVENT: usize = 16;
+// Where the parts of an event stand: its kind, the member, the view, the sender, the entry number.
+pub const KIND: usize = 0;
 
+pub const MEMBER: usize = KIND + 1;
+
+pub const VIEW: usize = MEMBER + 1;
+
+pub const SENDER: usize = VIEW + sizes::VIEW;
+
+pub const ENTRY: usize = SENDER + 1;
+
+// Bytes of an event.
+pub const EVENT: usize = ENTRY + sizes::NUMBER;
+
+// Bytes of the length of a message.
 pub const LENGTH: usize = 4;
 
 // 0 for accepted, or the refusal's number.
@@ -45,11 +58,11 @@ pub fn put_event(out: &mut [u8], e: Event)
     requires { ⌜ length (now out) ≡ eventSize ⌝ }
     ensures { λ _. ⌜ now (out .exit) ≡ eventBytes e ⌝ }
 {
-    out[0] = e.kind;
-    out[1] = e.member.0;
-    slots::store_view(out, 2, e.view);
-    out[7] = e.sender.0;
-    numbers::put_number(out, 8, 8, e.entry);
+    out[KIND] = e.kind;
+    out[MEMBER] = e.member.0;
+    slots::store_view(out, VIEW, e.view);
+    out[SENDER] = e.sender.0;
+    numbers::put_number(out, ENTRY, sizes::NUMBER, e.entry);
 }
 
 // The number of a call that gives an event out: a refusal leaves the bytes.

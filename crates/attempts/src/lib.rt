@@ -4,6 +4,7 @@ use acts::Reply;
 use books::Book;
 use steps::Stepped;
 use views::Member;
+use views::kinds;
 use views::limits;
 use views::refusal::Refusal;
 use views::refusal::Verdict;
@@ -74,7 +75,7 @@ fn attempted(h: Book, member: Member) -> Event
 {
     let view = h.carrier.view;
     Event {
-        kind: acts::ATTEMPT,
+        kind: kinds::ATTEMPT,
         member,
         view,
         sender: Member(0),

@@ -1,6 +1,7 @@
 // The small record of a book: what is asked of its counts, positions and views.
 use books::Seat;
 use views::limits;
+use views::sizes;
 ghost use mathlib.Core.Path.{_≡_};
 ghost use Prim.Native.Nat.{_+_, _≤_};
 ghost use lib.ListN.{length, getD};
@@ -9,16 +10,16 @@ ghost use Rattle.views.specs.Limits.{maxOpen, maxOrdered};
 ghost use Rattle.rules.specs.Member.{every};
 ghost use Rattle.rules.specs.Alone.{setFitsIf, limitIf};
 ghost use Rattle.books.specs.Records.{seated, seatIn, recordIn};
-ghost use Rattle.books.specs.Places.{bookSize, opensAt};
+ghost use Rattle.books.specs.Places.{bookSize, opensAt, seatSize};
 ghost use Rattle.audit.specs.Parts.{recordSound, takenFits, positionsFit, viewsSound};
 
 // The set of the view at a place, if there is one, fits n members.
 fn seat_fits(b: &[u8], at: usize, n: u8) -> bool
-    requires { ⌜ at + 6 ≤ length (now b) ⌝ }
+    requires { ⌜ at + seatSize ≤ length (now b) ⌝ }
     ensures { λ r. ⌜ r ≡ setFitsIf n (seated (seatIn (now (b .entry)) at)) ⌝ }
 {
     if b[at] == 1 {
-        return rows::fits(n, b[at + 1 + 4]);
+        return rows::fits(n, b[at + 1 + sizes::IDENTIFIER]);
     }
     true
 }

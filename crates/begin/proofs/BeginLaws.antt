@@ -11,6 +11,7 @@ use Rattle.views.specs.declared.refusal.Refusal.{Refusal}
 use Rattle.views.specs.declared.refusal.Refusal.the-variants.{MembersOutOfRange, FirstSetUnfit, ListLength, RecordsUnsound}
 use Rattle.views.specs.declared.refusal.Verdict.the-variants.{Accepted, Refused}
 use Rattle.views.specs.Limits.{maxMembers, maxViews}
+use Rattle.views.specs.Sizes.{viewSize}
 use Rattle.views.specs.Sets.{both}
 use Rattle.rules.specs.Data.{need}
 use Rattle.rules.specs.Sound.{conditions, setFits}
@@ -18,7 +19,7 @@ use Rattle.rules.specs.Group.{fits, start, firstView}
 use Rattle.books.specs.Places.{bookSize}
 use Rattle.steps.specs.Turns.{verdictOf}
 use Rattle.fresh.specs.Starts.{startBytes}
-use Rattle.groups.specs.Places.{viewSize, roomOf, booksSize, bookBytes, withBook, queuesSize}
+use Rattle.groups.specs.Places.{roomOf, booksSize, bookBytes, withBook, queuesSize}
 use Rattle.groups.specs.Groups.{Ranges}
 use Rattle.groups.specs.Starts.{startBooks, startRanges}
 use Rattle.groups.specs.Steps.{rangesLong, startResult}

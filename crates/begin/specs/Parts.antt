@@ -4,8 +4,9 @@ use mathlib.Core.List.{[], _∷_}
 use Prim.Native.Nat.{ℕ, _/_, _%_}
 use lib.Dec.{eqb}
 use Rattle.views.specs.Limits.{maxViews}
+use Rattle.views.specs.Sizes.{viewSize}
 use Rattle.rules.specs.Sound.{within, conditions}
-use Rattle.groups.specs.Places.{viewSize, booksSize, queuesSize}
+use Rattle.groups.specs.Places.{booksSize, queuesSize}
 
 -- ranges of these lengths are of their lengths
 unfoldable pub longFor : ℕ → ℕ → ℕ → Bool

@@ -8,6 +8,7 @@ ghost use mathlib.Core.Path.{_≡_};
 ghost use Prim.Native.Nat.{_≤_, _<_};
 ghost use lib.ListN.{length, set, replicate};
 ghost use Rattle.views.specs.Limits.{maxMembers};
+ghost use Rattle.views.specs.Sizes.{viewSize};
 ghost use Rattle.rules.specs.Group.{firstView};
 ghost use Rattle.slots.specs.Changes.{storeView};
 ghost use Rattle.steps.specs.Turns.{verdictOf};
@@ -20,7 +21,7 @@ ghost use Rattle.begin.specs.Parts.{longFor};
 
 // The first view alone is listed.
 fn lay_list(list: &mut [u8], first: u8)
-    requires { ⌜ 5 ≤ length (now list) ⌝ }
+    requires { ⌜ viewSize ≤ length (now list) ⌝ }
     ensures { λ _. ⌜ now (list .exit) ≡ storeView (replicate (length (now (list .entry))) 0) 0 (firstView first) ⌝ }
 {
     fresh::clear(list);

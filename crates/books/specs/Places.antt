@@ -1,66 +1,77 @@
--- Where each thing of a book stands in its bytes: docs/LAYOUT.md has the table.
+-- Where each thing of a book stands in its bytes, behind the one before it: docs/LAYOUT.md has the table.
 use Prim.Native.Nat.{ℕ, _+_, _*_}
+use Rattle.views.specs.Sizes.{viewSize}
+use Rattle.views.specs.Limits.{maxMembers, maxOpen, maxOutgoing, maxOrdered}
+use Rattle.slots.specs.Slots.{slotSize, itemSize}
+
+-- a view or none: 1 or 0 for one or none, then the view
+abbrev pub seatSize : ℕ
+seatSize = 1 + viewSize
 
 -- the number of members, and the member's own number
 abbrev pub membersAt : ℕ
 membersAt = 0
 
 abbrev pub selfAt : ℕ
-selfAt = 1
+selfAt = membersAt + 1
 
 -- the settled view
 abbrev pub settledAt : ℕ
-settledAt = 2
+settledAt = selfAt + 1
 
--- the carrier view and the client view: 1 or 0 for one or none, then the view
+-- the carrier view and the client view, each a view or none
 abbrev pub carrierAt : ℕ
-carrierAt = 7
+carrierAt = settledAt + viewSize
 
 abbrev pub clientAt : ℕ
-clientAt = 13
+clientAt = carrierAt + seatSize
 
 -- 1 or 0: registered in the client view
 abbrev pub registeredAt : ℕ
-registeredAt = 19
+registeredAt = clientAt + seatSize
 
 -- positions: handed, told and reported in the client view's inward list, taken in the carrier view's order
 abbrev pub handedAt : ℕ
-handedAt = 20
+handedAt = registeredAt + 1
 
 abbrev pub toldAt : ℕ
-toldAt = 21
+toldAt = handedAt + 1
 
 abbrev pub reportedAt : ℕ
-reportedAt = 22
+reportedAt = toldAt + 1
 
 abbrev pub takenAt : ℕ
-takenAt = 23
+takenAt = reportedAt + 1
 
 -- whose infos and registrations were received, as sets, and the told count received from each member
 abbrev pub infosAt : ℕ
-infosAt = 24
+infosAt = takenAt + 1
 
 abbrev pub registrationsAt : ℕ
-registrationsAt = 25
+registrationsAt = infosAt + 1
 
 abbrev pub toldsAt : ℕ
-toldsAt = 26
+toldsAt = registrationsAt + 1
 
 -- which inward list is the client view's: 0 or 1
 abbrev pub sideAt : ℕ
-sideAt = 34
+sideAt = toldsAt + maxMembers
 
 -- open views: their count, then 31 places
 abbrev pub opensAt : ℕ
-opensAt = 35
+opensAt = sideAt + 1
 
 -- outgoing: its count, then 16 slots
 abbrev pub outgoingAt : ℕ
-outgoingAt = 191
+outgoingAt = opensAt + 1 + viewSize * maxOpen
 
--- the two inward lists: each its count, then 128 places for items
+-- an inward list: its count, then 128 places for items
+abbrev pub inwardSize : ℕ
+inwardSize = 1 + itemSize * maxOrdered
+
+-- the two inward lists
 abbrev pub inwardAt : ℕ → ℕ
-inwardAt side = 2928 + 1153 * side
+inwardAt side = outgoingAt + 1 + slotSize * maxOutgoing + inwardSize * side
 
 abbrev pub bookSize : ℕ
-bookSize = 5234
+bookSize = inwardAt 2

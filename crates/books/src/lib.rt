@@ -3,11 +3,12 @@ use views::Position;
 use views::View;
 use views::limits;
 use views::list::Views;
+use views::sizes;
 ghost use mathlib.Core.Path.{_≡_};
 ghost use Prim.Native.Nat.{ℕ, _+_, _≤_};
 ghost use lib.ListN.{length, take, drop};
 ghost use Rattle.views.specs.Limits.{maxMembers, maxOpen};
-ghost use Rattle.books.specs.Places.{bookSize, toldsAt};
+ghost use Rattle.books.specs.Places.{bookSize, seatSize, toldsAt};
 ghost use Rattle.books.specs.Records.{seatIn, recordIn, flag, storeSeat, storeSeats, storeCounts, storeNotes, storeOpens, storeRecord};
 
 // A view or none. Without a view, what `view` holds means nothing.
@@ -34,48 +35,52 @@ pub struct Book {
     pub side: u8,
 }
 
-// Where each thing stands: docs/LAYOUT.md has the table.
-pub const SIZE: usize = 5234;
+// Bytes of a view or none: a mark, 1 or 0, then the view.
+pub const SEAT: usize = 1 + sizes::VIEW;
 
-pub const SETTLED: usize = 2;
-
-pub const CARRIER: usize = 7;
-
-pub const CLIENT: usize = 13;
-
-pub const REGISTERED: usize = 19;
-
-pub const HANDED: usize = 20;
-
-pub const TOLD: usize = 21;
-
-pub const REPORTED: usize = 22;
-
-pub const TAKEN: usize = 23;
-
-pub const INFOS: usize = 24;
-
-pub const REGISTRATIONS: usize = 25;
-
-pub const TOLDS: usize = 26;
-
-pub const SIDE: usize = 34;
-
-pub const OPENS: usize = 35;
-
+// Where each thing stands, behind the one before it: docs/LAYOUT.md has the table.
 pub const MEMBERS: usize = 0;
 
-pub const SELF: usize = 1;
+pub const SELF: usize = MEMBERS + 1;
 
-pub const OUTGOING: usize = 191;
+pub const SETTLED: usize = SELF + 1;
 
-pub const INWARD: usize = 2928;
+pub const CARRIER: usize = SETTLED + sizes::VIEW;
 
-pub const APART: usize = 1153;
+pub const CLIENT: usize = CARRIER + SEAT;
+
+pub const REGISTERED: usize = CLIENT + SEAT;
+
+pub const HANDED: usize = REGISTERED + 1;
+
+pub const TOLD: usize = HANDED + 1;
+
+pub const REPORTED: usize = TOLD + 1;
+
+pub const TAKEN: usize = REPORTED + 1;
+
+pub const INFOS: usize = TAKEN + 1;
+
+pub const REGISTRATIONS: usize = INFOS + 1;
+
+pub const TOLDS: usize = REGISTRATIONS + 1;
+
+pub const SIDE: usize = TOLDS + limits::MEMBERS as usize;
+
+pub const OPENS: usize = SIDE + 1;
+
+pub const OUTGOING: usize = OPENS + 1 + sizes::VIEW * limits::OPEN;
+
+pub const INWARD: usize = OUTGOING + 1 + slots::SLOT * limits::OUTGOING as usize;
+
+// Bytes of an inward list: the second stands so far behind the first.
+pub const APART: usize = 1 + slots::ITEM * limits::ORDERED as usize;
+
+pub const SIZE: usize = INWARD + APART * 2;
 
 // A view or none at a place.
 pub fn load_seat(b: &[u8], at: usize) -> Seat
-    requires { ⌜ at + 6 ≤ length (now b) ⌝ }
+    requires { ⌜ at + seatSize ≤ length (now b) ⌝ }
     ensures { λ r. ⌜ r ≡ seatIn (now (b .entry)) at ⌝ }
 {
     let there = b[at] == 1;
@@ -142,7 +147,7 @@ fn mark(on: bool) -> u8
 
 // A view or none is stored at a place.
 pub fn store_seat(b: &mut [u8], at: usize, seat: Seat)
-    requires { ⌜ at + 6 ≤ length (now b) ⌝ }
+    requires { ⌜ at + seatSize ≤ length (now b) ⌝ }
     ensures { λ _. ⌜ now (b .exit) ≡ storeSeat (now (b .entry)) at seat ⌝ }
 {
     b[at] = mark(seat.there);

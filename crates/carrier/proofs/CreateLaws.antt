@@ -13,6 +13,7 @@ use Rattle.views.specs.declared.refusal.Refusal.{Refusal}
 use Rattle.views.specs.declared.refusal.Refusal.the-variants.{SetUnfit, IdentifierNotAbove, ListFull}
 use Rattle.views.specs.declared.refusal.Verdict.the-variants.{Accepted, Refused}
 use Rattle.views.specs.Limits.{maxMembers}
+use Rattle.views.specs.Sizes.{viewSize}
 use Rattle.views.specs.Sets.{isEmpty, isBeyond}
 use Rattle.views.specs.Lists.{viewOf}
 use Rattle.wire.specs.Reader.{viewsIn}
@@ -22,7 +23,7 @@ use Rattle.rules.specs.Group.{fits, creates}
 use Rattle.steps.specs.Turns.{verdictOf}
 use Rattle.acts.specs.Replies.{left}
 use Rattle.slots.specs.Changes.{storeView}
-use Rattle.groups.specs.Places.{roomOf, viewSize, madeAt, orderAt, waitingAt}
+use Rattle.groups.specs.Places.{roomOf, madeAt, orderAt, waitingAt}
 use Rattle.groups.specs.Groups.{Ranges, membersOf, madeOf, viewsMade, groupIn}
 use Rattle.groups.specs.Moves.{waitingCleared, tableCleared, createRanges}
 use Rattle.groups.proofs.RangesLaws.{Ranged}

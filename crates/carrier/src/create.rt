@@ -4,15 +4,17 @@ use views::ViewId;
 use views::limits;
 use views::refusal::Refusal;
 use views::refusal::Verdict;
+use views::sizes;
 ghost use mathlib.Core.Bool.{true};
 ghost use mathlib.Core.Path.{_≡_};
 ghost use Prim.Native.Nat.{_+_, _*_, _≤_, _<_};
 ghost use lib.ListN.{length, set};
 ghost use Rattle.views.specs.Limits.{maxMembers, maxViews};
+ghost use Rattle.views.specs.Sizes.{viewSize};
 ghost use Rattle.wire.specs.Reader.{viewsIn};
 ghost use Rattle.rules.specs.Group.{fits};
 ghost use Rattle.slots.specs.Changes.{storeView};
-ghost use Rattle.groups.specs.Places.{viewSize, tableSize, orderAt, madeAt};
+ghost use Rattle.groups.specs.Places.{tableSize, orderAt, madeAt};
 ghost use Rattle.groups.specs.Groups.{rangesSound};
 ghost use Rattle.groups.specs.Moves.{tableCleared};
 ghost use Rattle.carrier.specs.Carrier.{allBelow, Created};
@@ -39,7 +41,7 @@ fn above(list: &[u8], n: u8, id: u64) -> bool
 {
     let mut i = 0;
     while i < n {
-        if id <= numbers::get_number(list, groups::VIEW * (i as usize), 4) {
+        if id <= numbers::get_number(list, groups::VIEW * (i as usize), sizes::IDENTIFIER) {
             return false;
         }
         i += 1;

@@ -1,4 +1,5 @@
 // Queue entries and inward items where they lie in bytes, tested in place. Only what is used is looked at.
+use views::sizes;
 use wire::format;
 ghost use mathlib.Core.Bool.{true};
 ghost use mathlib.Core.Path.{_≡_};
@@ -17,14 +18,14 @@ pub fn entry_sound(b: &[u8], at: usize, n: u8) -> bool
     if n <= b[at] {
         return false;
     }
-    let kind = b[at + 1];
+    let kind = b[at + slots::KIND];
     if kind == format::INFO {
-        return rows::sound(b, at + 11, b[at + 10] as usize, n);
+        return rows::sound(b, at + slots::VIEWS, b[at + slots::COUNT] as usize, n);
     }
     if kind != format::TOLD {
         return true;
     }
-    let x = numbers::get_number(b, at + 2, 8);
+    let x = numbers::get_number(b, at + slots::NUMBER, sizes::NUMBER);
     format::told_fits(kind, x)
 }
 

@@ -1,5 +1,6 @@
 // Step: 4 for unsound ranges, then the step of a kind's number.
 use acts::Reply;
+use views::kinds;
 use views::refusal::Refusal;
 use views::refusal::Verdict;
 ghost use mathlib.Core.Bool.{true};
@@ -34,18 +35,18 @@ fn dispatch(
     ensures { λ r. ⌜ Went (ranges (now (list .entry)) (now (all .entry)) (now (queues .entry))) (asked kind first second) (ranges (now (list .exit)) (now (all .exit)) (now (queues .exit))) r ⌝ }
 {
     match kind {
-        1 => plain(carrier::create::create(list, all, queues, first, second)),
-        2 => visits::join(list, all, queues, first, second),
-        3 => plain(carrier::pass::pass(list, all, queues, first)),
-        4 => plain(carrier::order::order(list, all, queues, first, second)),
-        5 => visits::deliver(list, all, queues, first),
-        6 => desks::attempt(all, first),
-        7 => desks::register(all, first),
-        8 => desks::send(all, first, second),
-        9 => desks::hand(all, first),
-        10 => desks::tell(all, first),
-        11 => desks::safe(all, first),
-        12 => desks::collect(all, first),
+        kinds::CREATE => plain(carrier::create::create(list, all, queues, first, second)),
+        kinds::JOIN => visits::join(list, all, queues, first, second),
+        kinds::PASS => plain(carrier::pass::pass(list, all, queues, first)),
+        kinds::ORDER => plain(carrier::order::order(list, all, queues, first, second)),
+        kinds::DELIVER => visits::deliver(list, all, queues, first),
+        kinds::ATTEMPT => desks::attempt(all, first),
+        kinds::REGISTER => desks::register(all, first),
+        kinds::SEND => desks::send(all, first, second),
+        kinds::HAND => desks::hand(all, first),
+        kinds::TELL => desks::tell(all, first),
+        kinds::SAFE => desks::safe(all, first),
+        kinds::COLLECT => desks::collect(all, first),
         0 | 13..=255 => acts::refuse(Refusal::UnknownStep),
     }
 }

@@ -11,6 +11,7 @@ use lib.ListN.{length, getD, set}
 use lib.Seq.{getD-set-same}
 use Rattle.views.specs.declared.View.{View}
 use Rattle.views.specs.Limits.{maxWaiting, maxOrdered}
+use Rattle.views.specs.Sizes.{viewSize}
 use Rattle.views.specs.Lists.{viewOf}
 use Rattle.wire.specs.Reader.{viewIn}
 use Rattle.wire.proofs.ReaderLaws.{viewsIn-snoc}
@@ -23,7 +24,7 @@ use Rattle.slots.proofs.Stored.{view-stored}
 use Rattle.slots.proofs.BytesKept.{set-bytes, storeView-bytes}
 use Rattle.books.specs.Books.{bookIn}
 use Rattle.acts.proofs.Means.{gave}
-use Rattle.groups.specs.Places.{viewSize, roomOf, bookBytes, madeAt, headSize, tableSize, orderAt, waitingAt}
+use Rattle.groups.specs.Places.{roomOf, bookBytes, madeAt, headSize, tableSize, orderAt, waitingAt}
 use Rattle.groups.specs.Groups.{Ranges, membersOf, madeOf, viewsMade, placeOf, waitingIn, orderIn, bookOf, groupIn}
 use Rattle.groups.specs.Moves.{tableCleared, createRanges}
 use Rattle.groups.proofs.RangesLaws.{RangesBytes, Queued, Tabled, Ranged, MeansGroup}

@@ -10,6 +10,7 @@ use lib.ListN.{length}
 use lib.Pow.{pow-mono}
 use Rattle.views.specs.declared.View.{View}
 use Rattle.views.specs.Limits.{maxMembers}
+use Rattle.views.specs.Sizes.{viewSize}
 use Rattle.views.specs.Sets.{isEmpty, isBeyond}
 use Rattle.views.specs.Lists.{idOf, viewOf}
 use Rattle.views.proofs.SetLaws.{both-true}
@@ -20,7 +21,7 @@ use Rattle.rules.specs.Group.{Next, fits as setFits, creates}
 use Rattle.rules.proofs.TestLaws.{all-at}
 use Rattle.rules.proofs.Holding.{Holds, gives, need-holds}
 use Rattle.acts.proofs.Means.{gave}
-use Rattle.groups.specs.Places.{viewSize, roomOf, tableSize, orderAt}
+use Rattle.groups.specs.Places.{roomOf, tableSize, orderAt}
 use Rattle.groups.specs.Groups.{Ranges, membersOf, madeOf, viewsMade, waitingIn, orderIn, bookOf, groupIn}
 use Rattle.groups.proofs.RangesLaws.{Ranged}
 use Rattle.groups.proofs.PlaceLaws.{length-made}

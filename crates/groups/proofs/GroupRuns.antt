@@ -8,6 +8,7 @@ use borrow.Author.Tests.{eqb-true}
 use lib.ListN.{length}
 use Rattle.views.specs.declared.refusal.Refusal.the-variants.{RecordsUnsound}
 use Rattle.views.specs.Limits.{maxMembers, maxViews}
+use Rattle.views.specs.Sizes.{viewSize}
 use Rattle.views.specs.Sets.{one}
 use Rattle.views.proofs.Members.{top, pop}
 use Rattle.rules.specs.Data.{Group, Step, Event as Outward, item, attempt, register, send, hand, safe, Answer, ok, event, refusal, Result, refused, accepted, need}
@@ -19,7 +20,7 @@ use Rattle.rules.proofs.Demand3.{demand3}
 use Rattle.rules.proofs.NeverWedged as W
 use Rattle.rules.proofs.Holding.{Holds, gives, need-holds}
 use Rattle.acts.specs.Replies.{outwardOf, eventOf}
-use Rattle.groups.specs.Places.{viewSize, roomOf, booksSize, queuesSize}
+use Rattle.groups.specs.Places.{roomOf, booksSize, queuesSize}
 use Rattle.groups.specs.Groups.{Ranges, rangesSound}
 use Rattle.groups.specs.Answers.{nextReply}
 use Rattle.groups.specs.Starts.{startRanges}

@@ -7,6 +7,7 @@ use borrow.Author.Tests.{eqb-true, leb-true, eq-eqb, le-leb}
 use lib.Dec.{leb}
 use lib.ListN.{length, getD}
 use Rattle.views.specs.Limits.{maxMembers, maxViews, maxWaiting, maxOrdered}
+use Rattle.views.specs.Sizes.{viewSize}
 use Rattle.views.proofs.SetLaws.{both-true}
 use Rattle.wire.proofs.TripViews.{AreBytes}
 use Rattle.rules.specs.Data.{Group}
@@ -14,7 +15,7 @@ use Rattle.rules.proofs.TestLaws.{_and_, both-from, within-says, within-from, e
 use Rattle.slots.specs.Slots.{slotsFit}
 use Rattle.books.specs.Places.{membersAt, selfAt}
 use Rattle.books.proofs.LayoutLaws.{Layout, layout-says, layout-from}
-use Rattle.groups.specs.Places.{viewSize, roomOf, booksSize, bookBytes, orderAt, waitingAt, queuesSize}
+use Rattle.groups.specs.Places.{roomOf, booksSize, bookBytes, orderAt, waitingAt, queuesSize}
 use Rattle.groups.specs.Groups.{Ranges, membersOf, madeOf, queueFits, tableFits, seatFits, rangesFit, groupIn}
 
 -- every byte of the ranges is one

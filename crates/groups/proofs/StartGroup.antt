@@ -14,6 +14,7 @@ use Rattle.numbers.specs.Number.{put}
 use Rattle.numbers.proofs.NumberLaws.{length-put}
 use Rattle.views.specs.declared.View.{View}
 use Rattle.views.specs.Limits.{maxMembers, maxViews, maxWaiting, maxOrdered}
+use Rattle.views.specs.Sizes.{viewSize}
 use Rattle.views.specs.Sets.{both}
 use Rattle.views.proofs.SetLaws.{known}
 use Rattle.wire.specs.Reader.{viewIn, viewsIn}
@@ -26,7 +27,7 @@ use Rattle.books.specs.Places.{bookSize}
 use Rattle.books.proofs.Blank.{zero-at, zero-bytes, no-entries, no-slots}
 use Rattle.fresh.specs.Starts.{startBytes}
 use Rattle.fresh.proofs.StartBook.{fits-byte, start-size, start-layout, start-members, start-self, start-book, start-bytes}
-use Rattle.groups.specs.Places.{viewSize, roomOf, booksSize, bookBytes, madeAt, orderAt, waitingAt, queuesSize}
+use Rattle.groups.specs.Places.{roomOf, booksSize, bookBytes, madeAt, orderAt, waitingAt, queuesSize}
 use Rattle.groups.specs.Groups.{Ranges, membersOf, madeOf, viewsMade, placeOf, bookOf, waitingIn, orderIn, groupIn}
 use Rattle.groups.specs.Starts.{startBooks, startRanges}
 use Rattle.groups.proofs.RangesLaws.{RangesBytes, Queued, Tabled, Seated, Ranged, MeansGroup}

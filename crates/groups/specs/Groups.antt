@@ -6,6 +6,7 @@ use lib.Dec.{eqb, ltb, leb}
 use lib.ListN.{length, getD}
 use Rattle.views.specs.declared.View.{View}
 use Rattle.views.specs.Limits.{maxMembers, maxViews, maxWaiting, maxOrdered}
+use Rattle.views.specs.Sizes.{viewSize}
 use Rattle.views.specs.Sets.{both}
 use Rattle.views.specs.Lists.{idOf}
 use Rattle.wire.specs.Reader.{viewIn, viewsIn}
@@ -16,7 +17,7 @@ use Rattle.rules.specs.Group.{fresh}
 use Rattle.slots.specs.Slots.{queueIn, slotsFit}
 use Rattle.books.specs.Places.{membersAt, selfAt}
 use Rattle.books.specs.Books.{bookIn, layoutFits}
-use Rattle.groups.specs.Places.{viewSize, roomOf, booksSize, bookBytes, madeAt, orderAt, waitingAt, queuesSize}
+use Rattle.groups.specs.Places.{roomOf, booksSize, bookBytes, madeAt, orderAt, waitingAt, queuesSize}
 
 -- the three ranges
 pub record Ranges : Type 0 where

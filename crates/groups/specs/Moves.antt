@@ -5,6 +5,7 @@ use lib.ListN.{getD, set, drop}
 use lib.Seq.{paste}
 use Rattle.views.specs.declared.View.{View}
 use Rattle.views.specs.Limits.{maxMembers}
+use Rattle.views.specs.Sizes.{viewSize}
 use Rattle.views.specs.Lists.{idOf, noView}
 use Rattle.rules.specs.Data.{Identifier, Member}
 use Rattle.slots.specs.Slots.{slotSize, messageIn}
@@ -12,7 +13,7 @@ use Rattle.slots.specs.Changes.{storeView, popped}
 use Rattle.books.specs.Places.{takenAt, outgoingAt}
 use Rattle.books.specs.Records.{recordIn}
 use Rattle.acts.specs.Acts.{joinBytes, passBytes, takeBytes}
-use Rattle.groups.specs.Places.{viewSize, bookBytes, withBook, madeAt, orderAt, waitingAt}
+use Rattle.groups.specs.Places.{bookBytes, withBook, madeAt, orderAt, waitingAt}
 use Rattle.groups.specs.Groups.{Ranges, madeOf, viewsMade, placeOf}
 
 -- the view made with an identifier

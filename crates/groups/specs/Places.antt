@@ -3,13 +3,11 @@ use mathlib.Core.List.{List, _++_}
 use Prim.Native.Nat.{ℕ, _+_, _*_, _/_}
 use lib.ListN.{length, take, drop}
 use Rattle.views.specs.Limits.{maxMembers, maxWaiting, maxOrdered}
+use Rattle.views.specs.Sizes.{viewSize}
 use Rattle.slots.specs.Slots.{slotSize}
 use Rattle.books.specs.Places.{bookSize}
 
--- ---- the list: whole view records, identifier 4 bytes and set 1
-
-abbrev pub viewSize : ℕ
-viewSize = 5
+-- ---- the list: whole view records
 
 -- its length is the limit of views made
 abbrev pub roomOf : List ℕ → ℕ

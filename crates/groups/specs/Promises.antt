@@ -6,6 +6,7 @@ use Prim.Native.Nat.{ℕ, _^_, _<_}
 use lib.Dec.{eqb}
 use Rattle.views.specs.declared.refusal.Verdict.{Verdict}
 use Rattle.views.specs.declared.refusal.Verdict.the-variants.{Accepted, Refused}
+use Rattle.views.specs.Kinds.{attemptKind, registerKind, sendKind, handKind, safeKind}
 use Rattle.views.specs.Members.{In}
 use Rattle.views.specs.Sets.{one}
 use Rattle.views.specs.Lists.{idOf}
@@ -24,11 +25,11 @@ shown e =
     let p = e .member .0 in
     let g = idOf (e .view) in
     let x = item (e .sender .0) (e .entry) in
-    cond (eqb k 6) (attempt p (e .view) ∷ [])
-    (cond (eqb k 7) (register p g ∷ [])
-    (cond (eqb k 8) (send p g (e .entry) ∷ [])
-    (cond (eqb k 9) (hand p g x ∷ [])
-    (cond (eqb k 11) (safe p g x ∷ []) []))))
+    cond (eqb k attemptKind) (attempt p (e .view) ∷ [])
+    (cond (eqb k registerKind) (register p g ∷ [])
+    (cond (eqb k sendKind) (send p g (e .entry) ∷ [])
+    (cond (eqb k handKind) (hand p g x ∷ [])
+    (cond (eqb k safeKind) (safe p g x ∷ []) []))))
 
 -- a refusal or ok shows nothing
 abbrev pub shownBy : Verdict → Event → List (Outward ℕ)

@@ -8,6 +8,7 @@ use Rattle.views.specs.declared.refusal.Refusal.the-variants.{RecordsUnsound}
 use Rattle.views.specs.declared.refusal.Verdict.{Verdict}
 use Rattle.views.specs.declared.refusal.Verdict.the-variants.{Accepted, Refused}
 use Rattle.views.specs.Limits.{maxViews}
+use Rattle.views.specs.Sizes.{viewSize}
 use Rattle.views.specs.Sets.{one}
 use Rattle.rules.specs.Data.{Step, Group, Result, need}
 use Rattle.rules.specs.Sound.{within, conditions}
@@ -15,7 +16,7 @@ use Rattle.rules.specs.Group.{Next, start, stepOf}
 use Rattle.steps.specs.Turns.{verdictOf}
 use Rattle.acts.specs.declared.Reply.{Reply}
 use Rattle.acts.specs.Acts.{attemptBytes, registerBytes, sendBytes, handBytes, tellBytes, safeBytes, collectBytes}
-use Rattle.groups.specs.Places.{viewSize, roomOf, booksSize, bookBytes, queuesSize}
+use Rattle.groups.specs.Places.{roomOf, booksSize, bookBytes, queuesSize}
 use Rattle.groups.specs.Groups.{Ranges, groupIn, rangesSound}
 use Rattle.groups.specs.Moves.{viewAt, rebooked, createRanges, joinRanges, passRanges, orderRanges, deliverRanges}
 use Rattle.groups.specs.Answers.{nextReply}

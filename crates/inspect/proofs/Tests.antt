@@ -10,6 +10,7 @@ use lib.Dec.{eqb, leb}
 use lib.ListN.{length, getD, take, drop}
 use Rattle.views.specs.declared.View.{View}
 use Rattle.views.specs.Limits.{maxMembers, maxViews, maxOpen}
+use Rattle.views.specs.Sizes.{viewSize}
 use Rattle.views.specs.Sets.{both}
 use Rattle.views.specs.Lists.{idOf, listOf}
 use Rattle.wire.specs.Reader.{viewIn, viewsIn}
@@ -23,7 +24,7 @@ use Rattle.books.specs.Records.{seated, seatIn, recordIn}
 use Rattle.books.specs.Books.{layoutFits, bytesSound}
 use Rattle.rules.proofs.Truth.{both-unit}
 use Rattle.audit.proofs.Tests.{opens-in}
-use Rattle.groups.specs.Places.{viewSize, roomOf, booksSize, bookBytes, orderAt, queuesSize}
+use Rattle.groups.specs.Places.{roomOf, booksSize, bookBytes, orderAt, queuesSize}
 use Rattle.groups.specs.Groups.{Ranges, membersOf, madeOf, viewsMade, placeOf}
 use Rattle.inspect.specs.Parts.{sizesFit, numbersFit, recordListed, orderedIn, seatSound}
 use Rattle.inspect.proofs.PlaceLaws.{place-within}

@@ -8,6 +8,7 @@ use lib.Dec.{eqb, leb}
 use lib.ListN.{length, getD}
 use Rattle.views.specs.declared.View.{View}
 use Rattle.views.specs.Limits.{maxMembers, maxViews, maxWaiting, maxOrdered}
+use Rattle.views.specs.Sizes.{viewSize}
 use Rattle.views.specs.Sets.{both}
 use Rattle.views.specs.Lists.{idOf, isRising, listOf}
 use Rattle.rules.specs.Member.{every, all}
@@ -18,7 +19,7 @@ use Rattle.books.specs.Places.{membersAt, selfAt}
 use Rattle.books.specs.Records.{seated, recordIn}
 use Rattle.books.specs.Books.{outgoingIn, bytesSound}
 use Rattle.entries.specs.Parts.{entrySound}
-use Rattle.groups.specs.Places.{viewSize, roomOf, booksSize, bookBytes, orderAt, waitingAt, queuesSize}
+use Rattle.groups.specs.Places.{roomOf, booksSize, bookBytes, orderAt, waitingAt, queuesSize}
 use Rattle.groups.specs.Groups.{Ranges, membersOf, madeOf, viewsMade, placeOf}
 
 -- the lengths of the three ranges

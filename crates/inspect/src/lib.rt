@@ -8,6 +8,7 @@ ghost use mathlib.Core.Path.{_≡_};
 ghost use Prim.Native.Nat.{_*_, _≤_};
 ghost use lib.ListN.{length};
 ghost use Rattle.views.specs.Limits.{maxMembers};
+ghost use Rattle.views.specs.Sizes.{viewSize};
 ghost use Rattle.wire.specs.Reader.{viewsIn};
 ghost use Rattle.groups.specs.Places.{booksSize, orderAt};
 ghost use Rattle.groups.specs.Groups.{rangesSound};
@@ -51,7 +52,7 @@ fn numbers_fit(n: u8, made: u8, room: usize) -> bool
 
 // The list, the books and the queues, with so many views made.
 fn records_sound(list: &[u8], books: &[u8], queues: &[u8], made: u8, n: u8) -> bool
-    requires { ⌜ (5 * made ≤ length (now list)) × (length (now books) ≡ booksSize) × (orderAt made ≤ length (now queues)) × (n ≤ maxMembers) ⌝ }
+    requires { ⌜ (viewSize * made ≤ length (now list)) × (length (now books) ≡ booksSize) × (orderAt made ≤ length (now queues)) × (n ≤ maxMembers) ⌝ }
     ensures { λ r. ⌜ r ≡ recordsSound (viewsIn (now (list .entry)) 0 made) n (now (books .entry)) (now (queues .entry)) ⌝ }
 {
     if !rows::sound(list, 0, made as usize, n) {

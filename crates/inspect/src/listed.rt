@@ -5,17 +5,18 @@ ghost use mathlib.Core.Path.{_≡_};
 ghost use Prim.Native.Nat.{_+_, _*_, _≤_};
 ghost use lib.ListN.{length, getD};
 ghost use Rattle.views.specs.Limits.{maxOpen};
+ghost use Rattle.views.specs.Sizes.{viewSize};
 ghost use Rattle.wire.specs.Reader.{viewsIn};
 ghost use Rattle.rules.specs.Member.{all};
 ghost use Rattle.rules.specs.Sound.{listedIf, infoListed};
 ghost use Rattle.slots.specs.Slots.{slotSize, entryIn, entriesIn, slotFits, slotsFit};
-ghost use Rattle.books.specs.Places.{bookSize, opensAt};
+ghost use Rattle.books.specs.Places.{bookSize, opensAt, seatSize};
 ghost use Rattle.books.specs.Records.{seated, seatIn, recordIn};
 ghost use Rattle.inspect.specs.Parts.{recordListed};
 
 // The view at a place of a book, if there is one.
 fn seat_listed(list: &[u8], b: &[u8], made: u8, at: usize) -> bool
-    requires { ⌜ (5 * made ≤ length (now list)) × (at + 6 ≤ length (now b)) ⌝ }
+    requires { ⌜ (viewSize * made ≤ length (now list)) × (at + seatSize ≤ length (now b)) ⌝ }
     ensures { λ r. ⌜ r ≡ listedIf (viewsIn (now (list .entry)) 0 made) (seated (seatIn (now (b .entry)) at)) ⌝ }
 {
     if b[at] == 1 {
@@ -27,7 +28,8 @@ fn seat_listed(list: &[u8], b: &[u8], made: u8, at: usize) -> bool
 
 // The views of a book's record: held, carrier view and client view.
 pub fn record_listed(list: &[u8], b: &[u8], made: u8) -> bool
-    requires { ⌜ (5 * made ≤ length (now list)) × (bookSize ≤ length (now b)) × (getD (now b) opensAt 0 ≤ maxOpen) ⌝ }
+    requires { ⌜ (viewSize * made ≤ length (now list)) × (bookSize ≤ length (now b))
+        × (getD (now b) opensAt 0 ≤ maxOpen) ⌝ }
     ensures { λ r. ⌜ r ≡ recordListed (viewsIn (now (list .entry)) 0 made) (recordIn (now (b .entry))) ⌝ }
 {
     let settled = reader::load_view(b, books::SETTLED);
@@ -46,18 +48,25 @@ pub fn record_listed(list: &[u8], b: &[u8], made: u8) -> bool
 
 // The views of an entry, if it is an info.
 pub fn info_listed(list: &[u8], b: &[u8], made: u8, at: usize) -> bool
-    requires { ⌜ (5 * made ≤ length (now list)) × (at + slotSize ≤ length (now b)) × (slotFits (now b) at ≡ true) ⌝ }
+    requires { ⌜ (viewSize * made ≤ length (now list)) × (at + slotSize ≤ length (now b))
+        × (slotFits (now b) at ≡ true) ⌝ }
     ensures { λ r. ⌜ r ≡ infoListed (viewsIn (now (list .entry)) 0 made) (entryIn (now (b .entry)) at) ⌝ }
 {
-    if b[at + 1] == format::INFO {
-        return rows::all_listed(list, made as usize, b, at + 11, b[at + 10] as usize);
+    if b[at + slots::KIND] == format::INFO {
+        return rows::all_listed(
+            list,
+            made as usize,
+            b,
+            at + slots::VIEWS,
+            b[at + slots::COUNT] as usize,
+        );
     }
     true
 }
 
 // The views of every info of a queue.
 pub fn infos_listed(list: &[u8], b: &[u8], made: u8, at: usize, count: usize) -> bool
-    requires { ⌜ (5 * made ≤ length (now list)) × (at + slotSize * count ≤ length (now b)) × (slotsFit (now b) at count ≡ true) ⌝ }
+    requires { ⌜ (viewSize * made ≤ length (now list)) × (at + slotSize * count ≤ length (now b)) × (slotsFit (now b) at count ≡ true) ⌝ }
     ensures { λ r. ⌜ r ≡ all (infoListed (viewsIn (now (list .entry)) 0 made)) (entriesIn (now (b .entry)) at count) ⌝ }
 {
     let mut i = 0;

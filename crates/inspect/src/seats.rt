@@ -5,6 +5,7 @@ ghost use mathlib.Core.Path.{_≡_};
 ghost use Prim.Native.Nat.{_*_, _≤_};
 ghost use lib.ListN.{length};
 ghost use Rattle.views.specs.Limits.{maxMembers};
+ghost use Rattle.views.specs.Sizes.{viewSize};
 ghost use Rattle.wire.specs.Reader.{viewsIn};
 ghost use Rattle.rules.specs.Member.{every};
 ghost use Rattle.rules.specs.Sound.{listedIf};
@@ -15,7 +16,7 @@ ghost use Rattle.inspect.specs.Parts.{orderedIn, bookKnown, seatSound};
 
 // How many messages are ordered in a listed view, or none.
 fn ordered(list: &[u8], queues: &[u8], made: u8, seat: Seat) -> u8
-    requires { ⌜ (5 * made ≤ length (now list)) × (orderAt made ≤ length (now queues)) × (listedIf (viewsIn (now list) 0 made) (seated seat) ≡ true) ⌝ }
+    requires { ⌜ (viewSize * made ≤ length (now list)) × (orderAt made ≤ length (now queues)) × (listedIf (viewsIn (now list) 0 made) (seated seat) ≡ true) ⌝ }
     ensures { λ r. ⌜ r ≡ orderedIn (viewsIn (now (list .entry)) 0 made) (now (queues .entry)) (seated seat) ⌝ }
 {
     if seat.there {
@@ -27,7 +28,8 @@ fn ordered(list: &[u8], queues: &[u8], made: u8, seat: Seat) -> u8
 
 // What the group asks of a book: its views are listed, and no more was taken than is ordered.
 fn book_known(list: &[u8], b: &[u8], queues: &[u8], made: u8) -> bool
-    requires { ⌜ (5 * made ≤ length (now list)) × (layoutFits (now b) ≡ true) × (orderAt made ≤ length (now queues)) ⌝ }
+    requires { ⌜ (viewSize * made ≤ length (now list)) × (layoutFits (now b) ≡ true)
+        × (orderAt made ≤ length (now queues)) ⌝ }
     ensures { λ r. ⌜ r ≡ bookKnown (viewsIn (now (list .entry)) 0 made) (now (queues .entry)) (now (b .entry)) ⌝ }
 {
     if !crate::listed::record_listed(list, b, made) {
@@ -48,7 +50,7 @@ fn book_known(list: &[u8], b: &[u8], queues: &[u8], made: u8) -> bool
 
 // The book of the member p.
 fn seat_sound(list: &[u8], b: &[u8], queues: &[u8], made: u8, n: u8, p: u8) -> bool
-    requires { ⌜ (5 * made ≤ length (now list)) × (orderAt made ≤ length (now queues)) ⌝ }
+    requires { ⌜ (viewSize * made ≤ length (now list)) × (orderAt made ≤ length (now queues)) ⌝ }
     ensures { λ r. ⌜ r ≡ seatSound (viewsIn (now (list .entry)) 0 made) (now (queues .entry)) n p (now (b .entry)) ⌝ }
 {
     if !audit::sound(b) {
@@ -65,7 +67,7 @@ fn seat_sound(list: &[u8], b: &[u8], queues: &[u8], made: u8, n: u8, p: u8) -> b
 
 // The books of n members.
 pub fn seats_sound(list: &[u8], books: &[u8], queues: &[u8], made: u8, n: u8) -> bool
-    requires { ⌜ (5 * made ≤ length (now list)) × (length (now books) ≡ booksSize) × (orderAt made ≤ length (now queues)) × (n ≤ maxMembers) ⌝ }
+    requires { ⌜ (viewSize * made ≤ length (now list)) × (length (now books) ≡ booksSize) × (orderAt made ≤ length (now queues)) × (n ≤ maxMembers) ⌝ }
     ensures { λ r. ⌜ r ≡ every n (λ p. seatSound (viewsIn (now (list .entry)) 0 made) (now (queues .entry)) n p (bookBytes (now (books .entry)) p)) ⌝ }
 {
     let mut p: u8 = 0;

@@ -5,6 +5,7 @@ ghost use mathlib.Core.Path.{_≡_};
 ghost use Prim.Native.Nat.{_+_, _*_, _≤_};
 ghost use lib.ListN.{length};
 ghost use Rattle.views.specs.Limits.{maxMembers};
+ghost use Rattle.views.specs.Sizes.{viewSize};
 ghost use Rattle.wire.specs.Reader.{viewsIn};
 ghost use Rattle.rules.specs.Member.{every};
 ghost use Rattle.slots.specs.Slots.{slotSize};
@@ -13,7 +14,7 @@ ghost use Rattle.inspect.specs.Parts.{entryKnown, entriesKnown, queueSou
 
 // The slot at a place: of known kind, its entry sound, its views listed.
 fn slot_known(list: &[u8], q: &[u8], made: u8, at: usize, n: u8) -> bool
-    requires { ⌜ (5 * made ≤ length (now list)) × (at + slotSize ≤ length (now q)) ⌝ }
+    requires { ⌜ (viewSize * made ≤ length (now list)) × (at + slotSize ≤ length (now q)) ⌝ }
     ensures { λ r. ⌜ r ≡ entryKnown (viewsIn (now (list .entry)) 0 made) n (now (q .entry)) at ⌝ }
 {
     if !slots::slot_fits(q, at) {
@@ -27,10 +28,10 @@ fn slot_known(list: &[u8], q: &[u8], made: u8, at: usize, n: u8) -> bool
 
 // The same: most entries are client messages, and of those only the sender is asked.
 fn entry_known(list: &[u8], q: &[u8], made: u8, at: usize, n: u8) -> bool
-    requires { ⌜ (5 * made ≤ length (now list)) × (at + slotSize ≤ length (now q)) ⌝ }
+    requires { ⌜ (viewSize * made ≤ length (now list)) × (at + slotSize ≤ length (now q)) ⌝ }
     ensures { λ r. ⌜ r ≡ entryKnown (viewsIn (now (list .entry)) 0 made) n (now (q .entry)) at ⌝ }
 {
-    if q[at + 1] == format::CLIENT {
+    if q[at + slots::KIND] == format::CLIENT {
         return q[at] < n;
     }
     slot_known(list, q, made, at, n)
@@ -38,7 +39,7 @@ fn entry_known(list: &[u8], q: &[u8], made: u8, at: usize, n: u8) -> bool
 
 // The slots of a queue.
 fn entries_known(list: &[u8], q: &[u8], made: u8, at: usize, count: usize, n: u8) -> bool
-    requires { ⌜ (5 * made ≤ length (now list)) × (at + slotSize * count ≤ length (now q)) ⌝ }
+    requires { ⌜ (viewSize * made ≤ length (now list)) × (at + slotSize * count ≤ length (now q)) ⌝ }
     ensures { λ r. ⌜ r ≡ entriesKnown (viewsIn (now (list .entry)) 0 made) n (now (q .entry)) at count ⌝ }
 {
     let mut i = 0;
@@ -53,7 +54,7 @@ fn entries_known(list: &[u8], q: &[u8], made: u8, at: usize, count: usize, n: u8
 
 // The queue with its count at a place.
 fn queue_sound(list: &[u8], q: &[u8], made: u8, at: usize, limit: u8, n: u8) -> bool
-    requires { ⌜ (5 * made ≤ length (now list)) × (at + 1 + slotSize * limit ≤ length (now q)) ⌝ }
+    requires { ⌜ (viewSize * made ≤ length (now list)) × (at + 1 + slotSize * limit ≤ length (now q)) ⌝ }
     ensures { λ r. ⌜ r ≡ queueSound (viewsIn (now (list .entry)) 0 made) n (now (q .entry)) limit at ⌝ }
 {
     if limit < q[at] {
@@ -64,7 +65,7 @@ fn queue_sound(list: &[u8], q: &[u8], made: u8, at: usize, limit: u8, n: u8) -> 
 
 // What waits for n members in the view at place i of the list.
 fn waiting_sound(list: &[u8], q: &[u8], made: u8, i: usize, n: u8) -> bool
-    requires { ⌜ (5 * made ≤ length (now list)) × (orderAt (i + 1) ≤ length (now q)) × (n ≤ maxMembers) ⌝ }
+    requires { ⌜ (viewSize * made ≤ length (now list)) × (orderAt (i + 1) ≤ length (now q)) × (n ≤ maxMembers) ⌝ }
     ensures { λ r. ⌜ r ≡ waitingSound (viewsIn (now (list .entry)) 0 made) n (now (q .entry)) i ⌝ }
 {
     let from = groups::HEAD + groups::TABLE * i + groups::ORDER;
@@ -87,7 +88,7 @@ fn waiting_sound(list: &[u8], q: &[u8], made: u8, i: usize, n: u8) -> bool
 
 // The queues of the view at place i of the list.
 fn table_sound(list: &[u8], q: &[u8], made: u8, i: usize, n: u8) -> bool
-    requires { ⌜ (5 * made ≤ length (now list)) × (orderAt (i + 1) ≤ length (now q)) × (n ≤ maxMembers) ⌝ }
+    requires { ⌜ (viewSize * made ≤ length (now list)) × (orderAt (i + 1) ≤ length (now q)) × (n ≤ maxMembers) ⌝ }
     ensures { λ r. ⌜ r ≡ tableSound (viewsIn (now (list .entry)) 0 made) n (now (q .entry)) i ⌝ }
 {
     let at = groups::HEAD + groups::TABLE * i;
@@ -99,7 +100,7 @@ fn table_sound(list: &[u8], q: &[u8], made: u8, i: usize, n: u8) -> bool
 
 // The queues of every view made.
 pub fn tables_sound(list: &[u8], q: &[u8], made: u8, n: u8) -> bool
-    requires { ⌜ (5 * made ≤ length (now list)) × (orderAt made ≤ length (now q)) × (n ≤ maxMembers) ⌝ }
+    requires { ⌜ (viewSize * made ≤ length (now list)) × (orderAt made ≤ length (now q)) × (n ≤ maxMembers) ⌝ }
     ensures { λ r. ⌜ r ≡ every made (tableSound (viewsIn (now (list .entry)) 0 made) n (now (q .entry))) ⌝ }
 {
     let views = made as usize;

@@ -9,6 +9,7 @@ use Rattle.views.specs.declared.refusal.Refusal.{Refusal}
 use Rattle.views.specs.declared.refusal.Refusal.the-variants.{RecordsUnsound, UnknownStep, SetUnfit}
 use Rattle.views.specs.declared.refusal.Verdict.the-variants.{Refused}
 use Rattle.views.specs.Limits.{maxOpen}
+use Rattle.views.specs.Kinds.{joinKind, attemptKind, registerKind, sendKind, handKind, tellKind, safeKind, collectKind}
 use Rattle.views.specs.Sets.{both}
 use Rattle.rules.specs.Sound.{setFits}
 use Rattle.books.specs.declared.Book.{Book}
@@ -39,14 +40,14 @@ entering h t = cond (setFits (t .members) (t .view)) (joinTurn (t .member .0) (t
 -- the step of a kind's number, 43 last in an attempt; 5 for any other number
 unfoldable pub turnBy : ℕ → Book → Step → Stepped
 turnBy k h t =
-    cond (eqb k 2) (entering h t) (
-    cond (eqb k 6) (fewStepped (attemptTurn (t .members) h) h) (
-    cond (eqb k 7) (registerTurn h (t .outgoing)) (
-    cond (eqb k 8) (sendTurn h (t .outgoing)) (
-    cond (eqb k 9) (handTurn h (t .inward)) (
-    cond (eqb k 10) (tellTurn h (t .outgoing)) (
-    cond (eqb k 11) (safeTurn (t .members) h (t .inward)) (
-    cond (eqb k 12) (collectTurn (t .members) h) (
+    cond (eqb k joinKind) (entering h t) (
+    cond (eqb k attemptKind) (fewStepped (attemptTurn (t .members) h) h) (
+    cond (eqb k registerKind) (registerTurn h (t .outgoing)) (
+    cond (eqb k sendKind) (sendTurn h (t .outgoing)) (
+    cond (eqb k handKind) (handTurn h (t .inward)) (
+    cond (eqb k tellKind) (tellTurn h (t .outgoing)) (
+    cond (eqb k safeKind) (safeTurn (t .members) h (t .inward)) (
+    cond (eqb k collectKind) (collectTurn (t .members) h) (
     unturned UnknownStep h))))))))
 
 -- 4 before all of it

@@ -5,6 +5,7 @@ use books::Book;
 use steps::Stepped;
 use views::Member;
 use views::View;
+use views::kinds;
 use views::limits;
 use views::refusal::Refusal;
 use views::refusal::Verdict;
@@ -54,14 +55,14 @@ fn by_kind(h: Book, t: Step) -> Stepped
 {
     let kind = t.kind;
     match kind {
-        2 => join(h, t),
-        6 => attempt(t.members, h),
-        7 => client_turns::register(h, t.outgoing),
-        8 => client_turns::send(h, t.outgoing),
-        9 => client_turns::hand(h, t.inward),
-        10 => client_turns::tell(h, t.outgoing),
-        11 => client_turns::safe(t.members, h, t.inward),
-        12 => view_turns::collect(t.members, h),
+        kinds::JOIN => join(h, t),
+        kinds::ATTEMPT => attempt(t.members, h),
+        kinds::REGISTER => client_turns::register(h, t.outgoing),
+        kinds::SEND => client_turns::send(h, t.outgoing),
+        kinds::HAND => client_turns::hand(h, t.inward),
+        kinds::TELL => client_turns::tell(h, t.outgoing),
+        kinds::SAFE => client_turns::safe(t.members, h, t.inward),
+        kinds::COLLECT => view_turns::collect(t.members, h),
         0..=1 | 3..=5 | 13..=255 => steps::refuse(Refusal::UnknownStep, h),
     }
 }

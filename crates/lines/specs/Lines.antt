@@ -1,10 +1,12 @@
 -- What a line of the bench asks, from its bytes without the byte 10 that ends it.
 use mathlib.Core.Bool.{cond}
 use mathlib.Core.List.{List, [], _∷_}
-use Prim.Native.Nat.{ℕ, _-_, _^_}
+use Prim.Native.Nat.{ℕ, _+_, _-_, _^_}
 use Prim.Native.String.{String}
 use lib.Dec.{eqb, leb}
 use lib.ListN.{length}
+use Rattle.views.specs.Kinds.{createKind, joinKind, passKind, orderKind, deliverKind, attemptKind}
+use Rattle.views.specs.Kinds.{registerKind, sendKind, handKind, tellKind, safeKind, collectKind}
 use Rattle.texts.specs.declared.numerals.Numeral.{Numeral}
 use Rattle.texts.specs.declared.numerals.Numeral.the-variants.{Unfit, Number}
 use Rattle.texts.specs.Words.{bytes, words, same}
@@ -34,27 +36,30 @@ pub data Row : Type 0 where
 abbrev pub named : String → ℕ → ℕ → ℕ → Row
 named name kind first second = row (bytes name) (form kind (largest first) (largest second))
 
+-- the kinds besides the steps': 0 for group, and the number behind the last step's where there is no such name
+abbrev pub groupKind : ℕ
+groupKind = 0
+
+abbrev pub unknown : ℕ
+unknown = collectKind + 1
+
 -- group, and the twelve steps
 abbrev pub table : List Row
 table =
-    named "group" 0 1 1
-    ∷ named "create" 1 4 1
-    ∷ named "join" 2 1 4
-    ∷ named "pass" 3 1 0
-    ∷ named "order" 4 1 4
-    ∷ named "deliver" 5 1 0
-    ∷ named "attempt" 6 1 0
-    ∷ named "register" 7 1 0
-    ∷ named "send" 8 1 8
-    ∷ named "hand" 9 1 0
-    ∷ named "tell" 10 1 0
-    ∷ named "safe" 11 1 0
-    ∷ named "collect" 12 1 0
+    named "group" groupKind 1 1
+    ∷ named "create" createKind 4 1
+    ∷ named "join" joinKind 1 4
+    ∷ named "pass" passKind 1 0
+    ∷ named "order" orderKind 1 4
+    ∷ named "deliver" deliverKind 1 0
+    ∷ named "attempt" attemptKind 1 0
+    ∷ named "register" registerKind 1 0
+    ∷ named "send" sendKind 1 8
+    ∷ named "hand" handKind 1 0
+    ∷ named "tell" tellKind 1 0
+    ∷ named "safe" safeKind 1 0
+    ∷ named "collect" collectKind 1 0
     ∷ []
-
--- the kind where there is no such name
-abbrev pub unknown : ℕ
-unknown = 13
 
 -- what the name asks for
 unfoldable pub formOf : List Row → List ℕ → Form
@@ -68,7 +73,7 @@ unfoldable pub made : Form → Numeral → Numeral → Line
 made f Unfit b = Unreadable
 made f (Number x) Unfit = Unreadable
 made f (Number x) (Number y) =
-    cond (eqb (f .kind) 0) (Group (record { members = x; set = y })) (Step (record { kind = f .kind; first = x; second = y }))
+    cond (eqb (f .kind) groupKind) (Group (record { members = x; set = y })) (Step (record { kind = f .kind; first = x; second = y }))
 
 -- as many words behind the name as the form has operands, each within its width; a missing second operand is 0
 unfoldable pub withOperands : Form → List (List ℕ) → Line

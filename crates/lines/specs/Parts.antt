@@ -5,12 +5,12 @@ use Rattle.views.specs.Sets.{both}
 use Rattle.texts.specs.declared.numerals.Numeral.{Numeral}
 use Rattle.texts.specs.Parts.{within}
 use Rattle.lines.specs.declared.names.Form.{Form}
-use Rattle.lines.specs.Lines.{largest}
+use Rattle.lines.specs.Lines.{largest, groupKind}
 
 -- the form's largest numbers are
 unfoldable pub fitting : Form → Bool
-fitting f = both (leb (f .first) (largest 4)) (cond (eqb (f .kind) 0) (both (leb (f .first) (largest 1)) (leb (f .second) (largest 1))) true)
+fitting f = both (leb (f .first) (largest 4)) (cond (eqb (f .kind) groupKind) (both (leb (f .first) (largest 1)) (leb (f .second) (largest 1))) true)
 
 -- these operands are
 unfoldable pub fits : Form → Numeral → Numeral → Bool
-fits f a b = both (within (largest 4) a) (cond (eqb (f .kind) 0) (both (within (largest 1) a) (within (largest 1) b)) true)
+fits f a b = both (within (largest 4) a) (cond (eqb (f .kind) groupKind) (both (within (largest 1) a) (within (largest 1) b)) true)

@@ -1,26 +1,13 @@
 // The names that begin a line, and what stands behind each.
 use texts::words;
+use views::kinds;
 ghost use mathlib.Core.Path.{_≡_};
 ghost use Rattle.lines.specs.Lines.{form, table, formOf};
 
-// The kinds of lines: group, then the steps by their numbers, those of outward events from `acts`.
+// The kinds of lines besides the steps: 0 for group, and the number behind the last step's where there is no such name.
 pub const GROUP: u8 = 0;
 
-const CREATE: u8 = 1;
-
-const JOIN: u8 = 2;
-
-const PASS: u8 = 3;
-
-const ORDER: u8 = 4;
-
-const DELIVER: u8 = 5;
-
-const TELL: u8 = 10;
-
-const COLLECT: u8 = 12;
-
-pub const UNKNOWN: u8 = 13;
+pub const UNKNOWN: u8 = kinds::COLLECT + 1;
 
 // The largest number of each width: an identifier's, an entry number's, any other's.
 const IDENTIFIER: u64 = 4294967295;
@@ -55,40 +42,40 @@ pub fn form_of(word: &[u8]) -> Form
         return with_operands(GROUP, OTHER, OTHER);
     }
     if words::is(word, b"create") {
-        return with_operands(CREATE, IDENTIFIER, OTHER);
+        return with_operands(kinds::CREATE, IDENTIFIER, OTHER);
     }
     if words::is(word, b"join") {
-        return with_operands(JOIN, OTHER, IDENTIFIER);
+        return with_operands(kinds::JOIN, OTHER, IDENTIFIER);
     }
     if words::is(word, b"pass") {
-        return with_operands(PASS, OTHER, 0);
+        return with_operands(kinds::PASS, OTHER, 0);
     }
     if words::is(word, b"order") {
-        return with_operands(ORDER, OTHER, IDENTIFIER);
+        return with_operands(kinds::ORDER, OTHER, IDENTIFIER);
     }
     if words::is(word, b"deliver") {
-        return with_operands(DELIVER, OTHER, 0);
+        return with_operands(kinds::DELIVER, OTHER, 0);
     }
     if words::is(word, b"attempt") {
-        return with_operands(acts::ATTEMPT, OTHER, 0);
+        return with_operands(kinds::ATTEMPT, OTHER, 0);
     }
     if words::is(word, b"register") {
-        return with_operands(acts::REGISTER, OTHER, 0);
+        return with_operands(kinds::REGISTER, OTHER, 0);
     }
     if words::is(word, b"send") {
-        return with_operands(acts::SEND, OTHER, ENTRY);
+        return with_operands(kinds::SEND, OTHER, ENTRY);
     }
     if words::is(word, b"hand") {
-        return with_operands(acts::HAND, OTHER, 0);
+        return with_operands(kinds::HAND, OTHER, 0);
     }
     if words::is(word, b"tell") {
-        return with_operands(TELL, OTHER, 0);
+        return with_operands(kinds::TELL, OTHER, 0);
     }
     if words::is(word, b"safe") {
-        return with_operands(acts::SAFE, OTHER, 0);
+        return with_operands(kinds::SAFE, OTHER, 0);
     }
     if words::is(word, b"collect") {
-        return with_operands(COLLECT, OTHER, 0);
+        return with_operands(kinds::COLLECT, OTHER, 0);
     }
     with_operands(UNKNOWN, OTHER, 0)
 }

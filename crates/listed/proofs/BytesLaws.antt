@@ -12,11 +12,11 @@ use lib.Seq.{take-all, take-length, take-at}
 use Rattle.views.specs.declared.View.{View}
 use Rattle.views.specs.declared.list.Views.{Views}
 use Rattle.views.specs.Limits.{maxViews}
+use Rattle.views.specs.Sizes.{viewSize}
 use Rattle.views.specs.Lists.{noView, listOf, places, placed}
 use Rattle.views.proofs.PlaceLaws.{length-used}
 use Rattle.wire.specs.Format.{viewsBytes}
 use Rattle.wire.proofs.SeamLaws.{length-viewsBytes}
-use Rattle.groups.specs.Places.{viewSize}
 use Rattle.listed.specs.Parts.{bytesIn}
 
 module _ (l : Views) (z : length (l .at) ≡ maxViews) where

@@ -10,6 +10,7 @@ use Rattle.views.specs.declared.View.{View}
 use Rattle.views.specs.declared.refusal.Refusal.the-variants.{RecordsUnsound}
 use Rattle.views.specs.declared.refusal.Verdict.{Verdict}
 use Rattle.views.specs.declared.refusal.Verdict.the-variants.{Accepted, Refused}
+use Rattle.views.specs.Sizes.{viewSize}
 use Rattle.views.specs.Sets.{one}
 use Rattle.views.proofs.SetLaws.{both-true}
 use Rattle.wire.specs.Format.{viewsBytes}
@@ -25,7 +26,6 @@ use Rattle.slots.proofs.Outside.{storeView-changed}
 use Rattle.steps.specs.Turns.{verdictOf}
 use Rattle.acts.specs.declared.Reply.{Reply}
 use Rattle.acts.proofs.Means.{gave}
-use Rattle.groups.specs.Places.{viewSize}
 use Rattle.groups.specs.Groups.{Ranges, madeOf, groupIn, rangesFit, rangesSound}
 use Rattle.groups.specs.Starts.{startRanges}
 use Rattle.groups.specs.Steps.{startResult, leftRanges, moved, stepResult, stepRanges}

@@ -11,6 +11,7 @@ use lib.Seq.{ext-getD, getD-set-same, getD-set-other, getD-take}
 use Rattle.views.specs.declared.View.{View}
 use Rattle.views.specs.declared.refusal.Verdict.{Verdict}
 use Rattle.views.specs.declared.refusal.Verdict.the-variants.{Accepted, Refused}
+use Rattle.views.specs.Sizes.{viewSize}
 use Rattle.views.specs.Lists.{noView}
 use Rattle.wire.specs.Format.{viewsBytes}
 use Rattle.wire.specs.Reader.{viewIn, viewsIn}
@@ -21,7 +22,7 @@ use Rattle.rules.specs.Data.{Step}
 use Rattle.slots.specs.Changes.{storeView}
 use Rattle.slots.proofs.Outside.{Changed, Apart, changed-none, storeView-changed, view-apart}
 use Rattle.steps.specs.Turns.{verdictOf}
-use Rattle.groups.specs.Places.{viewSize, roomOf}
+use Rattle.groups.specs.Places.{roomOf}
 use Rattle.groups.specs.Groups.{Ranges, madeOf}
 use Rattle.groups.specs.Moves.{createRanges, joinRanges, passRanges, orderRanges, deliverRanges}
 use Rattle.groups.specs.Steps.{leftRanges, pickRanges, moved, stepResult, stepRanges}

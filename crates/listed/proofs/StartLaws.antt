@@ -18,6 +18,7 @@ use Rattle.views.specs.declared.refusal.Refusal.the-variants.{RecordsUnsound, M
 use Rattle.views.specs.declared.refusal.Verdict.{Verdict}
 use Rattle.views.specs.declared.refusal.Verdict.the-variants.{Accepted, Refused}
 use Rattle.views.specs.Limits.{maxViews, maxMembers}
+use Rattle.views.specs.Sizes.{viewSize}
 use Rattle.views.specs.Lists.{noView, listOf, placed}
 use Rattle.views.specs.Sets.{both}
 use Rattle.views.proofs.PlaceLaws.{length-places, list-placed}
@@ -32,7 +33,7 @@ use Rattle.slots.specs.Changes.{storeView}
 use Rattle.slots.proofs.Outside.{storeView-changed, view-apart}
 use Rattle.slots.proofs.Stored.{view-stored}
 use Rattle.steps.specs.Turns.{verdictOf}
-use Rattle.groups.specs.Places.{viewSize, roomOf, booksSize}
+use Rattle.groups.specs.Places.{roomOf, booksSize}
 use Rattle.groups.specs.Groups.{Ranges, ranges}
 use Rattle.groups.specs.Starts.{startRanges}
 use Rattle.groups.specs.Steps.{rangesLong, startResult, leftRanges}

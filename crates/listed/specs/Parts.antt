@@ -10,13 +10,14 @@ use Rattle.views.specs.declared.list.Views.{Views}
 use Rattle.views.specs.declared.refusal.Verdict.{Verdict}
 use Rattle.views.specs.declared.refusal.Verdict.the-variants.{Accepted, Refused}
 use Rattle.views.specs.Limits.{maxViews}
+use Rattle.views.specs.Sizes.{viewSize}
 use Rattle.views.specs.Lists.{noView, listOf}
 use Rattle.wire.specs.Format.{viewsBytes}
 use Rattle.wire.specs.Reader.{viewIn}
 use Rattle.rules.specs.Data.{Step}
 use Rattle.rules.specs.Group.{firstView}
 use Rattle.steps.specs.Turns.{verdictOf}
-use Rattle.groups.specs.Places.{viewSize, roomOf, madeAt}
+use Rattle.groups.specs.Places.{roomOf, madeAt}
 use Rattle.groups.specs.Groups.{Ranges, ranges}
 use Rattle.groups.specs.Starts.{startRanges}
 use Rattle.groups.specs.Steps.{startResult, leftRanges, stepRanges, stepReply}

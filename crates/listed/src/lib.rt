@@ -13,7 +13,7 @@ ghost use Rattle.listed.specs.Parts.{bytesIn, viewOr, nextOf, fromOf, St
 ghost use Rattle.listed.specs.Calls.{Went, Began};
 
 // Bytes of one view record more than a group can have.
-const BYTES: usize = 165;
+const BYTES: usize = groups::VIEW * (limits::VIEWS + 1);
 
 // What a step gives, and the view at the place of the list that it may have filled.
 pub struct Stepped {

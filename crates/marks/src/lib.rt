@@ -5,6 +5,8 @@ use acts::Reply;
 use books::Book;
 use views::Member;
 use views::View;
+use views::kinds;
+use views::sizes;
 ghost use mathlib.Core.Bool.{true};
 ghost use mathlib.Core.Path.{_≡_};
 ghost use Prim.Native.Nat.{_+_, _*_, _≤_};
@@ -28,7 +30,7 @@ fn of_item(b: &[u8], at: usize, k: u8, kind: u8, h: Book) -> Event
     let i = at + 1 + slots::ITEM * (k as usize);
     let member = Member(b[books::SELF]);
     let sender = Member(b[i]);
-    let entry = numbers::get_number(b, i + 1, 8);
+    let entry = numbers::get_number(b, i + slots::ITEM_NUMBER, sizes::NUMBER);
     let id = h.client.view.id;
     let view = View { id, set: 0 };
     Event {
@@ -49,7 +51,7 @@ pub fn hand(b: &mut [u8]) -> Reply
     let h = books::load(b);
     let at = books::INWARD + books::APART * (h.side as usize);
     let s = client_turns::hand(h, b[at]);
-    let e = of_item(b, at, h.handed.0, acts::HAND, h);
+    let e = of_item(b, at, h.handed.0, kinds::HAND, h);
     acts::keep(b, s, e)
 }
 
@@ -62,7 +64,7 @@ pub fn safe(b: &mut [u8]) -> Reply
     let h = books::load(b);
     let at = books::INWARD + books::APART * (h.side as usize);
     let s = client_turns::safe(b[books::MEMBERS], h, b[at]);
-    let e = of_item(b, at, h.reported.0, acts::SAFE, h);
+    let e = of_item(b, at, h.reported.0, kinds::SAFE, h);
     acts::keep(b, s, e)
 }
 

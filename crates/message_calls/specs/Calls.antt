@@ -15,7 +15,7 @@ use Rattle.acts.specs.Replies.{left}
 use Rattle.acts.specs.Acts.{passBytes}
 use Rattle.member.specs.Calls.{passCall, passedOf, passBuffer}
 use Rattle.answers.specs.Answers.{lengthSize, lengthBytes, sized}
-use Rattle.messages.specs.Records.{recordSize, recordBytes, frameOf}
+use Rattle.messages.specs.Records.{recordSize, recordBytes, frameOf, recordKind}
 
 -- ---- pass: 4 for a length range of another length, then the member's refusals
 abbrev pub passing : List ℕ → List ℕ → List ℕ → Verdict
@@ -40,7 +40,7 @@ abbrev pub writing : List ℕ → List ℕ → List ℕ → Verdict
 writing m o l =
     sized m recordSize (
     sized l lengthSize (
-    need (isKnown (getD m 0 0)) UnknownKind (
+    need (isKnown (getD m recordKind 0)) UnknownKind (
     writeVerdict (frameOf m) (length o))))
 
 pub record Writes (m o o' l l' : List ℕ) (x : ℕ) : Type 0 where

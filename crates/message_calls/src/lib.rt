@@ -45,7 +45,7 @@ pub fn write(message: &[u8], buffer: &mut [u8], length: &mut [u8]) -> u32
     if length.len() != answers::LENGTH {
         return answers::refused(Refusal::RecordsUnsound);
     }
-    if !format::known(message[0]) {
+    if !format::known(message[messages::KIND]) {
         return answers::refused(Refusal::UnknownKind);
     }
     let f = messages::load_frame(message);

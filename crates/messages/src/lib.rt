@@ -1,6 +1,7 @@
 // A message's record, in lent bytes: the C interface gives out and takes messages in it.
 use views::ViewId;
 use views::limits;
+use views::sizes;
 use wire::Frame;
 use wire::format;
 ghost use mathlib.Core.Path.{_≡_};
@@ -8,18 +9,30 @@ ghost use lib.ListN.{length};
 ghost use Rattle.wire.specs.Writer.{overwritten};
 ghost use Rattle.messages.specs.Records.{recordSize, headBytes, recordBytes, counted, frameOf};
 
+// Where the parts of a message's record stand: its kind, the identifier of the view sent in, its number, the count of its
+// views, and the views.
+pub const KIND: usize = 0;
+
+pub const VIEW: usize = KIND + 1;
+
+pub const NUMBER: usize = VIEW + sizes::IDENTIFIER;
+
+pub const COUNT: usize = NUMBER + sizes::NUMBER;
+
+pub const VIEWS: usize = COUNT + 1;
+
 // Bytes of a message's record.
-pub const RECORD: usize = 174;
+pub const RECORD: usize = VIEWS + sizes::VIEW * limits::VIEWS;
 
 // The kind, the identifier of the view sent in, the number and the count of views.
 fn put_head(out: &mut [u8], kind: u8, view: ViewId, x: u64, n: usize)
     requires { ⌜ length (now out) ≡ recordSize ⌝ }
     ensures { λ _. ⌜ now (out .exit) ≡ overwritten (headBytes kind (view .0) x n) (now (out .entry)) ⌝ }
 {
-    out[0] = kind;
-    numbers::put_number(out, 1, 4, view.0 as u64);
-    numbers::put_number(out, 5, 8, x);
-    numbers::put_number(out, 13, 1, n as u64);
+    out[KIND] = kind;
+    numbers::put_number(out, VIEW, sizes::IDENTIFIER, view.0 as u64);
+    numbers::put_number(out, NUMBER, sizes::NUMBER, x);
+    numbers::put_number(out, COUNT, 1, n as u64);
 }
 
 // The record of a frame: what stands before the views, then all 32 places of views.
@@ -31,7 +44,7 @@ pub fn put_frame(out: &mut [u8], f: Frame)
     let view = f.view;
     let list = f.views;
     put_head(out, format::kind(m), view, format::number(m), list.count);
-    writer::store_views(out, 14, list, limits::VIEWS);
+    writer::store_views(out, VIEWS, list, limits::VIEWS);
 }
 
 // A told's count too large for a byte stands as 0, which is as much out of range.
@@ -51,11 +64,11 @@ pub fn load_frame(message: &[u8]) -> Frame
     requires { ⌜ length (now message) ≡ recordSize ⌝ }
     ensures { λ r. ⌜ r ≡ frameOf (now (message .entry)) ⌝ }
 {
-    let kind = message[0];
-    let g = numbers::get_number(message, 1, 4);
-    let x = count(kind, numbers::get_number(message, 5, 8));
-    let n = numbers::get_number(message, 13, 1);
-    let mut list = reader::load_views(message, 14, limits::VIEWS);
+    let kind = message[KIND];
+    let g = numbers::get_number(message, VIEW, sizes::IDENTIFIER);
+    let x = count(kind, numbers::get_number(message, NUMBER, sizes::NUMBER));
+    let n = numbers::get_number(message, COUNT, 1);
+    let mut list = reader::load_views(message, VIEWS, limits::VIEWS);
     list.count = n as usize;
     Frame {
         view: ViewId((g % 4294967296) as u32),

@@ -5,6 +5,7 @@ use views::limits;
 use views::list::Views;
 use views::refusal::Refusal;
 use views::refusal::Verdict;
+use views::sizes;
 use wire::Frame;
 use wire::Message;
 use wire::Reading;
@@ -13,6 +14,7 @@ ghost use mathlib.Core.Path.{_≡_};
 ghost use Prim.Native.Nat.{_+_, _*_, _≤_};
 ghost use lib.ListN.{length};
 ghost use Rattle.views.specs.Limits.{maxViews};
+ghost use Rattle.views.specs.Sizes.{viewSize};
 ghost use Rattle.views.specs.Lists.{placed};
 ghost use Rattle.wire.specs.Reader.{viewIn, viewsIn, scanOf, refused, readFront, readOf};
 
@@ -28,14 +30,14 @@ pub fn scan(b: &[u8]) -> Verdict
     if !format::known(kind) {
         return Verdict::Refused(Refusal::UnknownKind);
     }
-    if size < 6 {
+    if size < format::VIEWS_AT {
         return Verdict::Refused(Refusal::EndsEarly);
     }
-    let n = b[5] as usize;
+    let n = b[format::COUNT_AT] as usize;
     if !format::views_allowed(kind, n) {
         return Verdict::Refused(Refusal::SectionCount);
     }
-    let at = 6 + format::VIEW * n;
+    let at = format::VIEWS_AT + sizes::VIEW * n;
     if size < at + 1 {
         return Verdict::Refused(Refusal::EndsEarly);
     }
@@ -43,7 +45,7 @@ pub fn scan(b: &[u8]) -> Verdict
     if !format::numbers_allowed(kind, m) {
         return Verdict::Refused(Refusal::SectionCount);
     }
-    if size < at + 1 + 8 * m {
+    if size < at + 1 + sizes::NUMBER * m {
         return Verdict::Refused(Refusal::EndsEarly);
     }
     Verdict::Accepted
@@ -51,19 +53,19 @@ pub fn scan(b: &[u8]) -> Verdict
 
 // The view at a place.
 pub fn load_view(b: &[u8], at: usize) -> View
-    requires { ⌜ at + 5 ≤ length (now b) ⌝ }
+    requires { ⌜ at + viewSize ≤ length (now b) ⌝ }
     ensures { λ r. ⌜ r ≡ viewIn (now (b .entry)) at ⌝ }
 {
-    let g = numbers::get_number(b, at, 4);
+    let g = numbers::get_number(b, at, sizes::IDENTIFIER);
     View {
         id: ViewId((g % 4294967296) as u32),
-        set: b[at + 4],
+        set: b[at + sizes::IDENTIFIER],
     }
 }
 
 // The n views from a place on.
 pub fn load_views(b: &[u8], from: usize, n: usize) -> Views
-    requires { ⌜ (from + 5 * n ≤ length (now b)) × (n ≤ maxViews) ⌝ }
+    requires { ⌜ (from + viewSize * n ≤ length (now b)) × (n ≤ maxViews) ⌝ }
     ensures { λ r. ⌜ r ≡ placed (viewsIn (now (b .entry)) from n) ⌝ }
 {
     let none = View {
@@ -73,7 +75,7 @@ pub fn load_views(b: &[u8], from: usize, n: usize) -> Views
     let mut at = [none; limits::VIEWS];
     let mut i = 0;
     while i < n {
-        let v = load_view(b, from + format::VIEW * i);
+        let v = load_view(b, from + sizes::VIEW * i);
         at[i] = v;
         i += 1;
     }
@@ -119,18 +121,18 @@ fn read_scanned(b: &[u8]) -> Reading
     ensures { λ r. ⌜ r ≡ readFront (now (b .entry)) ⌝ }
 {
     let kind = b[0];
-    let n = b[5] as usize;
-    let at = 6 + format::VIEW * n;
+    let n = b[format::COUNT_AT] as usize;
+    let at = format::VIEWS_AT + sizes::VIEW * n;
     let m = b[at] as usize;
-    let g = numbers::get_number(b, 1, 4);
-    let list = load_views(b, 6, n);
-    let x = numbers::get_number(b, at + 1, 8 * m);
+    let g = numbers::get_number(b, format::IDENTIFIER_AT, sizes::IDENTIFIER);
+    let list = load_views(b, format::VIEWS_AT, n);
+    let x = numbers::get_number(b, at + 1, sizes::NUMBER * m);
     let whole = format::content(kind, list, x);
     match whole {
         Verdict::Refused(r) => refuse(r),
         Verdict::Accepted => Reading {
             verdict: Verdict::Accepted,
-            taken: at + 1 + 8 * m,
+            taken: at + 1 + sizes::NUMBER * m,
             frame: Frame {
                 view: ViewId((g % 4294967296) as u32),
                 message: format::message(kind, x),

@@ -7,6 +7,7 @@ use lib.Dec.{eqb, leb}
 use lib.ListN.{length}
 use Rattle.views.specs.declared.refusal.Verdict.{Verdict}
 use Rattle.views.specs.declared.refusal.Verdict.the-variants.{Accepted, Refused}
+use Rattle.views.specs.Kinds.{attemptKind, registerKind, sendKind, handKind, safeKind}
 use Rattle.views.specs.Refusals.{numberOf}
 use Rattle.views.specs.Lists.{idOf}
 use Rattle.wire.specs.Writer.{overwritten}
@@ -34,11 +35,11 @@ eventLine e =
     let s = e .view .set in
     let q = e .sender .0 in
     let v = e .entry in
-    cond (eqb (e .kind) 6) (spoken (bytes "attempt") (p ∷ i ∷ s ∷ []))
-    (cond (eqb (e .kind) 7) (spoken (bytes "register") (p ∷ i ∷ []))
-    (cond (eqb (e .kind) 8) (spoken (bytes "send") (p ∷ i ∷ v ∷ []))
-    (cond (eqb (e .kind) 9) (spoken (bytes "hand") (p ∷ i ∷ q ∷ v ∷ []))
-    (cond (eqb (e .kind) 11) (spoken (bytes "safe") (p ∷ i ∷ q ∷ v ∷ []))
+    cond (eqb (e .kind) attemptKind) (spoken (bytes "attempt") (p ∷ i ∷ s ∷ []))
+    (cond (eqb (e .kind) registerKind) (spoken (bytes "register") (p ∷ i ∷ []))
+    (cond (eqb (e .kind) sendKind) (spoken (bytes "send") (p ∷ i ∷ v ∷ []))
+    (cond (eqb (e .kind) handKind) (spoken (bytes "hand") (p ∷ i ∷ q ∷ v ∷ []))
+    (cond (eqb (e .kind) safeKind) (spoken (bytes "safe") (p ∷ i ∷ q ∷ v ∷ []))
     (spoken (bytes "ok") [])))))
 
 unfoldable pub verdictLine : Verdict → Event → List ℕ

@@ -4,6 +4,7 @@ use acts::Reply;
 use texts::numerals::put_number;
 use texts::put;
 use texts::words;
+use views::kinds;
 use views::refusal::Verdict;
 ghost use mathlib.Core.Path.{_≡_};
 ghost use Prim.Native.Nat.{_≤_};
@@ -38,23 +39,23 @@ fn put_event(text: &mut [u8], e: Event) -> usize
     let member = e.member.0 as u64;
     let view = e.view.id.0 as u64;
     let sender = e.sender.0 as u64;
-    if e.kind == acts::ATTEMPT {
+    if e.kind == kinds::ATTEMPT {
         let numbers = [member, view, e.view.set as u64];
         return put_spoken(text, b"attempt", &numbers);
     }
-    if e.kind == acts::REGISTER {
+    if e.kind == kinds::REGISTER {
         let numbers = [member, view];
         return put_spoken(text, b"register", &numbers);
     }
-    if e.kind == acts::SEND {
+    if e.kind == kinds::SEND {
         let numbers = [member, view, e.entry];
         return put_spoken(text, b"send", &numbers);
     }
-    if e.kind == acts::HAND {
+    if e.kind == kinds::HAND {
         let numbers = [member, view, sender, e.entry];
         return put_spoken(text, b"hand", &numbers);
     }
-    if e.kind == acts::SAFE {
+    if e.kind == kinds::SAFE {
         let numbers = [member, view, sender, e.entry];
         return put_spoken(text, b"safe", &numbers);
     }

@@ -1,11 +1,12 @@
 // Views where they lie in bytes, five bytes each, tested in place: no list is copied for a test.
 use views::View;
 use views::ViewId;
-use wire::format;
+use views::sizes;
 ghost use mathlib.Core.Bool.{not};
 ghost use mathlib.Core.Path.{_≡_};
 ghost use Prim.Native.Nat.{_+_, _*_, _≤_};
 ghost use lib.ListN.{length};
+ghost use Rattle.views.specs.Sizes.{viewSize};
 ghost use Rattle.views.specs.Sets.{both, isEmpty, isBeyond};
 ghost use Rattle.views.specs.Lists.{isRising, risesAbove};
 ghost use Rattle.wire.specs.Reader.{viewsIn};
@@ -31,12 +32,12 @@ pub fn set_fits(n: u8, v: View) -> bool
 
 // Every set of the views from a place on fits.
 pub fn all_fit(b: &[u8], from: usize, count: usize, n: u8) -> bool
-    requires { ⌜ from + 5 * count ≤ length (now b) ⌝ }
+    requires { ⌜ from + viewSize * count ≤ length (now b) ⌝ }
     ensures { λ r. ⌜ r ≡ all (setFits n) (viewsIn (now (b .entry)) from count) ⌝ }
 {
     let mut i = 0;
     while i < count {
-        if !fits(n, b[from + format::VIEW * i + 4]) {
+        if !fits(n, b[from + sizes::VIEW * i + sizes::IDENTIFIER]) {
             return false;
         }
         i += 1;
@@ -46,13 +47,13 @@ pub fn all_fit(b: &[u8], from: usize, count: usize, n: u8) -> bool
 
 // The identifiers of the views rise, the first from above g.
 pub fn rise_above(b: &[u8], from: usize, count: usize, g: ViewId) -> bool
-    requires { ⌜ from + 5 * count ≤ length (now b) ⌝ }
+    requires { ⌜ from + viewSize * count ≤ length (now b) ⌝ }
     ensures { λ r. ⌜ r ≡ risesAbove (g .0) (viewsIn (now (b .entry)) from count) ⌝ }
 {
     let mut last = g.0;
     let mut i = 0;
     while i < count {
-        let v = reader::load_view(b, from + format::VIEW * i);
+        let v = reader::load_view(b, from + sizes::VIEW * i);
         if v.id.0 <= last {
             return false;
         }
@@ -64,19 +65,19 @@ pub fn rise_above(b: &[u8], from: usize, count: usize, g: ViewId) -> bool
 
 // Each identifier is below the next.
 pub fn rising(b: &[u8], from: usize, count: usize) -> bool
-    requires { ⌜ from + 5 * count ≤ length (now b) ⌝ }
+    requires { ⌜ from + viewSize * count ≤ length (now b) ⌝ }
     ensures { λ r. ⌜ r ≡ isRising (viewsIn (now (b .entry)) from count) ⌝ }
 {
     if count < 1 {
         return true;
     }
     let first = reader::load_view(b, from);
-    rise_above(b, from + format::VIEW, count - 1, first.id)
+    rise_above(b, from + sizes::VIEW, count - 1, first.id)
 }
 
 // Every set fits, and the identifiers rise.
 pub fn sound(b: &[u8], from: usize, count: usize, n: u8) -> bool
-    requires { ⌜ from + 5 * count ≤ length (now b) ⌝ }
+    requires { ⌜ from + viewSize * count ≤ length (now b) ⌝ }
     ensures { λ r. ⌜ r ≡ both (all (setFits n) (viewsIn (now (b .entry)) from count)) (isRising (viewsIn (now (b .entry)) from count)) ⌝ }
 {
     if !all_fit(b, from, count, n) {
@@ -97,12 +98,12 @@ fn same(v: View, w: View) -> bool
 
 // The view is among the first views of a list.
 pub fn view_listed(list: &[u8], made: usize, v: View) -> bool
-    requires { ⌜ 5 * made ≤ length (now list) ⌝ }
+    requires { ⌜ viewSize * made ≤ length (now list) ⌝ }
     ensures { λ r. ⌜ r ≡ listed (viewsIn (now (list .entry)) 0 made) v ⌝ }
 {
     let mut i = 0;
     while i < made {
-        let w = reader::load_view(list, format::VIEW * i);
+        let w = reader::load_view(list, sizes::VIEW * i);
         if same(v, w) {
             return true;
         }
@@ -113,12 +114,12 @@ pub fn view_listed(list: &[u8], made: usize, v: View) -> bool
 
 // Every one of the views from a place on is.
 pub fn all_listed(list: &[u8], made: usize, b: &[u8], from: usize, count: usize) -> bool
-    requires { ⌜ (5 * made ≤ length (now list)) × (from + 5 * count ≤ length (now b)) ⌝ }
+    requires { ⌜ (viewSize * made ≤ length (now list)) × (from + viewSize * count ≤ length (now b)) ⌝ }
     ensures { λ r. ⌜ r ≡ all (listed (viewsIn (now (list .entry)) 0 made)) (viewsIn (now (b .entry)) from count) ⌝ }
 {
     let mut i = 0;
     while i < count {
-        let v = reader::load_view(b, from + format::VIEW * i);
+        let v = reader::load_view(b, from + sizes::VIEW * i);
         if !view_listed(list, made, v) {
             return false;
         }

@@ -5,6 +5,7 @@ use Prim.Native.Nat.{ℕ, zero, suc, _+_, _*_, _/_}
 use lib.Dec.{eqb}
 use lib.ListN.{length, getD}
 use Rattle.numbers.specs.Number.{get}
+use Rattle.views.specs.Sizes.{identifierSize, numberSize}
 use Rattle.views.specs.Refusals.{codeOf}
 use Rattle.wire.specs.Reader.{viewIn}
 use Rattle.rules.specs.Data.{Step, Event as Outward}
@@ -12,16 +13,26 @@ use Rattle.acts.specs.declared.Event.{Event}
 use Rattle.acts.specs.declared.Reply.{Reply}
 use Rattle.acts.specs.Replies.{happened}
 use Rattle.groups.specs.Promises.{shown}
-use Rattle.answers.specs.Answers.{eventSize, eventBytes}
+use Rattle.answers.specs.Answers.{eventSize, eventBytes, eventKind, eventMember, eventView, eventSender, eventEntry}
 
--- ---- steps: kind 1 byte, first operand 4, second operand 8
+-- ---- steps: kind 1 byte, first operand as an identifier 4, second operand as an entry number 8
+
+abbrev pub stepFirst : ℕ
+stepFirst = 1
+
+abbrev pub stepSecond : ℕ
+stepSecond = stepFirst + identifierSize
 
 abbrev pub stepSize : ℕ
-stepSize = 13
+stepSize = stepSecond + numberSize
 
 -- the step in the record at a place
 unfoldable pub stepAt : List ℕ → ℕ → Step
-stepAt b at = record { kind = getD b at 0; first = get b (at + 1) 4; second = get b (at + 5) 8 }
+stepAt b at = record {
+  kind = getD b at 0;
+  first = get b (at + stepFirst) identifierSize;
+  second = get b (at + stepSecond) numberSize;
+}
 
 -- n steps, from the record i on
 unfoldable pub stepsFrom : List ℕ → ℕ → ℕ → List Step
@@ -34,8 +45,11 @@ stepsIn b = stepsFrom b (length b / stepSize) 0
 
 -- ---- answers: the refusal's number 1 byte, 0 for accepted; then the event, 0 where there is none
 
+abbrev pub answerEvent : ℕ
+answerEvent = 1
+
 abbrev pub answerSize : ℕ
-answerSize = 1 + eventSize
+answerSize = answerEvent + eventSize
 
 unfoldable pub answerBytes : Reply → List ℕ
 answerBytes x = codeOf (x .verdict) ∷ eventBytes (x .event)
@@ -48,7 +62,10 @@ answersBytes (x ∷ l) = answerBytes x ++ answersBytes l
 
 -- the event of the answer at a place
 unfoldable pub eventAt : List ℕ → ℕ → Event
-eventAt b at = happened (getD b (at + 1) 0) (getD b (at + 2) 0) (viewIn b (at + 3)) (getD b (at + 8) 0) (get b (at + 9) 8)
+eventAt b at =
+    happened (getD b (at + (answerEvent + eventKind)) 0) (getD b (at + (answerEvent + eventMember)) 0)
+    (viewIn b (at + (answerEvent + eventView))) (getD b (at + (answerEvent + eventSender)) 0)
+    (get b (at + (answerEvent + eventEntry)) numberSize)
 
 -- a refusal shows nothing
 unfoldable pub shownAt : List ℕ → ℕ → List (Outward ℕ)

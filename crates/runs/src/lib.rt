@@ -4,14 +4,25 @@ mod turns;
 
 use views::refusal::Refusal;
 use views::refusal::Verdict;
+use views::sizes;
 ghost use mathlib.Core.Path.{_≡_};
 ghost use Rattle.groups.specs.Groups.{ranges};
 ghost use Rattle.runs.specs.Runs.{paired, Ran};
 
-// Bytes of a step's record, and of an answer's.
-pub const STEP: usize = 13;
+// Where the operands stand in a step's record, behind its kind: the first as an identifier, the second as an entry
+// number.
+pub const FIRST: usize = 1;
 
-pub const ANSWER: usize = 1 + answers::EVENT;
+pub const SECOND: usize = FIRST + sizes::IDENTIFIER;
+
+// Bytes of a step's record.
+pub const STEP: usize = SECOND + sizes::NUMBER;
+
+// Where the event stands in an answer's record, behind the verdict's number.
+pub const SHOWN: usize = 1;
+
+// Bytes of an answer's record.
+pub const ANSWER: usize = SHOWN + answers::EVENT;
 
 // Whole records of steps, and room for one answer to each; the lengths in bytes.
 fn pair(steps: usize, answers: usize) -> bool

@@ -1,5 +1,6 @@
 // The steps of a run: each is read from its record, put to the group, and answered in its record.
 use acts::Reply;
+use views::sizes;
 ghost use mathlib.Core.Path.{_≡_};
 ghost use Prim.Native.Nat.{_+_, _*_, _/_, _≤_};
 ghost use lib.ListN.{length};
@@ -15,7 +16,7 @@ fn put(b: &mut [u8], at: usize, x: Reply)
     let v = x.verdict;
     let e = x.event;
     b[at] = views::refusal::code(v);
-    answers::put_event(&mut b[at + 1..at + super::ANSWER], e);
+    answers::put_event(&mut b[at + super::SHOWN..at + super::ANSWER], e);
 }
 
 // The step in the record at a place is put to the group.
@@ -24,8 +25,8 @@ fn ask(list: &mut [u8], all: &mut [u8], queues: &mut [u8], steps: &[u8], at: usi
     ensures { λ r. ⌜ Asked (ranges (now (list .entry)) (now (all .entry)) (now (queues .entry))) (stepAt (now (steps .entry)) at) (ranges (now (list .exit)) (now (all .exit)) (now (queues .exit))) r ⌝ }
 {
     let kind = steps[at];
-    let first = numbers::get_number(steps, at + 1, 4) as u32;
-    let second = numbers::get_number(steps, at + 5, 8);
+    let first = numbers::get_number(steps, at + super::FIRST, sizes::IDENTIFIER) as u32;
+    let second = numbers::get_number(steps, at + super::SECOND, sizes::NUMBER);
     group::step::step(list, all, queues, kind, first, second)
 }
 

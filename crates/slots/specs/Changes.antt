@@ -5,33 +5,35 @@ use lib.ListN.{length, getD, set, take, drop}
 use lib.Seq.{paste}
 use Rattle.numbers.specs.Number.{put}
 use Rattle.views.specs.declared.View.{View}
+use Rattle.views.specs.Sizes.{identifierSize, viewSize, numberSize}
 use Rattle.views.specs.Lists.{idOf}
-use Rattle.wire.specs.Format.{viewsBytes}
+use Rattle.wire.specs.Format.{viewsBytes, clientKind, infoKind, registeredKind, toldKind}
 use Rattle.rules.specs.Data.{Message, client, info, registered, told, Item, item}
-use Rattle.slots.specs.Slots.{slotSize, itemSize}
+use Rattle.slots.specs.Slots.{slotSize, itemSize, slotKind, slotNumber, slotCount, slotViews, itemNumber}
 
--- a view stored at a place: identifier 4 bytes, set 1
+-- a view stored at a place: its identifier, then its set
 abbrev pub storeView : List ℕ → ℕ → View → List ℕ
-storeView b at v = set (put b at 4 (idOf v)) (at + 4) (v .set)
+storeView b at v = set (put b at identifierSize (idOf v)) (at + identifierSize) (v .set)
 
 -- a list of views stored from a place on
 unfoldable pub storeViews : List ℕ → ℕ → List View → List ℕ
-storeViews b at l = take at b ++ (viewsBytes l ++ drop (at + 5 * length l) b)
+storeViews b at l = take at b ++ (viewsBytes l ++ drop (at + viewSize * length l) b)
 
 -- a message from q with a kind and a number, stored in the slot at a place
 unfoldable pub storeShort : List ℕ → ℕ → ℕ → ℕ → ℕ → List ℕ
-storeShort b at q kind x = put (set (set b at q) (at + 1) kind) (at + 2) 8 x
+storeShort b at q kind x = put (set (set b at q) (at + slotKind) kind) (at + slotNumber) numberSize x
 
 -- an info from q with these views, settled first
 unfoldable pub storeInfo : List ℕ → ℕ → ℕ → List View → List ℕ
-storeInfo b at q l = storeViews (set (set (set b at q) (at + 1) 2) (at + 10) (length l)) (at + 11) l
+storeInfo b at q l =
+    storeViews (set (set (set b at q) (at + slotKind) infoKind) (at + slotCount) (length l)) (at + slotViews) l
 
 -- any message of q
 abbrev pub storeMessage : List ℕ → ℕ → ℕ → Message → List ℕ
-storeMessage b at q (client x) = storeShort b at q 1 x
+storeMessage b at q (client x) = storeShort b at q clientKind x
 storeMessage b at q (info v l) = storeInfo b at q (v ∷ l)
-storeMessage b at q registered = storeShort b at q 3 0
-storeMessage b at q (told k) = storeShort b at q 4 k
+storeMessage b at q registered = storeShort b at q registeredKind 0
+storeMessage b at q (told k) = storeShort b at q toldKind k
 
 -- the queue at c, s gains a message of q at its end
 unfoldable pub pushed : List ℕ → ℕ → ℕ → ℕ → Message → List ℕ
@@ -47,4 +49,4 @@ popped b c s = set (moved b (s + slotSize) s (slotSize * (getD b c 0 - 1))) c (g
 
 -- the inward list with its count at c and its items from c + 1 on gains an item at its end
 unfoldable pub gained : List ℕ → ℕ → ℕ → ℕ → List ℕ
-gained b c q x = set (put (set b (c + 1 + itemSize * getD b c 0) q) (c + 1 + itemSize * getD b c 0 + 1) 8 x) c (getD b c 0 + 1)
+gained b c q x = set (put (set b (c + 1 + itemSize * getD b c 0) q) (c + 1 + itemSize * getD b c 0 + itemNumber) numberSize x) c (getD b c 0 + 1)

@@ -8,35 +8,48 @@ use lib.ListN.{getD}
 use Rattle.numbers.specs.Number.{get}
 use Rattle.views.specs.declared.View.{View}
 use Rattle.views.specs.Limits.{maxViews}
+use Rattle.views.specs.Sizes.{viewSize, numberSize}
 use Rattle.views.specs.Sets.{both}
-use Rattle.wire.specs.Format.{isKnown}
+use Rattle.wire.specs.Format.{isKnown, clientKind, infoKind, registeredKind}
 use Rattle.wire.specs.Reader.{viewsIn}
 use Rattle.rules.specs.Data.{Message, client, registered, told, Entry, entry, Item, item}
 use Rattle.rules.specs.Alone.{infoOf}
 
 -- ---- an entry: sender 1 byte, kind 1, number 8, count of views 1, 32 places for views of 5
 
+abbrev pub slotKind : ℕ
+slotKind = 1
+
+abbrev pub slotNumber : ℕ
+slotNumber = slotKind + 1
+
+abbrev pub slotCount : ℕ
+slotCount = slotNumber + numberSize
+
+abbrev pub slotViews : ℕ
+slotViews = slotCount + 1
+
 abbrev pub slotSize : ℕ
-slotSize = 171
+slotSize = slotViews + viewSize * maxViews
 
 abbrev pub kindIn : List ℕ → ℕ → ℕ
-kindIn b at = getD b (at + 1) 0
+kindIn b at = getD b (at + slotKind) 0
 
 abbrev pub numberIn : List ℕ → ℕ → ℕ
-numberIn b at = get b (at + 2) 8
+numberIn b at = get b (at + slotNumber) numberSize
 
 abbrev pub countIn : List ℕ → ℕ → ℕ
-countIn b at = getD b (at + 10) 0
+countIn b at = getD b (at + slotCount) 0
 
 unfoldable pub infoIn : List ℕ → ℕ → List View
-infoIn b at = viewsIn b (at + 11) (min (countIn b at) maxViews)
+infoIn b at = viewsIn b (at + slotViews) (min (countIn b at) maxViews)
 
--- 1 client, 2 info, 3 registered, 4 told
+-- told for any other kind
 unfoldable pub messageIn : List ℕ → ℕ → Message
 messageIn b at =
-    cond (eqb (kindIn b at) 1) (client (numberIn b at))
-    (cond (eqb (kindIn b at) 2) (infoOf (infoIn b at))
-    (cond (eqb (kindIn b at) 3) registered (told (numberIn b at))))
+    cond (eqb (kindIn b at) clientKind) (client (numberIn b at))
+    (cond (eqb (kindIn b at) infoKind) (infoOf (infoIn b at))
+    (cond (eqb (kindIn b at) registeredKind) registered (told (numberIn b at))))
 
 abbrev pub entryIn : List ℕ → ℕ → Entry
 entryIn b at = entry (getD b at 0) (messageIn b at)
@@ -52,11 +65,14 @@ queueIn b c s = entriesIn b s (getD b c 0)
 
 -- ---- an inward item: sender 1 byte, entry number 8
 
+abbrev pub itemNumber : ℕ
+itemNumber = 1
+
 abbrev pub itemSize : ℕ
-itemSize = 9
+itemSize = itemNumber + numberSize
 
 abbrev pub itemIn : List ℕ → ℕ → Item ℕ
-itemIn b at = item (getD b at 0) (get b (at + 1) 8)
+itemIn b at = item (getD b at 0) (get b (at + itemNumber) numberSize)
 
 unfoldable pub itemsIn : List ℕ → ℕ → ℕ → List (Item ℕ)
 itemsIn b at zero = []
@@ -65,7 +81,7 @@ itemsIn b at (suc n) = itemIn b at ∷ itemsIn b (at + itemSize) n
 -- ---- what only bytes can hold: an entry of unknown kind, an info's count beyond its places
 
 unfoldable pub slotFits : List ℕ → ℕ → Bool
-slotFits b at = both (isKnown (kindIn b at)) (cond (eqb (kindIn b at) 2) (both (leb 1 (countIn b at)) (leb (countIn b at) maxViews)) true)
+slotFits b at = both (isKnown (kindIn b at)) (cond (eqb (kindIn b at) infoKind) (both (leb 1 (countIn b at)) (leb (countIn b at) maxViews)) true)
 
 unfoldable pub slotsFit : List ℕ → ℕ → ℕ → Bool
 slotsFit b at zero = true

@@ -3,21 +3,38 @@
 use views::Member;
 use views::View;
 use views::ViewId;
+use views::limits;
 use views::list::Views;
+use views::sizes;
 use wire::Frame;
 ghost use mathlib.Core.Path.{_≡_};
 ghost use Prim.Native.Nat.{_+_, _*_, _≤_, _<_};
 ghost use lib.ListN.{length, getD};
 ghost use Rattle.views.specs.Limits.{maxViews};
+ghost use Rattle.views.specs.Sizes.{viewSize};
 ghost use Rattle.views.specs.Lists.{listOf};
 ghost use Rattle.slots.specs.Slots.{slotSize, itemSize, slotFits};
 ghost use Rattle.slots.specs.Changes.{moved, storeView, storeShort, storeInfo, popped, gained};
 ghost use Rattle.slots.specs.Frames.{framed, frameAt};
 
-// Bytes of an entry's slot, and of an inward item.
-pub const SLOT: usize = 171;
+// Where the parts of an entry stand in its slot, behind the sender: its kind, its number, the count of its views, and
+// the views.
+pub const KIND: usize = 1;
 
-pub const ITEM: usize = 9;
+pub const NUMBER: usize = KIND + 1;
+
+pub const COUNT: usize = NUMBER + sizes::NUMBER;
+
+pub const VIEWS: usize = COUNT + 1;
+
+// Bytes of an entry's slot.
+pub const SLOT: usize = VIEWS + sizes::VIEW * limits::VIEWS;
+
+// Where the entry number of an inward item stands, behind its sender.
+pub const ITEM_NUMBER: usize = 1;
+
+// Bytes of an inward item.
+pub const ITEM: usize = ITEM_NUMBER + sizes::NUMBER;
 
 // The n bytes at `from` go down to `to`.
 pub fn move_down(b: &mut [u8], from: usize, to: usize, n: usize)
@@ -34,11 +51,11 @@ pub fn move_down(b: &mut [u8], from: usize, to: usize, n: usize)
 
 // A view is stored at a place.
 pub fn store_view(b: &mut [u8], at: usize, v: View)
-    requires { ⌜ at + 5 ≤ length (now b) ⌝ }
+    requires { ⌜ at + viewSize ≤ length (now b) ⌝ }
     ensures { λ _. ⌜ now (b .exit) ≡ storeView (now (b .entry)) at v ⌝ }
 {
-    numbers::put_number(b, at, 4, v.id.0 as u64);
-    b[at + 4] = v.set;
+    numbers::put_number(b, at, sizes::IDENTIFIER, v.id.0 as u64);
+    b[at + sizes::IDENTIFIER] = v.set;
 }
 
 // A message with a kind and a number is stored in the slot at a place.
@@ -47,8 +64,8 @@ pub fn store_short(b: &mut [u8], at: usize, q: Member, kind: u8, x: u64)
     ensures { λ _. ⌜ now (b .exit) ≡ storeShort (now (b .entry)) at (q .0) kind x ⌝ }
 {
     b[at] = q.0;
-    b[at + 1] = kind;
-    numbers::put_number(b, at + 2, 8, x);
+    b[at + KIND] = kind;
+    numbers::put_number(b, at + NUMBER, sizes::NUMBER, x);
 }
 
 // An info with these views is stored in the slot at a place.
@@ -58,9 +75,9 @@ pub fn store_info(b: &mut [u8], at: usize, q: Member, list: Views)
 {
     let n = list.count;
     b[at] = q.0;
-    b[at + 1] = wire::format::INFO;
-    b[at + 10] = (n % 256) as u8;
-    writer::store_views(b, at + 11, list, n);
+    b[at + KIND] = wire::format::INFO;
+    b[at + COUNT] = (n % 256) as u8;
+    writer::store_views(b, at + VIEWS, list, n);
 }
 
 // The first entry of the queue with its count at c and its slots from s on goes.
@@ -81,7 +98,7 @@ pub fn gain(b: &mut [u8], c: usize, q: Member, x: u64)
     let n = b[c];
     let at = c + 1 + ITEM * (n as usize);
     b[at] = q.0;
-    numbers::put_number(b, at + 1, 8, x);
+    numbers::put_number(b, at + ITEM_NUMBER, sizes::NUMBER, x);
     b[c] = n + 1;
 }
 
@@ -90,12 +107,12 @@ pub fn slot_fits(b: &[u8], at: usize) -> bool
     requires { ⌜ at + slotSize ≤ length (now b) ⌝ }
     ensures { λ r. ⌜ r ≡ slotFits (now (b .entry)) at ⌝ }
 {
-    let kind = b[at + 1];
+    let kind = b[at + KIND];
     if !wire::format::known(kind) {
         return false;
     }
     if kind == wire::format::INFO {
-        return wire::format::views_allowed(kind, b[at + 10] as usize);
+        return wire::format::views_allowed(kind, b[at + COUNT] as usize);
     }
     true
 }
@@ -105,14 +122,14 @@ pub fn load_frame(b: &[u8], at: usize, view: ViewId) -> Frame
     requires { ⌜ (at + slotSize ≤ length (now b)) × (framed (now b) at ≤ maxViews) ⌝ }
     ensures { λ r. ⌜ r ≡ frameAt (now (b .entry)) at (view .0) ⌝ }
 {
-    let kind = b[at + 1];
-    let x = numbers::get_number(b, at + 2, 8);
+    let kind = b[at + KIND];
+    let x = numbers::get_number(b, at + NUMBER, sizes::NUMBER);
     let n = if kind == wire::format::INFO {
-        b[at + 10] as usize
+        b[at + COUNT] as usize
     } else {
         0
     };
-    let list = reader::load_views(b, at + 11, n);
+    let list = reader::load_views(b, at + VIEWS, n);
     Frame {
         view,
         message: wire::format::message(kind, x),

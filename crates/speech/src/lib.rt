@@ -6,6 +6,7 @@ use acts::Said;
 use books::Book;
 use views::Member;
 use views::View;
+use views::kinds;
 use views::refusal::Verdict;
 use wire::format;
 ghost use mathlib.Core.Bool.{true};
@@ -55,7 +56,7 @@ pub fn register(b: &mut [u8]) -> Reply
     let p = Member(b[books::SELF]);
     let s = client_turns::register(h, b[books::OUTGOING]);
     let m = spoken(h, format::REGISTERED, 0);
-    let e = in_client(h, acts::REGISTER, p, 0);
+    let e = in_client(h, kinds::REGISTER, p, 0);
     acts::commit(b, s, m, e)
 }
 
@@ -73,7 +74,7 @@ pub fn send(b: &mut [u8], entry: u64) -> Reply
         Verdict::Refused(r) => acts::refuse(r),
         Verdict::Accepted => {
             let m = spoken(h, format::CLIENT, entry);
-            let e = in_client(h, acts::SEND, p, entry);
+            let e = in_client(h, kinds::SEND, p, entry);
             acts::say(b, m);
             Reply {
                 verdict: Verdict::Accepted,

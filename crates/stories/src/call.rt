@@ -1,5 +1,6 @@
 // The calls of a book, with their operands from a line.
 use acts::Reply;
+use views::kinds;
 
 pub fn start(b: &mut [u8], line: &[u8]) -> Reply {
     member::start(b, word(line, 2), word(line, 3), word(line, 4))
@@ -12,14 +13,14 @@ fn word(line: &[u8], n: usize) -> u8 {
 // A step, by the number of its kind.
 pub fn step(b: &mut [u8], line: &[u8], kind: u8) -> Reply {
     match kind {
-        2 => calls::join(b, crate::word::identifier(line, 2), word(line, 3)),
-        5 => deliver(b, line),
-        6 => calls::attempt(b),
-        7 => client::register(b),
-        8 => client::send(b, script::parse::number(line, 2)),
-        9 => client::hand(b),
-        10 => client::tell(b),
-        11 => client::safe(b),
+        kinds::JOIN => calls::join(b, crate::word::identifier(line, 2), word(line, 3)),
+        kinds::DELIVER => deliver(b, line),
+        kinds::ATTEMPT => calls::attempt(b),
+        kinds::REGISTER => client::register(b),
+        kinds::SEND => client::send(b, script::parse::number(line, 2)),
+        kinds::HAND => client::hand(b),
+        kinds::TELL => client::tell(b),
+        kinds::SAFE => client::safe(b),
         _ => calls::collect(b),
     }
 }

@@ -5,6 +5,7 @@ use member::Passed;
 use script::show::also;
 use script::show::end;
 use script::show::refused;
+use views::kinds;
 use views::refusal::Verdict;
 
 // A comment is answered by itself.
@@ -37,11 +38,11 @@ pub fn reply(r: Reply) {
 fn event(e: Event) {
     let kind = e.kind;
     match kind {
-        6 => attempt(e),
-        7 => register(e),
-        8 => send(e),
-        9 => item(b"hand", e),
-        11 => item(b"safe", e),
+        kinds::ATTEMPT => attempt(e),
+        kinds::REGISTER => register(e),
+        kinds::SEND => send(e),
+        kinds::HAND => item(b"hand", e),
+        kinds::SAFE => item(b"safe", e),
         _ => ok(),
     }
 }

@@ -1,4 +1,5 @@
 // What a line says: its word, and operands cut to what there is room for.
+use views::kinds;
 ghost use Prim.Native.Nat.{ℕ, _<_, _≤_};
 
 // A step of a book that a call carries out has the number of its kind.
@@ -19,12 +20,12 @@ pub fn of(line: &[u8]) -> Word {
     let second = script::parse::byte(line, 1);
     match first {
         b'#' => Word::Comment,
-        b'j' => Word::Step(2),
-        b'd' => Word::Step(5),
-        b'a' => Word::Step(6),
-        b'h' => Word::Step(9),
-        b't' => Word::Step(10),
-        b'c' => Word::Step(12),
+        b'j' => Word::Step(kinds::JOIN),
+        b'd' => Word::Step(kinds::DELIVER),
+        b'a' => Word::Step(kinds::ATTEMPT),
+        b'h' => Word::Step(kinds::HAND),
+        b't' => Word::Step(kinds::TELL),
+        b'c' => Word::Step(kinds::COLLECT),
         b'l' => Word::Lend,
         b'p' => with_p(second),
         b'r' => with_r(script::parse::byte(line, 2)),
@@ -45,7 +46,7 @@ fn with_p(second: u8) -> Word {
 // register, relay
 fn with_r(third: u8) -> Word {
     match third {
-        b'g' => Word::Step(7),
+        b'g' => Word::Step(kinds::REGISTER),
         b'l' => Word::Relay,
         _ => Word::Unknown,
     }
@@ -55,8 +56,8 @@ fn with_r(third: u8) -> Word {
 fn with_s(second: u8) -> Word {
     match second {
         b't' => Word::Start,
-        b'e' => Word::Step(8),
-        b'a' => Word::Step(11),
+        b'e' => Word::Step(kinds::SEND),
+        b'a' => Word::Step(kinds::SAFE),
         _ => Word::Unknown,
     }
 }

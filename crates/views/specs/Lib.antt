@@ -1,4 +1,6 @@
+pub mod Sizes
 pub mod Limits
+pub mod Kinds
 pub mod Members
 pub mod Points
 pub mod Refusals

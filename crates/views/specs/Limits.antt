@@ -1,5 +1,6 @@
 -- The limits, each once.
-use Prim.Native.Nat.{ℕ}
+use Prim.Native.Nat.{ℕ, _+_, _-_, _*_}
+use Rattle.views.specs.Sizes.{identifierSize, viewSize}
 
 -- members of a group
 abbrev pub maxMembers : ℕ
@@ -9,9 +10,9 @@ maxMembers = 8
 abbrev pub maxViews : ℕ
 maxViews = 32
 
--- open views of a member
+-- open views of a member: every view but the settled one
 abbrev pub maxOpen : ℕ
-maxOpen = 31
+maxOpen = maxViews - 1
 
 -- messages outgoing in a member
 abbrev pub maxOutgoing : ℕ
@@ -25,6 +26,7 @@ maxWaiting = 8
 abbrev pub maxOrdered : ℕ
 maxOrdered = 128
 
--- bytes of the longest message
+-- bytes of the longest message, an info of 32 views: its kind, the identifier of the view sent in, the count of views and
+-- the views, and the count of numbers, of which it has none
 abbrev pub longest : ℕ
-longest = 167
+longest = 1 + identifierSize + 1 + viewSize * maxViews + 1

@@ -1,7 +1,10 @@
-// The three sorts, the view, and what every layer above says of them: limits, refusals, lists of views.
+// The three sorts, the view, and what every layer above says of them: sizes, limits, kinds of steps, refusals, lists of
+// views.
+pub mod kinds;
 pub mod limits;
 pub mod list;
 pub mod refusal;
+pub mod sizes;
 
 // A view identifier, of the report's set G.
 pub struct ViewId(pub u32);

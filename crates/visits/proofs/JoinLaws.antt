@@ -11,6 +11,7 @@ use Rattle.views.specs.declared.View.{View}
 use Rattle.views.specs.declared.list.Lookup.the-variants.{Found}
 use Rattle.views.specs.declared.refusal.Refusal.the-variants.{NoSuchMember, NoSuchView}
 use Rattle.views.specs.declared.refusal.Verdict.the-variants.{Refused}
+use Rattle.views.specs.Sizes.{viewSize}
 use Rattle.views.specs.Lists.{noView, findOf}
 use Rattle.wire.specs.Reader.{viewIn, viewsIn}
 use Rattle.rules.specs.Data.{Member, Result, need}
@@ -22,7 +23,7 @@ use Rattle.steps.specs.Turns.{verdictOf}
 use Rattle.acts.specs.declared.Reply.{Reply}
 use Rattle.acts.specs.Replies.{noEvent, replied, replyOf, left}
 use Rattle.acts.specs.Acts.{selfIn, joinBytes}
-use Rattle.groups.specs.Places.{viewSize, bookBytes, withBook}
+use Rattle.groups.specs.Places.{bookBytes, withBook}
 use Rattle.groups.specs.Groups.{Ranges, membersOf, madeOf, viewsMade, placeOf, groupIn, rangesSound}
 use Rattle.groups.specs.Moves.{viewAt, joinRanges}
 use Rattle.groups.specs.Answers.{nextReply}

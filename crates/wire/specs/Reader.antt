@@ -10,12 +10,14 @@ use Rattle.views.specs.declared.refusal.Refusal.{Refusal}
 use Rattle.views.specs.declared.refusal.Refusal.the-variants.{EndsEarly, UnknownKind, SectionCount, BytesLeftOver}
 use Rattle.views.specs.declared.refusal.Verdict.{Verdict}
 use Rattle.views.specs.declared.refusal.Verdict.the-variants.{Accepted, Refused}
+use Rattle.views.specs.Sizes.{identifierSize, viewSize, numberSize}
 use Rattle.views.specs.Refusals.{need}
 use Rattle.views.specs.Lists.{placed}
 use Rattle.wire.specs.declared.Message.{Message}
 use Rattle.wire.specs.declared.Message.the-variants.{Client, Info, Registered, Told}
 use Rattle.wire.specs.declared.Frame.{Frame}
 use Rattle.wire.specs.declared.Reading.{Reading}
+use Rattle.wire.specs.Format.{clientKind, infoKind, registeredKind}
 use Rattle.wire.specs.Format.{isKnown, viewsAllowed, numbersAllowed, contentOf}
 
 -- ---- where the parts stand
@@ -23,36 +25,53 @@ use Rattle.wire.specs.Format.{isKnown, viewsAllowed, numbersAllowed, con
 abbrev pub kindIn : List ℕ → ℕ
 kindIn b = getD b 0 0
 
+-- the identifier of the view sent in stands behind the kind, the count of views behind that, and then the views
+abbrev pub identifierAt : ℕ
+identifierAt = 1
+
+abbrev pub countAt : ℕ
+countAt = identifierAt + identifierSize
+
+abbrev pub viewsAt : ℕ
+viewsAt = countAt + 1
+
+-- the bytes of a message without views and numbers, the count of numbers the last of them
+abbrev pub shortest : ℕ
+shortest = viewsAt + 1
+
 abbrev pub viewCount : List ℕ → ℕ
-viewCount b = getD b 5 0
+viewCount b = getD b countAt 0
 
 -- the count of numbers stands behind the views
 abbrev pub numbersPlace : List ℕ → ℕ
-numbersPlace b = 6 + 5 * viewCount b
+numbersPlace b = viewsAt + viewSize * viewCount b
 
 abbrev pub numberCount : List ℕ → ℕ
 numberCount b = getD b (numbersPlace b) 0
 
 -- the message ends here
 abbrev pub endOf : List ℕ → ℕ
-endOf b = numbersPlace b + 1 + 8 * numberCount b
+endOf b = numbersPlace b + 1 + numberSize * numberCount b
 
 -- the view at a place
 abbrev pub viewIn : List ℕ → ℕ → View
-viewIn b at = record { id = record { 0 = get b at 4 }; set = getD b (at + 4) 0 }
+viewIn b at = record { id = record { 0 = get b at identifierSize }; set = getD b (at + identifierSize) 0 }
 
 -- n views from a place on
 unfoldable pub viewsIn : List ℕ → ℕ → ℕ → List View
 viewsIn b at zero = []
-viewsIn b at (suc n) = viewIn b at ∷ viewsIn b (at + 5) n
+viewsIn b at (suc n) = viewIn b at ∷ viewsIn b (at + viewSize) n
 
 -- the number that the message carries, 0 for none
 unfoldable pub numberIn : List ℕ → ℕ
-numberIn b = get b (numbersPlace b + 1) (8 * numberCount b)
+numberIn b = get b (numbersPlace b + 1) (numberSize * numberCount b)
 
 -- the message of a kind with a number
 unfoldable pub messageOf : ℕ → ℕ → Message
-messageOf kind x = cond (eqb kind 1) (Client x) (cond (eqb kind 2) Info (cond (eqb kind 3) Registered (Told (x % 256))))
+messageOf kind x =
+    cond (eqb kind clientKind) (Client x)
+    (cond (eqb kind infoKind) Info
+    (cond (eqb kind registeredKind) Registered (Told (x % 256))))
 
 -- ---- the verdicts
 
@@ -61,7 +80,7 @@ unfoldable pub scanOf : List ℕ → Verdict
 scanOf b =
     need (leb 1 (length b)) EndsEarly (
     need (isKnown (kindIn b)) UnknownKind (
-    need (leb 6 (length b)) EndsEarly (
+    need (leb viewsAt (length b)) EndsEarly (
     need (viewsAllowed (kindIn b) (viewCount b)) SectionCount (
     need (leb (numbersPlace b + 1) (length b)) EndsEarly (
     need (numbersAllowed (kindIn b) (numberCount b)) SectionCount (
@@ -69,7 +88,7 @@ scanOf b =
 
 -- over the whole message
 abbrev pub wholeOf : List ℕ → Verdict
-wholeOf b = contentOf (kindIn b) (viewsIn b 6 (viewCount b)) (numberIn b)
+wholeOf b = contentOf (kindIn b) (viewsIn b viewsAt (viewCount b)) (numberIn b)
 
 -- ---- what is read
 
@@ -82,9 +101,9 @@ refused r = record { verdict = Refused r; taken = 0; frame = noFrame }
 
 abbrev pub frameIn : List ℕ → Frame
 frameIn b = record {
-  view = record { 0 = get b 1 4 };
+  view = record { 0 = get b identifierAt identifierSize };
   message = messageOf (kindIn b) (numberIn b);
-  views = placed (viewsIn b 6 (viewCount b));
+  views = placed (viewsIn b viewsAt (viewCount b));
 }
 
 -- r if accepted, else the refusal

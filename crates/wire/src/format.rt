@@ -1,10 +1,11 @@
-// What the format allows, by kind: 1 client, 2 info, 3 registered, 4 told.
+// The kinds of messages, where the parts of a message stand, and what the format allows, by kind.
 use crate::Message;
 use views::limits;
 use views::list;
 use views::list::Views;
 use views::refusal::Refusal;
 use views::refusal::Verdict;
+use views::sizes;
 ghost use mathlib.Core.Path.{_≡_};
 ghost use Rattle.views.specs.Lists.{listOf};
 ghost use Rattle.wire.specs.Format.{kindOf, isKnown, viewsAllowed, numbersAllowed, someEmpty, toldFits, contentOf};
@@ -19,8 +20,15 @@ pub const REGISTERED: u8 = 3;
 
 pub const TOLD: u8 = 4;
 
-// Bytes of a view, in a message and in lent records: its identifier and its set.
-pub const VIEW: usize = 5;
+// The identifier of the view sent in stands behind the kind, the count of views behind that, and then the views.
+pub const IDENTIFIER_AT: usize = 1;
+
+pub const COUNT_AT: usize = IDENTIFIER_AT + sizes::IDENTIFIER;
+
+pub const VIEWS_AT: usize = COUNT_AT + 1;
+
+// Bytes of a message without views and numbers, the count of numbers the last of them.
+pub const SHORTEST: usize = VIEWS_AT + 1;
 
 // The message's kind.
 pub fn kind(m: Message) -> u8

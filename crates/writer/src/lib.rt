@@ -3,6 +3,7 @@ use views::ViewId;
 use views::list::Views;
 use views::refusal::Refusal;
 use views::refusal::Verdict;
+use views::sizes;
 use wire::Frame;
 use wire::Message;
 use wire::Written;
@@ -13,8 +14,10 @@ ghost use Prim.Native.Nat.{_+_, _*_, _≤_};
 ghost use lib.ListN.{length, take, drop};
 ghost use Rattle.numbers.specs.Number.{digits};
 ghost use Rattle.views.specs.Limits.{maxViews};
+ghost use Rattle.views.specs.Sizes.{identifierSize, viewSize, numberSize};
 ghost use Rattle.wire.specs.Format.{numbersOf, viewsBytes, numbersBytes};
 ghost use Rattle.wire.specs.Writer.{frameBytes, frameVerdict, Wrote, overwritten};
+ghost use Rattle.wire.specs.Reader.{viewsAt, shortest};
 
 // The frame can be written: 34 to 37.
 pub fn check(f: Frame) -> Verdict
@@ -31,27 +34,28 @@ pub fn check(f: Frame) -> Verdict
 
 // The first n views of the list are stored from a place on.
 pub fn store_views(b: &mut [u8], from: usize, list: Views, n: usize)
-    requires { ⌜ (from + 5 * n ≤ length (now b)) × (n ≤ maxViews) ⌝ }
-    ensures { λ _. ⌜ now (b .exit) ≡ take from (now (b .entry)) ++ (viewsBytes (take n (list .at)) ++ drop (from + 5 * n) (now (b .entry))) ⌝ }
+    requires { ⌜ (from + viewSize * n ≤ length (now b)) × (n ≤ maxViews) ⌝ }
+    ensures { λ _. ⌜ now (b .exit) ≡ take from (now (b .entry)) ++ (viewsBytes (take n (list .at)) ++ drop (from + viewSize * n) (now (b .entry))) ⌝ }
 {
     let mut i = 0;
     while i < n {
         let v = list.at[i];
-        let at = from + format::VIEW * i;
-        numbers::put_number(b, at, 4, v.id.0 as u64);
-        b[at + 4] = v.set;
+        let at = from + sizes::VIEW * i;
+        numbers::put_number(b, at, sizes::IDENTIFIER, v.id.0 as u64);
+        b[at + sizes::IDENTIFIER] = v.set;
         i += 1;
     }
 }
 
 // The front of a message: its kind, the identifier of the view sent in, the count of views.
 fn store_front(b: &mut [u8], kind: u8, view: ViewId, n: usize)
-    requires { ⌜ (6 ≤ length (now b)) × (n ≤ maxViews) ⌝ }
-    ensures { λ _. ⌜ now (b .exit) ≡ overwritten ((kind ∷ digits 4 (view .0)) ++ (n ∷ [])) (now (b .entry)) ⌝ }
+    requires { ⌜ (viewsAt ≤ length (now b)) × (n ≤ maxViews) ⌝ }
+    ensures { λ _. ⌜ now (b .exit)
+        ≡ overwritten ((kind ∷ digits identifierSize (view .0)) ++ (n ∷ [])) (now (b .entry)) ⌝ }
 {
     b[0] = kind;
-    numbers::put_number(b, 1, 4, view.0 as u64);
-    b[5] = (n % 256) as u8;
+    numbers::put_number(b, format::IDENTIFIER_AT, sizes::IDENTIFIER, view.0 as u64);
+    b[format::COUNT_AT] = (n % 256) as u8;
 }
 
 // How many numbers the message carries.
@@ -68,17 +72,22 @@ fn numbers_in(m: Message) -> u8
 
 // The section of numbers is stored at a place.
 fn store_numbers(b: &mut [u8], at: usize, m: Message)
-    requires { ⌜ at + 1 + 8 * length (numbersOf m) ≤ length (now b) ⌝ }
-    ensures { λ _. ⌜ now (b .exit) ≡ take at (now (b .entry)) ++ ((length (numbersOf m) ∷ numbersBytes (numbersOf m)) ++ drop (at + (1 + 8 * length (numbersOf m))) (now (b .entry))) ⌝ }
+    requires { ⌜ at + 1 + numberSize * length (numbersOf m) ≤ length (now b) ⌝ }
+    ensures { λ _. ⌜ now (b .exit) ≡ take at (now (b .entry)) ++ ((length (numbersOf m) ∷ numbersBytes (numbersOf m)) ++ drop (at + (1 + numberSize * length (numbersOf m))) (now (b .entry))) ⌝ }
 {
     let count = numbers_in(m);
     b[at] = count;
-    numbers::put_number(b, at + 1, 8 * (count as usize), format::number(m));
+    numbers::put_number(
+        b,
+        at + 1,
+        sizes::NUMBER * (count as usize),
+        format::number(m),
+    );
 }
 
 // The frame's bytes are stored at the front of a buffer that has room for them.
 fn store_frame(b: &mut [u8], f: Frame)
-    requires { ⌜ (7 + 5 * f .views .count + 8 * length (numbersOf (f .message)) ≤ length (now b)) × (f .views .count ≤ maxViews) ⌝ }
+    requires { ⌜ (shortest + viewSize * f .views .count + numberSize * length (numbersOf (f .message)) ≤ length (now b)) × (f .views .count ≤ maxViews) ⌝ }
     ensures { λ _. ⌜ now (b .exit) ≡ overwritten (frameBytes f) (now (b .entry)) ⌝ }
 {
     let m = f.message;
@@ -86,8 +95,8 @@ fn store_frame(b: &mut [u8], f: Frame)
     let list = f.views;
     let n = list.count;
     store_front(b, format::kind(m), view, n);
-    store_views(b, 6, list, n);
-    store_numbers(b, 6 + format::VIEW * n, m);
+    store_views(b, format::VIEWS_AT, list, n);
+    store_numbers(b, format::VIEWS_AT + sizes::VIEW * n, m);
 }
 
 // The frame's bytes are written to the front of the buffer.
@@ -111,7 +120,7 @@ fn write_checked(b: &mut [u8], f: Frame) -> Written
 {
     let m = f.message;
     let n = f.views.count;
-    let size = 7 + format::VIEW * n + 8 * (numbers_in(m) as usize);
+    let size = format::SHORTEST + sizes::VIEW * n + sizes::NUMBER * (numbers_in(m) as usize);
     if b.len() < size {
         return Written {
             verdict: Verdict::Refused(Refusal::BufferTooShort),
