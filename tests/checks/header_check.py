@@ -71,8 +71,8 @@ def expected_constants():
     wanted['DVS_REFUSALS'] = len(refusals)
     # whether every arm was matched: the dispatcher's last one begins where the steps end. The refusals' arms are held to their list by refusals.py
     beyond = int(found(r'0 \| (\d+)\.\.=255 =>', source('group/src/step.rt'), 'steps'))
-    if [int(number) for number, _ in arms] != list(range(1, beyond)):
-        sys.exit('steps %s in the sources, where this program looks for 1 to %d' % (', '.join(number for number, _ in arms), beyond - 1))
+    if [steps[kind] for kind, _ in arms] != list(range(1, beyond)):
+        sys.exit('steps %s in the sources, where this program looks for 1 to %d' % (', '.join(kind for kind, _ in arms), beyond - 1))
     return wanted
 
 
