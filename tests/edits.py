@@ -76,8 +76,8 @@ def furnish(crate):
     shutil.rmtree(room / 'crates', ignore_errors=True)
     (room / 'crates').mkdir(parents=True)
     (room / 'target').mkdir(exist_ok=True)
-    if not (room / 'target' / 'rlib').is_symlink():
-        (room / 'target' / 'rlib').symlink_to(ROOT / 'target' / 'rlib')
+    (room / 'target' / 'rlib').unlink(missing_ok=True)
+    (room / 'target' / 'rlib').symlink_to(ROOT / 'target' / 'rlib')
     (room / 'crates.txt').write_text(re.search('^%s:.*\n' % crate, (ROOT / 'crates.txt').read_text(), re.M).group())
     for other in CRATES.iterdir():
         if other.name != crate:
@@ -143,8 +143,9 @@ def try_crate(crate, edits):
 
 def arguments():
     parser = argparse.ArgumentParser(description='Tries wrong answers, which the prover must refuse.')
-    parser.add_argument('--gate', action='store_const', dest='folders', const=['must-fail'], help="the gate's edits, those of must-fail/")
-    parser.add_argument('--all', action='store_const', dest='folders', const=['must-fail', 'more-edits'], help='these and those of more-edits/')
+    which = parser.add_mutually_exclusive_group()
+    which.add_argument('--gate', action='store_const', dest='folders', const=['must-fail'], help="the gate's edits, those of must-fail/")
+    which.add_argument('--all', action='store_const', dest='folders', const=['must-fail', 'more-edits'], help='these and those of more-edits/')
     parser.add_argument('--jobs', type=int, default=min(MOST_JOBS, os.cpu_count() or 1), choices=range(1, MOST_JOBS + 1), help='crates at a time')
     parser.add_argument('crates', nargs='*', metavar='CRATE')
     parser.set_defaults(folders=['more-edits'])
@@ -154,6 +155,9 @@ def arguments():
 def main():
     given = arguments()
     wanted = {crate: edits_of(crate, given.folders) for crate in given.crates or sorted(path.name for path in CRATES.iterdir())}
+    without = [crate for crate, edits in wanted.items() if not edits]
+    if given.crates and without:
+        sys.exit('no such edits: %s' % ' '.join(without))
     wanted = {crate: edits for crate, edits in wanted.items() if edits}
     if subprocess.run(['rt', 'check', *wanted], cwd=ROOT, stdout=subprocess.DEVNULL).returncode:
         sys.exit('the crates are not proved as they stand: rt check says where')
