@@ -97,14 +97,14 @@ def check(crate, label):
 
 
 def first_error(crate, output):
-    """Where a check failed first and for what, cut short. Of a long message the line that compares what was computed says it best."""
+    """Where a check failed first and for what, cut short. A long message is told from the line that compares what was computed."""
     found = re.search(r'^(\S+): error: (`[^`]*`: )?(.*(?:\n  .*)*)', output, re.M) or re.search(r'^note: (\S+:\d+:\d+): ()(.*)', output, re.M)
     if not found:
         return 'no place given'
     place = found.group(1).replace('%s/' % (ROOMS / crate / 'crates' / crate), '')
     lines = found.group(3).split('\n')
-    told = next((line for line in lines if 'computed as far as they go' in line), lines[0])
-    return '%s: %s' % (place, ((found.group(2) or '') + told.strip())[:SHOWN])
+    start = next((i for i, line in enumerate(lines) if 'computed as far as they go' in line), 0)
+    return '%s: %s' % (place, ((found.group(2) or '') + ' '.join(' '.join(lines[start:]).split()))[:SHOWN])
 
 
 def attempt(crate, edit):
