@@ -1,6 +1,7 @@
 #!/usr/bin/env python3
 """documents_check.py: whether the documents name files that are there, docs/TRUST.md counts their lines right, docs/DECISIONS.md names every
-public function that asks something of its callers, and README.md shows the stored session of the bench and the stored example.
+public function that asks something of its callers, docs/ARCHITECTURE.md names edits that are there, and README.md shows the stored session of the
+bench and the stored example.
 
     python3 tests/checks/documents_check.py          says what is wrong, and exits with 1 where something is
     python3 tests/checks/documents_check.py write    puts the right counts into docs/TRUST.md"""
@@ -74,6 +75,12 @@ whole = re.findall(r'all of `(\w+)`', named) + re.findall(r'`(\w+)`', re.search(
 for crate, name in asking():
     if crate not in whole and not re.search(r'`(\w+::)?%s`' % name, named):
         faults.append('docs/DECISIONS.md does not name %s of %s, which asks something of its callers' % (name, crate))
+
+
+answers = (ROOT / 'docs' / 'ARCHITECTURE.md').read_text().split('\n## Wrong answers\n')[1].split('\n## ')[0]
+for crate, name in re.findall(r'`(\w+)/(\w+)`', answers):
+    if not list((ROOT / 'crates' / crate).glob('m*/%s.edit' % name)):
+        faults.append('docs/ARCHITECTURE.md names the edit %s of %s, which is not there' % (name, crate))
 
 
 def shown(heading):
