@@ -109,7 +109,7 @@ edits:
 reference:
 	python3 tests/reference/reference_cases.py
 	python3 tests/reference/references_agree.py 1 20000
-	python3 tests/reference/member_reference.py check crates/stories/stdin
+	python3 tests/reference/member_reference.py check crates/test_stories/stdin
 	python3 tests/reference/wire_vectors.py check
 	python3 tests/scripts/bench_stdin.py check
 

@@ -47,8 +47,8 @@ def screaming(name):
 
 def expected_constants():
     """What the header has to define, by the sources: names to numbers, or to the text of a macro's body."""
-    limits, books, groups = constants('views/src/limits.rt'), constants('books/src/lib.rt'), constants('groups/src/lib.rt')
-    answers, messages, kinds = constants('answers/src/lib.rt'), constants('messages/src/lib.rt'), constants('wire/src/format.rt')
+    limits, books, groups = constants('views/src/limits.rt'), constants('book_bytes/src/lib.rt'), constants('group_bytes/src/lib.rt')
+    answers, messages, kinds = constants('c_answers/src/lib.rt'), constants('wire/src/record.rt'), constants('wire/src/format.rt')
     wanted = {'DVS_' + name: limits[name] for name in ('MEMBERS', 'VIEWS', 'OPEN', 'OUTGOING', 'WAITING', 'ORDERED', 'LONGEST')}
     wanted.update(DVS_BOOK_SIZE=books['SIZE'], DVS_EVENT_SIZE=answers['EVENT'], DVS_LENGTH_SIZE=answers['LENGTH'],
                   DVS_MESSAGE_SIZE=messages['RECORD'], DVS_VIEW_SIZE=groups['VIEW'], DVS_BOOKS_SIZE=groups['BOOKS'])
@@ -62,7 +62,7 @@ def expected_constants():
     wanted.update({'DVS_MESSAGE_' + name: messages[name] for name in ('KIND', 'VIEW', 'NUMBER', 'COUNT', 'VIEWS')})
     wanted.update({'DVS_' + name: kinds[name] for name in ('CLIENT', 'INFO', 'REGISTERED', 'TOLD')})
     # the steps, by the kinds of the dispatcher's arms; the refusals, by their numbers
-    steps = constants('views/src/kinds.rt')
+    steps = constants('events/src/kinds.rt')
     arms = re.findall(r'^\s+kinds::(\w+) => .*?(\w+)\((?:list|all),', source('group/src/step.rt'), flags=re.M)
     wanted.update({'DVS_STEP_' + name.upper(): steps[kind] for kind, name in arms})
     wanted['DVS_ACCEPTED'] = int(found(r'Verdict::Accepted => (\d+),', source('views/src/refusal.rt'), 'refusals'))

@@ -1,8 +1,8 @@
 #!/usr/bin/env python3
 """Messages as bytes, a second time, in plain Python: the lines that the program `vectors` is run on, and the answers it must give.
 
-    python3 tests/reference/wire_vectors.py stdin  > crates/vectors/stdin
-    python3 tests/reference/wire_vectors.py stdout > crates/vectors/stdout
+    python3 tests/reference/wire_vectors.py stdin  > crates/test_vectors/stdin
+    python3 tests/reference/wire_vectors.py stdout > crates/test_vectors/stdout
     python3 tests/reference/wire_vectors.py check      whether those two files are what this makes
     python3 tests/reference/wire_vectors.py count      how many lines get which answer
 

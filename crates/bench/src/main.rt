@@ -8,13 +8,13 @@ ghost use Prim.Native.Nat.{_≤_};
 // The bench lends 8 view records, and the books and queues that go with them.
 const ROOM: usize = 8;
 
-const LIST: usize = groups::VIEW * ROOM;
+const LIST: usize = group_bytes::VIEW * ROOM;
 
-const QUEUES: usize = groups::HEAD + groups::TABLE * ROOM;
+const QUEUES: usize = group_bytes::HEAD + group_bytes::TABLE * ROOM;
 
 fn main() {
     let mut list = [0u8; LIST];
-    let mut all = [0u8; groups::BOOKS];
+    let mut all = [0u8; group_bytes::BOOKS];
     let mut queues = [0u8; QUEUES];
     let mut input = io::large_buffer();
     let mut out = io::large_buffer();
@@ -27,14 +27,14 @@ fn run(list: &mut [u8], all: &mut [u8], queues: &mut [u8], input: &mut [u8], out
     let mut held: usize = 0;
     let mut turns = u64::MAX;
     while turns > 0 {
-        let n = pieces::fill(input, held);
+        let n = crate::pieces::fill(input, held);
         if n == held {
             finish(list, all, queues, running, &input[..n], out);
             return;
         }
         let t = answer_all(list, all, queues, running, &input[..n], out);
         running = t.running;
-        held = pieces::keep(input, t.at, n);
+        held = crate::pieces::keep(input, t.at, n);
         turns -= 1;
     }
 }
@@ -51,10 +51,10 @@ fn finish(
     if line.len() == 0 {
         return;
     }
-    let a = session::answer(list, all, queues, running, line);
+    let a = bench_session::answer(list, all, queues, running, line);
     let reply = a.reply;
-    let filled = pieces::say(out, 0, reply);
-    pieces::send(out, filled);
+    let filled = crate::pieces::say(out, 0, reply);
+    crate::pieces::send(out, filled);
 }
 
 // Where the lines that were answered end, and whether a group is running.
@@ -78,17 +78,17 @@ fn answer_all(
     let mut at: usize = 0;
     let mut filled: usize = 0;
     while at < input.len() {
-        let end = lines::line_end(input, at);
+        let end = bench_lines::lines::line_end(input, at);
         if end == input.len() {
             break;
         }
-        let a = session::answer(list, all, queues, now_running, &input[at..end]);
+        let a = bench_session::answer(list, all, queues, now_running, &input[at..end]);
         now_running = a.running;
         let reply = a.reply;
-        filled = pieces::say(out, filled, reply);
-        at = pieces::line_after(input, end);
+        filled = crate::pieces::say(out, filled, reply);
+        at = crate::pieces::line_after(input, end);
     }
-    pieces::send(out, filled);
+    crate::pieces::send(out, filled);
     Turn {
         running: now_running,
         at,

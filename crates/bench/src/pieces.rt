@@ -1,13 +1,13 @@
 // Input as it comes and output as it goes.
-use acts::Reply;
+use events::Reply;
 use libc::STDIN_FILENO;
 use libc::STDOUT_FILENO;
+ghost use Prim.Native.Nat.{_+_, _≤_, min};
 ghost use lib.ListN.{length};
 ghost use mathlib.Core.Path.{_≡_};
-ghost use Prim.Native.Nat.{_+_, _≤_, min};
 
 // A line longer than the longest that is read is unreadable whatever follows: so many bytes of an unfinished one tell.
-const KEPT: usize = lines::LONGEST_LINE + 1;
+const KEPT: usize = bench_lines::lines::LONGEST_LINE + 1;
 
 // One read behind the bytes that are held; how many bytes of the buffer count then.
 pub fn fill(input: &mut [u8], held: usize) -> usize
@@ -56,9 +56,9 @@ pub fn say(out: &mut [u8], filled: usize, r: Reply) -> usize
     requires { ⌜ filled ≤ length (now out) ⌝ }
     ensures { λ n. ⌜ n ≤ length (now (out .exit)) ⌝ }
 {
-    if out.len() - filled < replies::LONGEST_REPLY {
+    if out.len() - filled < bench_lines::replies::LONGEST_REPLY {
         send(out, filled);
-        return replies::write(out, r);
+        return bench_lines::replies::write(out, r);
     }
-    filled + replies::write(&mut out[filled..], r)
+    filled + bench_lines::replies::write(&mut out[filled..], r)
 }

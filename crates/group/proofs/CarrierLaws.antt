@@ -14,16 +14,16 @@ use Rattle.rules.specs.Data.{Step, ok, Result, refused, accepted, need}
 use Rattle.rules.specs.Group.{Next, creates, passStep, orderStep, pick, stepOf}
 use Rattle.rules.specs.Member.{Passing}
 use Rattle.rules.proofs.Holding.{Holds, refuses, gives, given, need-holds, first-holds, after-holds, listed-holds}
-use Rattle.steps.specs.Turns.{verdictOf}
-use Rattle.acts.specs.declared.Reply.{Reply}
-use Rattle.acts.specs.Replies.{noEvent, eventOf, replied, left}
-use Rattle.groups.specs.Groups.{Ranges, ranges, groupIn, rangesSound}
-use Rattle.groups.specs.Moves.{viewAt, createRanges, joinRanges, passRanges, orderRanges, deliverRanges}
-use Rattle.groups.specs.Answers.{nextReply}
-use Rattle.groups.specs.Steps.{stepResult, pickRanges, moved, leftRanges, stepRanges, stepReply}
-use Rattle.carrier.specs.Carrier.{byMember, creating, passing, ordering, Created, Passed, Ordered}
-use Rattle.visits.specs.Visits.{joining, delivering, Joined, Delivered}
-use Rattle.group.specs.Calls.{asked, Went}
+use Rattle.record_steps.specs.Turns.{verdictOf}
+use Rattle.events.specs.declared.Reply.{Reply}
+use Rattle.events.specs.Replies.{noEvent, eventOf, replied, left}
+use Rattle.group_bytes.specs.Groups.{Ranges, ranges, groupIn, rangesSound}
+use Rattle.group_bytes.specs.Moves.{viewAt, createRanges, joinRanges, passRanges, orderRanges, deliverRanges}
+use Rattle.group_bytes.specs.Answers.{nextReply}
+use Rattle.group_bytes.specs.Steps.{stepResult, pickRanges, moved, leftRanges, stepRanges, stepReply}
+use Rattle.group_steps.specs.CarrierParts.{byMember, creating, passing, ordering, Created, Passed, Ordered}
+use Rattle.group_steps.specs.VisitParts.{joining, delivering, Joined, Delivered}
+use Rattle.group.specs.StepCalls.{asked, Went}
 use Rattle.group.proofs.OwnLaws.{left-books, result-sound}
 
 -- ---- what is left, range by range

@@ -13,23 +13,23 @@ use Rattle.rules.specs.Data.{Book as Ruled, Member, Step, Result, need}
 use Rattle.rules.specs.Member.{Done, attempts, registers, sends, hands, tells, reports, collects}
 use Rattle.rules.specs.Sound.{sound}
 use Rattle.rules.specs.Group.{own, pick, stepOf}
-use Rattle.books.specs.Books.{bookIn}
-use Rattle.steps.specs.Turns.{verdictOf}
-use Rattle.acts.specs.declared.Reply.{Reply}
-use Rattle.acts.specs.Replies.{replyOf, left}
-use Rattle.acts.specs.Acts.{membersIn, selfIn, fewOpen, attemptBytes, registerBytes, sendBytes, handBytes, tellBytes, safeBytes, collectBytes}
-use Rattle.groups.specs.Places.{bookBytes, withBook}
-use Rattle.groups.specs.Groups.{Ranges, ranges, membersOf, groupIn, rangesSound}
-use Rattle.groups.specs.Moves.{rebooked}
-use Rattle.groups.specs.Answers.{nextReply}
-use Rattle.groups.specs.Steps.{stepResult, pickRanges, moved, leftRanges, stepRanges, stepReply}
-use Rattle.groups.proofs.RangesLaws.{RangesBytes}
-use Rattle.groups.proofs.BookSounds.{members-in, self-in, book-is, sound-book}
-use Rattle.groups.proofs.BookSteps.{attempt-opens-few}
-use Rattle.groups.proofs.AnswerLaws.{own-reply, own-verdict}
-use Rattle.carrier.proofs.Rows.{ranged, group-sound}
-use Rattle.desks.specs.Desks.{Desk, ofMember, Sat}
-use Rattle.group.specs.Calls.{asked, Went}
+use Rattle.book_bytes.specs.Books.{bookIn}
+use Rattle.record_steps.specs.Turns.{verdictOf}
+use Rattle.events.specs.declared.Reply.{Reply}
+use Rattle.events.specs.Replies.{replyOf, left}
+use Rattle.book_steps.specs.Acts.{membersIn, selfIn, fewOpen, attemptBytes, registerBytes, sendBytes, handBytes, tellBytes, safeBytes, collectBytes}
+use Rattle.group_bytes.specs.Places.{bookBytes, withBook}
+use Rattle.group_bytes.specs.Groups.{Ranges, ranges, membersOf, groupIn, rangesSound}
+use Rattle.group_bytes.specs.Moves.{rebooked}
+use Rattle.group_bytes.specs.Answers.{nextReply}
+use Rattle.group_bytes.specs.Steps.{stepResult, pickRanges, moved, leftRanges, stepRanges, stepReply}
+use Rattle.group_bytes.proofs.RangesLaws.{RangesBytes}
+use Rattle.group_bytes.proofs.BookSounds.{members-in, self-in, book-is, sound-book}
+use Rattle.group_bytes.proofs.BookSteps.{attempt-opens-few}
+use Rattle.group_bytes.proofs.AnswerLaws.{own-reply, own-verdict}
+use Rattle.group_steps.proofs.Rows.{ranged, group-sound}
+use Rattle.group_steps.specs.OwnParts.{Desk, ofMember, Sat}
+use Rattle.group.specs.StepCalls.{asked, Went}
 
 -- ---- a result of the member's rule, and the group's
 

@@ -1,23 +1,23 @@
 // Step: 4 for unsound ranges, then the step of a kind's number.
-use acts::Reply;
-use views::kinds;
+use events::Reply;
+use events::kinds;
 use views::refusal::Refusal;
 use views::refusal::Verdict;
-ghost use mathlib.Core.Bool.{true};
 ghost use mathlib.Core.Path.{_≡_};
-ghost use Rattle.acts.specs.Replies.{noEvent, replied};
-ghost use Rattle.groups.specs.Groups.{ranges, rangesSound};
-ghost use Rattle.group.specs.Calls.{asked, Went};
+ghost use mathlib.Core.Bool.{true};
+ghost use Rattle.events.specs.Replies.{noEvent, replied};
+ghost use Rattle.group_bytes.specs.Groups.{ranges, rangesSound};
+ghost use Rattle.group.specs.StepCalls.{asked, Went};
 
 // The reply of a step that has no event.
 pub fn plain(v: Verdict) -> Reply
     ensures { λ r. ⌜ r ≡ replied v noEvent ⌝ }
 {
     match v {
-        Verdict::Refused(r) => acts::refuse(r),
+        Verdict::Refused(r) => events::refuse(r),
         Verdict::Accepted => Reply {
             verdict: Verdict::Accepted,
-            event: acts::no_event(),
+            event: events::no_event(),
         },
     }
 }
@@ -35,19 +35,31 @@ fn dispatch(
     ensures { λ r. ⌜ Went (ranges (now (list .entry)) (now (all .entry)) (now (queues .entry))) (asked kind first second) (ranges (now (list .exit)) (now (all .exit)) (now (queues .exit))) r ⌝ }
 {
     match kind {
-        kinds::CREATE => plain(carrier::create::create(list, all, queues, first, second)),
-        kinds::JOIN => visits::join(list, all, queues, first, second),
-        kinds::PASS => plain(carrier::pass::pass(list, all, queues, first)),
-        kinds::ORDER => plain(carrier::order::order(list, all, queues, first, second)),
-        kinds::DELIVER => visits::deliver(list, all, queues, first),
-        kinds::ATTEMPT => desks::attempt(all, first),
-        kinds::REGISTER => desks::register(all, first),
-        kinds::SEND => desks::send(all, first, second),
-        kinds::HAND => desks::hand(all, first),
-        kinds::TELL => desks::tell(all, first),
-        kinds::SAFE => desks::safe(all, first),
-        kinds::COLLECT => desks::collect(all, first),
-        0 | 13..=255 => acts::refuse(Refusal::UnknownStep),
+        kinds::CREATE => plain(group_steps::carrier_view::create::create(
+            list,
+            all,
+            queues,
+            first,
+            second,
+        )),
+        kinds::JOIN => group_steps::carrier_view::join(list, all, queues, first, second),
+        kinds::PASS => plain(group_steps::messages::pass::pass(list, all, queues, first)),
+        kinds::ORDER => plain(group_steps::messages::order::order(
+            list,
+            all,
+            queues,
+            first,
+            second,
+        )),
+        kinds::DELIVER => group_steps::messages::deliver(list, all, queues, first),
+        kinds::ATTEMPT => group_steps::carrier_view::attempt(all, first),
+        kinds::REGISTER => group_steps::client_view::register(all, first),
+        kinds::SEND => group_steps::client_view::send(all, first, second),
+        kinds::HAND => group_steps::client_view::hand(all, first),
+        kinds::TELL => group_steps::client_view::tell(all, first),
+        kinds::SAFE => group_steps::client_view::safe(all, first),
+        kinds::COLLECT => group_steps::carrier_view::collect(all, first),
+        0 | 13..=255 => events::refuse(Refusal::UnknownStep),
     }
 }
 
@@ -62,8 +74,8 @@ pub fn step(
 ) -> Reply
     ensures { λ r. ⌜ Went (ranges (now (list .entry)) (now (all .entry)) (now (queues .entry))) (asked kind first second) (ranges (now (list .exit)) (now (all .exit)) (now (queues .exit))) r ⌝ }
 {
-    if !inspect::sound(list, all, queues) {
-        return acts::refuse(Refusal::RecordsUnsound);
+    if !group_sound::sound(list, all, queues) {
+        return events::refuse(Refusal::RecordsUnsound);
     }
     dispatch(list, all, queues, kind, first, second)
 }

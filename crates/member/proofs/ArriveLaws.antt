@@ -27,14 +27,14 @@ use Rattle.rules.specs.Sound.{setFits}
 use Rattle.rules.specs.Group.{fits}
 use Rattle.rules.specs.Alone.{viewsOf, bookSound}
 use Rattle.rules.proofs.TestLaws.{conditions-say, within-says}
-use Rattle.books.specs.Places.{carrierAt, takenAt}
-use Rattle.books.specs.Records.{flagIn, recordIn}
-use Rattle.books.specs.Books.{bookIn, bytesSound}
-use Rattle.steps.specs.Turns.{verdictOf}
-use Rattle.acts.specs.declared.Reply.{Reply}
-use Rattle.acts.specs.Replies.{noEvent, replied, replyOf, left}
-use Rattle.acts.specs.Acts.{membersIn, selfIn, taking, joinBytes, takeBytes}
-use Rattle.acts.proofs.Committed.{refused-by}
+use Rattle.book_bytes.specs.Places.{carrierAt, takenAt}
+use Rattle.book_bytes.specs.Records.{flagIn, recordIn}
+use Rattle.book_bytes.specs.Books.{bookIn, bytesSound}
+use Rattle.record_steps.specs.Turns.{verdictOf}
+use Rattle.events.specs.declared.Reply.{Reply}
+use Rattle.events.specs.Replies.{noEvent, replied, replyOf, left}
+use Rattle.book_steps.specs.Acts.{membersIn, selfIn, taking, joinBytes, takeBytes}
+use Rattle.book_steps.proofs.Committed.{refused-by}
 use Rattle.member.specs.Parts.{joining, sentIn, arriving, frameAnswer}
 
 -- a step's reply and bytes, by its result

@@ -17,12 +17,12 @@ use Rattle.rules.specs.Member.{Done}
 use Rattle.rules.specs.Alone.{bookSound, alone}
 use Rattle.rules.specs.Sound.{conditions}
 use Rattle.rules.proofs.TestLaws.{conditions-say}
-use Rattle.books.specs.Books.{bookIn, layoutFits, bytesSound}
-use Rattle.steps.specs.Turns.{verdictOf}
-use Rattle.acts.specs.declared.Reply.{Reply}
-use Rattle.acts.specs.Replies.{noEvent, replied, replyOf, left}
-use Rattle.acts.specs.Acts.{membersIn, selfIn}
-use Rattle.acts.proofs.Committed.{refused-by}
+use Rattle.book_bytes.specs.Books.{bookIn, layoutFits, bytesSound}
+use Rattle.record_steps.specs.Turns.{verdictOf}
+use Rattle.events.specs.declared.Reply.{Reply}
+use Rattle.events.specs.Replies.{noEvent, replied, replyOf, left}
+use Rattle.book_steps.specs.Acts.{membersIn, selfIn}
+use Rattle.book_steps.proofs.Committed.{refused-by}
 use Rattle.member.specs.Calls.{onBook, Gave}
 use Rattle.member.specs.Parts.{admitted}
 

@@ -21,17 +21,17 @@ use Rattle.rules.specs.Alone.{Sent, sentOf, alone, joinAlone, passAlone, delive
 use Rattle.rules.proofs.TestLaws.{within-says}
 use Rattle.rules.proofs.Readable.{Carries, reading-readable, reading-fits}
 use Rattle.slots.proofs.Stored.{MessageFits}
-use Rattle.books.specs.Places.{takenAt}
-use Rattle.books.specs.Records.{recordIn}
-use Rattle.books.specs.Books.{bookIn}
-use Rattle.acts.specs.declared.Reply.{Reply}
-use Rattle.acts.specs.Replies.{left}
-use Rattle.acts.specs.Acts.{membersIn, selfIn, joinBytes, passBytes, takeBytes, attemptBytes, registerBytes, sendBytes, handBytes, tellBytes, safeBytes, collectBytes}
-use Rattle.acts.proofs.Means.{Means}
-use Rattle.acts.proofs.MeansSpeak.{register-means, send-means, tell-means}
-use Rattle.acts.proofs.MeansMarks.{hand-means, safe-means, collect-means}
-use Rattle.acts.proofs.MeansJoin.{join-means, attempt-means, pass-means}
-use Rattle.acts.proofs.MeansTake.{toldOf, take-means}
+use Rattle.book_bytes.specs.Places.{takenAt}
+use Rattle.book_bytes.specs.Records.{recordIn}
+use Rattle.book_bytes.specs.Books.{bookIn}
+use Rattle.events.specs.declared.Reply.{Reply}
+use Rattle.events.specs.Replies.{left}
+use Rattle.book_steps.specs.Acts.{membersIn, selfIn, joinBytes, passBytes, takeBytes, attemptBytes, registerBytes, sendBytes, handBytes, tellBytes, safeBytes, collectBytes}
+use Rattle.book_steps.proofs.Means.{Means}
+use Rattle.book_steps.proofs.MeansSpeak.{register-means, send-means, tell-means}
+use Rattle.book_steps.proofs.MeansMarks.{hand-means, safe-means, collect-means}
+use Rattle.book_steps.proofs.MeansJoin.{join-means, attempt-means, pass-means}
+use Rattle.book_steps.proofs.MeansTake.{toldOf, take-means}
 use Rattle.member.specs.Calls.{Gave, joinCall, passCall, takenBytes, deliverCall, deliverBytes, attemptCall, registerCall, sendCall, handCall, tellCall, safeCall, collectCall}
 use Rattle.member.proofs.CallLaws.{need-gave, called-gave}
 use Rattle.member.proofs.ArriveLaws.{carrier-mark, sender-small}

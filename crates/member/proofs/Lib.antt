@@ -4,3 +4,6 @@ pub mod ArriveLaws
 pub mod StartMeans
 pub mod CallMeans
 pub mod NeverFour
+pub mod PassLaws
+pub mod ReadLaws
+pub mod SetWalks

@@ -16,13 +16,13 @@ use Rattle.rules.proofs.TestLaws.{_and_, conditions-from}
 use Rattle.rules.proofs.AloneKept.{KeptAlone, start-kept, join-kept, pass-kept, attempt-kept, register-kept, send-kept, hand-kept, tell-kept, safe-kept, collect-kept}
 use Rattle.rules.proofs.AloneTaken.{Readable, deliver-kept}
 use Rattle.rules.proofs.Readable.{reading-readable}
-use Rattle.books.specs.Books.{bookIn, layoutFits, bytesSound}
-use Rattle.books.proofs.LayoutLaws.{Layout, layout-from}
-use Rattle.steps.specs.Turns.{verdictOf}
-use Rattle.acts.specs.Replies.{left}
-use Rattle.acts.specs.Acts.{membersIn, selfIn}
-use Rattle.acts.proofs.Means.{Means}
-use Rattle.fresh.specs.Starts.{startBytes}
+use Rattle.book_bytes.specs.Books.{bookIn, layoutFits, bytesSound}
+use Rattle.book_bytes.proofs.LayoutLaws.{Layout, layout-from}
+use Rattle.record_steps.specs.Turns.{verdictOf}
+use Rattle.events.specs.Replies.{left}
+use Rattle.book_steps.specs.Acts.{membersIn, selfIn}
+use Rattle.book_steps.proofs.Means.{Means}
+use Rattle.book_bytes.specs.Starts.{startBytes}
 use Rattle.member.specs.Calls.{onBook, joinCall, passCall, deliverCall, attemptCall, registerCall, sendCall, handCall, tellCall, safeCall, collectCall, startCall}
 use Rattle.member.specs.Drives.{Call, after, lastOf, Within, AllWithin, NeverFour}
 use Rattle.member.proofs.CallLaws.{need-gave}

@@ -18,12 +18,12 @@ use Rattle.rules.specs.Data.{Book as Ruled, Result, refused, accepted, need}
 use Rattle.rules.specs.Group.{fits}
 use Rattle.rules.specs.Alone.{startAlone}
 use Rattle.rules.proofs.TestLaws.{within-from}
-use Rattle.books.specs.Places.{bookSize}
-use Rattle.steps.specs.Turns.{verdictOf}
-use Rattle.acts.specs.declared.Event.{Event}
-use Rattle.acts.specs.declared.Reply.{Reply}
-use Rattle.acts.specs.Replies.{noEvent, replied, left}
-use Rattle.fresh.specs.Starts.{startBytes}
+use Rattle.book_bytes.specs.Places.{bookSize}
+use Rattle.record_steps.specs.Turns.{verdictOf}
+use Rattle.events.specs.declared.Event.{Event}
+use Rattle.events.specs.declared.Reply.{Reply}
+use Rattle.events.specs.Replies.{noEvent, replied, left}
+use Rattle.book_bytes.specs.Starts.{startBytes}
 use Rattle.member.specs.Calls.{startCall, startReply}
 
 -- ---- 4, 1, 2, 6

@@ -11,12 +11,12 @@ use Rattle.rules.specs.Data.{Book as Ruled, accepted}
 use Rattle.rules.specs.Group.{fresh}
 use Rattle.rules.specs.Alone.{startAlone}
 use Rattle.rules.proofs.TestLaws.{within-says}
-use Rattle.books.specs.Places.{bookSize}
-use Rattle.books.specs.Books.{bookIn}
-use Rattle.books.proofs.LayoutLaws.{Layout}
-use Rattle.acts.specs.Acts.{membersIn, selfIn}
-use Rattle.fresh.specs.Starts.{startBytes}
-use Rattle.fresh.proofs.StartBook.{start-layout, start-members, start-self, start-book, start-bytes}
+use Rattle.book_bytes.specs.Places.{bookSize}
+use Rattle.book_bytes.specs.Books.{bookIn}
+use Rattle.book_bytes.proofs.LayoutLaws.{Layout}
+use Rattle.book_steps.specs.Acts.{membersIn, selfIn}
+use Rattle.book_bytes.specs.Starts.{startBytes}
+use Rattle.book_bytes.proofs.StartBook.{start-layout, start-members, start-self, start-book, start-bytes}
 use Rattle.member.specs.Calls.{startCall}
 use Rattle.member.proofs.CallLaws.{need-gave}
 

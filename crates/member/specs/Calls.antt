@@ -14,12 +14,12 @@ use Rattle.wire.specs.Writer.{overwritten}
 use Rattle.rules.specs.Data.{Identifier, Member, Book as Ruled, Result, refused, accepted, need}
 use Rattle.rules.specs.Member.{Done, Passing, registers, sends, hands, tells, reports, collects}
 use Rattle.rules.specs.Alone.{Sent, sentOf, alone, startAlone, joinAlone, passedBytes, passAlone, deliverAlone, attemptAlone}
-use Rattle.books.specs.Places.{bookSize}
-use Rattle.books.specs.Books.{bookIn, layoutFits}
-use Rattle.steps.specs.Turns.{verdictOf}
-use Rattle.acts.specs.declared.Reply.{Reply}
-use Rattle.acts.specs.Replies.{noEvent, replyOf, left}
-use Rattle.acts.specs.Acts.{membersIn, selfIn, takeBytes}
+use Rattle.book_bytes.specs.Places.{bookSize}
+use Rattle.book_bytes.specs.Books.{bookIn, layoutFits}
+use Rattle.record_steps.specs.Turns.{verdictOf}
+use Rattle.events.specs.declared.Reply.{Reply}
+use Rattle.events.specs.Replies.{noEvent, replyOf, left}
+use Rattle.book_steps.specs.Acts.{membersIn, selfIn, takeBytes}
 use Rattle.member.specs.declared.Passed.{Passed}
 
 -- ---- the results

@@ -20,9 +20,9 @@ use Rattle.rules.specs.Member.{Done, all, joins, Passing, passing}
 use Rattle.rules.specs.Sound.{setFits}
 use Rattle.rules.specs.Group.{fits}
 use Rattle.rules.specs.Alone.{Sent, messageOf, viewsOf, passedBytes}
-use Rattle.books.specs.Books.{bytesSound}
-use Rattle.acts.specs.Replies.{left}
-use Rattle.acts.specs.Acts.{membersIn, selfIn, taking, passBytes}
+use Rattle.book_bytes.specs.Books.{bytesSound}
+use Rattle.events.specs.Replies.{left}
+use Rattle.book_steps.specs.Acts.{membersIn, selfIn, taking, passBytes}
 use Rattle.member.specs.declared.Passed.{Passed}
 
 -- 4, then 6

@@ -1,16 +1,20 @@
 // The member by itself: a host lends its book and calls start, then the member's steps, on any bytes. What is no sound book gets 4 before anything else.
-use acts::Reply;
+pub mod carrier_view;
+pub mod client_view;
+pub mod messages;
+
+use events::Reply;
 use views::View;
 use views::ViewId;
 use views::limits;
 use views::refusal::Refusal;
 use views::refusal::Verdict;
 ghost use mathlib.Core.Path.{_≡_};
-ghost use Rattle.steps.specs.Turns.{verdictOf};
-ghost use Rattle.acts.specs.Replies.{left};
-ghost use Rattle.fresh.specs.Starts.{startBytes};
-ghost use Rattle.member.specs.Calls.{startCall, startReply};
+ghost use Rattle.events.specs.Replies.{left};
+ghost use Rattle.book_bytes.specs.Starts.{startBytes};
+ghost use Rattle.record_steps.specs.Turns.{verdictOf};
 ghost use Rattle.member.specs.Parts.{admitted};
+ghost use Rattle.member.specs.Calls.{startCall, startReply};
 
 // What pass gives: the verdict, and how many bytes were written.
 pub struct Passed {
@@ -22,10 +26,10 @@ pub struct Passed {
 pub fn admit(b: &[u8]) -> Verdict
     ensures { λ r. ⌜ r ≡ admitted (now (b .entry)) ⌝ }
 {
-    if !audit::sound(b) {
+    if !book_sound::sound(b) {
         return Verdict::Refused(Refusal::RecordsUnsound);
     }
-    if b[books::MEMBERS] <= b[books::SELF] {
+    if b[book_bytes::MEMBERS] <= b[book_bytes::SELF] {
         return Verdict::Refused(Refusal::NoSuchMember);
     }
     Verdict::Accepted
@@ -35,7 +39,7 @@ pub fn admit(b: &[u8]) -> Verdict
 fn startable(b: &[u8], members: u8, set: u8, own: u8) -> Verdict
     ensures { λ r. ⌜ r ≡ verdictOf (startCall members set own (now (b .entry))) ⌝ }
 {
-    if b.len() != books::SIZE {
+    if b.len() != book_bytes::SIZE {
         return Verdict::Refused(Refusal::RecordsUnsound);
     }
     if members < 1 {
@@ -45,7 +49,7 @@ fn startable(b: &[u8], members: u8, set: u8, own: u8) -> Verdict
         return Verdict::Refused(Refusal::MembersOutOfRange);
     }
     let view = View { id: ViewId(0), set };
-    if !rows::set_fits(members, view) {
+    if !book_sound::views_at::set_fits(members, view) {
         return Verdict::Refused(Refusal::FirstSetUnfit);
     }
     if members <= own {
@@ -61,12 +65,12 @@ pub fn start(b: &mut [u8], members: u8, set: u8, own: u8) -> Reply
 {
     let v = startable(b, members, set, own);
     match v {
-        Verdict::Refused(r) => acts::refuse(r),
+        Verdict::Refused(r) => events::refuse(r),
         Verdict::Accepted => {
-            fresh::book(b, members, set, own);
+            book_bytes::fresh::book(b, members, set, own);
             Reply {
                 verdict: Verdict::Accepted,
-                event: acts::no_event(),
+                event: events::no_event(),
             }
         }
     }

@@ -1,6 +1,6 @@
 // Unsigned big-endian numbers of 1 to 8 bytes at a place in bytes: one definition for every width.
 ghost use mathlib.Core.Path.{_≡_};
-ghost use Prim.Native.Nat.{ℕ, _+_, _^_, _<_, _≤_};
+ghost use Prim.Native.Nat.{_+_, _^_, _<_, _≤_};
 ghost use lib.ListN.{length};
 ghost use Rattle.numbers.specs.Number.{get, put};
 

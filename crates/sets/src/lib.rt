@@ -2,7 +2,8 @@
 use views::Member;
 use views::limits;
 ghost use mathlib.Core.Path.{_≡_};
-ghost use Rattle.views.specs.Sets.{has, isEmpty, isBeyond, inCommon, majorityOf};
+ghost use mathlib.Core.Bool.{not};
+ghost use Rattle.views.specs.Sets.{has, isEmpty, isBeyond, inCommon, majorityOf, both};
 
 // The member is in the set.
 pub fn contains(set: u8, member: Member) -> bool
@@ -44,4 +45,14 @@ pub fn majority(set: u8, held: u8) -> bool
     ensures { λ r. ⌜ r ≡ majorityOf set held ⌝ }
 {
     u8::count_ones(held) < 2 * u8::count_ones(set & held)
+}
+
+// The set is not empty and within n members.
+pub fn fits(n: u8, set: u8) -> bool
+    ensures { λ r. ⌜ r ≡ both (not (isEmpty set)) (not (isBeyond set n)) ⌝ }
+{
+    if empty(set) {
+        return false;
+    }
+    !beyond(set, n)
 }

@@ -13,7 +13,8 @@ use Rattle.wire.proofs.TripViews.{EachFits, AreBytes}
 use Rattle.rules.specs.Data.{Message, client, info, registered, told}
 use Rattle.rules.specs.Alone.{viewsOf}
 use Rattle.slots.specs.Slots.{slotSize, itemSize}
-use Rattle.slots.specs.Changes.{storeView, storeViews, storeShort, storeInfo, storeMessage, pushed, moved, popped, gained}
+use Rattle.slots.specs.Changes.{storeShort, storeInfo, storeMessage, pushed, moved, popped, gained}
+use Rattle.wire.specs.Writer.{storeView, storeViews}
 
 -- the set of every view of a list is a byte; past the end stands the zero view
 abbrev pub SetsAreBytes : List View → Type 0

@@ -20,8 +20,9 @@ use Rattle.wire.specs.declared.Message.{Message}
 use Rattle.wire.specs.Format.{viewsBytes}
 use Rattle.wire.specs.Reader.{viewsIn, messageOf}
 use Rattle.slots.specs.Slots.{kindIn, numberIn, countIn, slotFits}
-use Rattle.slots.specs.Changes.{moved, storeViews, storeInfo}
-use Rattle.slots.specs.Frames.{framed, frameAt}
+use Rattle.slots.specs.Changes.{moved, storeInfo}
+use Rattle.slots.specs.FrameParts.{framed, frameAt}
+use Rattle.wire.specs.Writer.{storeViews}
 
 -- ---- bytes that go down
 

@@ -21,7 +21,7 @@ use Rattle.wire.proofs.TripMessages.{both-first, both-second, Kind, kind-of-kno
 use Rattle.rules.specs.Data.{Message, client, registered, told}
 use Rattle.rules.specs.Alone.{viewsOf, carriedOf, messageBytes, infoOf}
 use Rattle.slots.specs.Slots.{kindIn, numberIn, countIn, infoIn, messageIn, slotFits}
-use Rattle.slots.specs.Frames.{framed, frameAt}
+use Rattle.slots.specs.FrameParts.{framed, frameAt}
 
 -- the slot at a place can be sent as it stands: it fits, and a told's number is a byte, as the frame's is
 pub record EntryOk (b : List ℕ) (at : ℕ) : Type 0 where

@@ -19,8 +19,9 @@ use Rattle.wire.proofs.SeamLaws.{length-viewsBytes}
 use Rattle.rules.specs.Data.{Message, client, info, registered, told}
 use Rattle.rules.specs.Alone.{viewsOf}
 use Rattle.slots.specs.Slots.{slotSize, entriesIn, queueIn, itemSize, itemsIn, slotsFit}
-use Rattle.slots.specs.Changes.{storeView, storeViews, storeShort, storeInfo, storeMessage}
+use Rattle.slots.specs.Changes.{storeShort, storeInfo, storeMessage}
 use Rattle.slots.proofs.Same.{byte-same, view-same, views-same, entries-same, slots-same, items-same}
+use Rattle.wire.specs.Writer.{storeView, storeViews}
 
 -- d is b with nothing changed but within the n bytes at `at`
 pub record Changed (b d : List ℕ) (at n : ℕ) : Type 0 where

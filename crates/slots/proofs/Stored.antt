@@ -15,12 +15,12 @@ use Rattle.views.specs.Limits.{maxViews}
 use Rattle.views.specs.Lists.{idOf, noView}
 use Rattle.wire.specs.Format.{viewBytes, viewsBytes, isKnown}
 use Rattle.wire.specs.Reader.{viewIn, viewsIn}
-use Rattle.wire.specs.Writer.{numberOf, overwritten}
+use Rattle.wire.specs.Writer.{numberOf, overwritten, storeView, storeViews}
 use Rattle.wire.proofs.SeamLaws.{length-viewBytes, length-viewsBytes, view-seam, part-seam, part-whole}
 use Rattle.rules.specs.Data.{Message, client, info, registered, told, entry}
 use Rattle.rules.specs.Alone.{viewsOf, carriedOf}
 use Rattle.slots.specs.Slots.{slotSize, kindIn, numberIn, countIn, infoIn, messageIn, entryIn, slotFits}
-use Rattle.slots.specs.Changes.{storeView, storeViews, storeShort, storeInfo, storeMessage}
+use Rattle.slots.specs.Changes.{storeShort, storeInfo, storeMessage}
 use Rattle.slots.proofs.Outside.{Changed, get-apart, view-apart, set-changed, storeView-changed, storeViews-changed}
 
 -- every identifier of a list is within its width; past the end stands the zero view

@@ -1,23 +1,15 @@
 -- What the steps do to queues in bytes.
-use mathlib.Core.List.{List, _∷_, _++_}
+use mathlib.Core.List.{List, _∷_}
 use Prim.Native.Nat.{ℕ, _+_, _-_, _*_}
-use lib.ListN.{length, getD, set, take, drop}
+use lib.ListN.{length, getD, set, drop}
 use lib.Seq.{paste}
 use Rattle.numbers.specs.Number.{put}
 use Rattle.views.specs.declared.View.{View}
-use Rattle.views.specs.Sizes.{identifierSize, viewSize, numberSize}
-use Rattle.views.specs.Lists.{idOf}
-use Rattle.wire.specs.Format.{viewsBytes, clientKind, infoKind, registeredKind, toldKind}
-use Rattle.rules.specs.Data.{Message, client, info, registered, told, Item, item}
+use Rattle.views.specs.Sizes.{numberSize}
+use Rattle.wire.specs.Format.{clientKind, infoKind, registeredKind, toldKind}
+use Rattle.rules.specs.Data.{Message, client, info, registered, told}
 use Rattle.slots.specs.Slots.{slotSize, itemSize, slotKind, slotNumber, slotCount, slotViews, itemNumber}
-
--- a view stored at a place: its identifier, then its set
-abbrev pub storeView : List ℕ → ℕ → View → List ℕ
-storeView b at v = set (put b at identifierSize (idOf v)) (at + identifierSize) (v .set)
-
--- a list of views stored from a place on
-unfoldable pub storeViews : List ℕ → ℕ → List View → List ℕ
-storeViews b at l = take at b ++ (viewsBytes l ++ drop (at + viewSize * length l) b)
+use Rattle.wire.specs.Writer.{storeViews}
 
 -- a message from q with a kind and a number, stored in the slot at a place
 unfoldable pub storeShort : List ℕ → ℕ → ℕ → ℕ → ℕ → List ℕ

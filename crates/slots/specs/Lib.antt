@@ -1,3 +1,3 @@
 pub mod Slots
 pub mod Changes
-pub mod Frames
+pub mod FrameParts

@@ -1,21 +1,19 @@
 // Queue entries and inward items in lent bytes, worked on in place. The places are given by whoever lays the records out, and each function asks that
 // what it touches lies within the bytes.
 use views::Member;
-use views::View;
 use views::ViewId;
 use views::limits;
 use views::list::Views;
 use views::sizes;
 use wire::Frame;
-ghost use mathlib.Core.Path.{_≡_};
 ghost use Prim.Native.Nat.{_+_, _*_, _≤_, _<_};
+ghost use mathlib.Core.Path.{_≡_};
 ghost use lib.ListN.{length, getD};
 ghost use Rattle.views.specs.Limits.{maxViews};
-ghost use Rattle.views.specs.Sizes.{viewSize};
 ghost use Rattle.views.specs.Lists.{listOf};
+ghost use Rattle.slots.specs.Changes.{moved, storeShort, storeInfo, popped, gained};
 ghost use Rattle.slots.specs.Slots.{slotSize, itemSize, slotFits};
-ghost use Rattle.slots.specs.Changes.{moved, storeView, storeShort, storeInfo, popped, gained};
-ghost use Rattle.slots.specs.Frames.{framed, frameAt};
+ghost use Rattle.slots.specs.FrameParts.{framed, frameAt};
 
 // Where the parts of an entry stand in its slot, behind the sender: its kind, its number, the count of its views, and
 // the views.
@@ -49,15 +47,6 @@ pub fn move_down(b: &mut [u8], from: usize, to: usize, n: usize)
     }
 }
 
-// A view is stored at a place.
-pub fn store_view(b: &mut [u8], at: usize, v: View)
-    requires { ⌜ at + viewSize ≤ length (now b) ⌝ }
-    ensures { λ _. ⌜ now (b .exit) ≡ storeView (now (b .entry)) at v ⌝ }
-{
-    numbers::put_number(b, at, sizes::IDENTIFIER, v.id.0 as u64);
-    b[at + sizes::IDENTIFIER] = v.set;
-}
-
 // A message with a kind and a number is stored in the slot at a place.
 pub fn store_short(b: &mut [u8], at: usize, q: Member, kind: u8, x: u64)
     requires { ⌜ at + slotSize ≤ length (now b) ⌝ }
@@ -77,7 +66,7 @@ pub fn store_info(b: &mut [u8], at: usize, q: Member, list: Views)
     b[at] = q.0;
     b[at + KIND] = wire::format::INFO;
     b[at + COUNT] = (n % 256) as u8;
-    writer::store_views(b, at + VIEWS, list, n);
+    wire::writer::store_views(b, at + VIEWS, list, n);
 }
 
 // The first entry of the queue with its count at c and its slots from s on goes.
@@ -129,7 +118,7 @@ pub fn load_frame(b: &[u8], at: usize, view: ViewId) -> Frame
     } else {
         0
     };
-    let list = reader::load_views(b, at + VIEWS, n);
+    let list = wire::reader::load_views(b, at + VIEWS, n);
     Frame {
         view,
         message: wire::format::message(kind, x),

@@ -4,3 +4,4 @@ pub mod Members
 pub mod ListLaws
 pub mod PlaceLaws
 pub mod WalkLaws
+pub mod Numbers

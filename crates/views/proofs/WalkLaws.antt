@@ -13,7 +13,7 @@ use Rattle.views.specs.declared.View.{View}
 use Rattle.views.specs.declared.list.Lookup.the-variants.{Found}
 use Rattle.views.specs.declared.list.Choice.{Choice}
 use Rattle.views.specs.Lists.{idOf, risesAbove, isRising, findOf, unionOf, aboveOf, noView}
-use Rattle.views.specs.Choice.{choice, choiceOf}
+use Rattle.views.specs.ChoiceParts.{choice, choiceOf}
 use Rattle.views.proofs.SetLaws.{known}
 use Rattle.views.proofs.ListLaws.{union-nil, union-front}
 use Rattle.views.proofs.PlaceLaws.{drop-used}

@@ -1,9 +1,8 @@
 pub mod Sizes
 pub mod Limits
-pub mod Kinds
 pub mod Members
 pub mod Points
 pub mod Refusals
 pub mod Sets
 pub mod Lists
-pub mod Choice
+pub mod ChoiceParts

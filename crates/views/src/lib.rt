@@ -1,6 +1,5 @@
 // The three sorts, the view, and what every layer above says of them: sizes, limits, kinds of steps, refusals, lists of
 // views.
-pub mod kinds;
 pub mod limits;
 pub mod list;
 pub mod refusal;

@@ -1,5 +1,5 @@
 // The limits, each once.
-use super::sizes;
+use crate::sizes;
 
 // Members of a group.
 pub const MEMBERS: u8 = 8;

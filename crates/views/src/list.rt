@@ -4,13 +4,12 @@ use crate::View;
 use crate::ViewId;
 use crate::limits;
 ghost use mathlib.Core.Path.{_≡_};
-ghost use mathlib.Core.List.{List, [], _∷_};
-ghost use mathlib.Core.Bool.{Bool};
-ghost use Prim.Native.Nat.{ℕ, _≤_, _<_, min};
+ghost use Prim.Native.Nat.{_<_, min};
 ghost use lib.ListN.{getD};
+ghost use mathlib.Core.List.{[], _∷_};
 ghost use Rattle.views.specs.Limits.{maxViews};
-ghost use Rattle.views.specs.Lists.{isRising, findOf, insertOf, unionOf, aboveOf, noView, listOf, placed};
-ghost use Rattle.views.specs.Choice.{choiceOf};
+ghost use Rattle.views.specs.Lists.{noView, placed, isRising, listOf, findOf, unionOf, insertOf, aboveOf};
+ghost use Rattle.views.specs.ChoiceParts.{choiceOf};
 
 pub struct Views {
     pub count: usize,

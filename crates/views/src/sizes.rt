@@ -1,6 +1,5 @@
 // How many bytes the parts of messages and of lent records take, each once. Every size and place is made of these and
 // of the limits.
-
 // A view identifier.
 pub const IDENTIFIER: usize = 4;
 

@@ -9,3 +9,5 @@ pub mod TripWritten
 pub mod TripRead
 pub mod RoundTrip
 pub mod MessageCases
+pub mod RecordLaws
+pub mod RecordTrip

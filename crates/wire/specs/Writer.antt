@@ -1,20 +1,23 @@
 -- The writer: the bytes of a message into a buffer, or the first refusal, 33 to 37 as far as they apply, then 39.
 use mathlib.Core.Path.{_≡_}
 use mathlib.Core.List.{List, [], _∷_, _++_}
-use Prim.Native.Nat.{ℕ}
+use Prim.Native.Nat.{ℕ, _+_, _*_}
 use lib.Dec.{leb}
-use lib.ListN.{length, drop}
+use lib.ListN.{length, drop, set, take}
 use Rattle.views.specs.declared.refusal.Refusal.{Refusal}
 use Rattle.views.specs.declared.refusal.Refusal.the-variants.{SectionCount, BufferTooShort}
 use Rattle.views.specs.declared.refusal.Verdict.{Verdict}
 use Rattle.views.specs.declared.refusal.Verdict.the-variants.{Accepted, Refused}
 use Rattle.views.specs.Refusals.{need, andThen}
-use Rattle.views.specs.Lists.{listOf}
+use Rattle.views.specs.Lists.{listOf, idOf}
 use Rattle.wire.specs.declared.Message.{Message}
 use Rattle.wire.specs.declared.Message.the-variants.{Client, Info, Registered, Told}
 use Rattle.wire.specs.declared.Frame.{Frame}
 use Rattle.wire.specs.declared.Written.{Written}
-use Rattle.wire.specs.Format.{kindOf, viewsAllowed, contentOf, bytesOf}
+use Rattle.wire.specs.Format.{kindOf, viewsAllowed, contentOf, bytesOf, viewsBytes}
+use Rattle.numbers.specs.Number.{put}
+use Rattle.views.specs.declared.View.{View}
+use Rattle.views.specs.Sizes.{identifierSize, viewSize}
 
 -- the number that a message carries, 0 for none
 abbrev pub numberOf : Message → ℕ
@@ -55,3 +58,11 @@ overwritten bytes buffer = bytes ++ drop (length bytes) buffer
 pub record Wrote (f : Frame) (entry exit : List ℕ) (r : Written) : Type 0 where
   pub reply : r ≡ writtenOf (writeVerdict f (length entry)) (length (frameBytes f))
   pub buffer : exit ≡ leaves (writeVerdict f (length entry)) (overwritten (frameBytes f) entry) entry
+
+-- a view stored at a place: its identifier, then its set
+abbrev pub storeView : List ℕ → ℕ → View → List ℕ
+storeView b at v = set (put b at identifierSize (idOf v)) (at + identifierSize) (v .set)
+
+-- a list of views stored from a place on
+unfoldable pub storeViews : List ℕ → ℕ → List View → List ℕ
+storeViews b at l = take at b ++ (viewsBytes l ++ drop (at + viewSize * length l) b)

@@ -1,9 +1,12 @@
 // Messages as bytes: a kind, the identifier of the view sent in, a section of views and a section of numbers.
+pub mod format;
+pub mod reader;
+pub mod record;
+pub mod writer;
+
 use views::ViewId;
 use views::list::Views;
 use views::refusal::Verdict;
-
-pub mod format;
 
 // The four messages. An info's views stand beside it.
 pub enum Message {

@@ -2,7 +2,7 @@
 use mathlib.Core.Path.{sym, _∙_}
 use native.Mathlib.Omega.{arith}
 use borrow.Author.Tests.{not-false}
-use Rattle.acts.proofs.Committed.{sound-size}
+use Rattle.book_steps.proofs.Committed.{sound-size}
 use Rattle.member.proofs.CallLaws.{admit-unsound, admit-beyond, admit-passes}
 use borrow.Author.Needs.{needs}
 use Rattle.member.proofs.admit.Statement.{statement}

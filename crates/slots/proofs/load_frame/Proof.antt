@@ -5,7 +5,7 @@ use native.Mathlib.Omega.{arith}
 use borrow.Author.Needs.{needs}
 use Prim.Native.Nat.{_+_, _≤_}
 use Rattle.views.specs.Limits.{maxViews}
-use Rattle.slots.specs.Frames.{framed}
+use Rattle.slots.specs.FrameParts.{framed}
 use Rattle.slots.proofs.CodeLaws.{framed-info, framed-other, frame-loaded}
 use Rattle.slots.proofs.load_frame.Statement.{statement}
 use Rattle.slots.proofs.load_frame.Tie as tie

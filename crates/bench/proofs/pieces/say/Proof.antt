@@ -1,6 +1,6 @@
 use Prim.Native.Nat.{_-_}
 use native.Mathlib.Omega.{arith}
-use Rattle.replies.proofs.BufferLaws.{wrote-le}
+use Rattle.bench_lines.proofs.BufferLaws.{wrote-le}
 use borrow.Author.Needs.{needs}
 use Rattle.bench.proofs.pieces.say.Statement.{statement}
 use Rattle.bench.proofs.pieces.say.Tie as tie

@@ -1,7 +1,7 @@
 use Prim.Native.Nat.{_-_}
 use native.Mathlib.Omega.{arith}
 use mathlib.Core.Logic.{inl, inr, ⊎-elim}
-use Rattle.group.specs.Calls.{asked}
+use Rattle.group.specs.StepCalls.{asked}
 use Rattle.group.proofs.OwnLaws.{desk, attempt-went, register-went, send-went, hand-went, tell-went, safe-went, collect-went}
 use Rattle.group.proofs.CarrierLaws.{create-went, join-went, pass-went, order-went, deliver-went, unknown-went, past-twelve}
 use borrow.Author.Needs.{needs}

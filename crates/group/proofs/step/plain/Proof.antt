@@ -1,5 +1,5 @@
 use Prim.Native.Nat.{_-_}
-use Rattle.acts.specs.Replies.{replied}
+use Rattle.events.specs.Replies.{replied}
 use borrow.Author.Needs.{needs}
 use Rattle.group.proofs.step.plain.Statement.{statement}
 use Rattle.group.proofs.step.plain.Tie as tie

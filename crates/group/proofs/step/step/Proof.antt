@@ -1,7 +1,7 @@
 use mathlib.Core.Path.{sym, _∙_}
 use Prim.Native.Nat.{_-_}
 use borrow.Author.Tests.{not-true, not-false}
-use Rattle.group.specs.Calls.{asked}
+use Rattle.group.specs.StepCalls.{asked}
 use Rattle.group.proofs.CarrierLaws.{unsound-went}
 use borrow.Author.Needs.{needs}
 use Rattle.group.proofs.step.step.Statement.{statement}

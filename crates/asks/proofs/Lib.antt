@@ -1,2 +1,0 @@
--- Laws of what a step asks of a record.
-pub mod AskLaws

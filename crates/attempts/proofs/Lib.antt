@@ -1,2 +1,0 @@
--- Laws of an attempt.
-pub mod AttemptLaws

@@ -1,5 +1,0 @@
--- Laws.
-pub mod Walks
-pub mod Tests
-pub mod Whole
-pub mod Layouts

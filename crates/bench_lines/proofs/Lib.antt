@@ -1,0 +1,12 @@
+pub mod WordLaws
+pub mod NumeralLaws
+pub mod DecimalLaws
+pub mod TextLaws
+pub mod ReadsBack
+pub mod LineLaws
+pub mod OperandLaws
+pub mod LineCases
+pub mod BufferLaws
+pub mod SpokenLaws
+pub mod Longest
+pub mod BenchCases

@@ -1,0 +1,6 @@
+pub mod Words
+pub mod Numerals
+pub mod TextParts
+pub mod Lines
+pub mod LineParts
+pub mod ReplyLines

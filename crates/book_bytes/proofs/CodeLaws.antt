@@ -1,0 +1,88 @@
+-- What the code works in steps, put together: a record loaded part by part, a record stored part by part.
+use mathlib.Core.Path.{_≡_, ap, _∙_}
+use mathlib.Core.List.{List, [], _∷_, _++_}
+use Prim.Native.Nat.{ℕ, _+_, _*_, _%_, _≤_, _<_, min}
+use native.Mathlib.Numerals.{add-one}
+use native.Mathlib.Omega.{arith}
+use lib.ListN.{length, getD, set, take, drop}
+use lib.Seq.{paste, paste-suc, drop-cons}
+use Rattle.views.specs.declared.View.{View}
+use Rattle.views.specs.declared.list.Views.{Views}
+use Rattle.views.specs.Limits.{maxMembers, maxOpen}
+use Rattle.views.specs.Lists.{listOf, placed}
+use Rattle.wire.specs.Format.{viewsBytes}
+use Rattle.wire.specs.Reader.{viewIn, viewsIn}
+use Rattle.wire.specs.Writer.{storeView, storeViews}
+use Rattle.book_bytes.specs.declared.Seat.{Seat}
+use Rattle.book_bytes.specs.declared.Book.{Book}
+use Rattle.book_bytes.specs.Places.{settledAt, carrierAt, clientAt, registeredAt, handedAt, toldAt, reportedAt, takenAt, infosAt, registrationsAt, toldsAt, sideAt, opensAt, bookSize}
+use Rattle.book_bytes.specs.Records.{flagIn, seatIn, recordIn, storeSeat, storeSeats, storeCounts, storeNotes, storeOpens, storeRecord}
+
+-- ---- a record loaded
+
+-- eight bytes read one by one
+pub tolds-loaded : (b : List ℕ) → bookSize ≤ length b
+    → getD b toldsAt 0 ∷ getD b (toldsAt + 1) 0 ∷ getD b (toldsAt + 2) 0 ∷ getD b (toldsAt + 3) 0 ∷ getD b (toldsAt + 4) 0 ∷ getD b (toldsAt + 5) 0 ∷ getD b (toldsAt + 6) 0 ∷ getD b (toldsAt + 7) 0 ∷ [] ≡ take maxMembers (drop toldsAt b)
+tolds-loaded b h =
+    rw (
+      drop-cons b toldsAt 0 (omega arith),
+      drop-cons b (toldsAt + 1) 0 (omega arith),
+      drop-cons b (toldsAt + 2) 0 (omega arith),
+      drop-cons b (toldsAt + 3) 0 (omega arith),
+      drop-cons b (toldsAt + 4) 0 (omega arith),
+      drop-cons b (toldsAt + 5) 0 (omega arith),
+      drop-cons b (toldsAt + 6) 0 (omega arith),
+      drop-cons b (toldsAt + 7) 0 (omega arith),
+    )
+
+-- each part is loaded from where the definition reads it; n is the count of open views, within its limit
+pub record-loaded : (b : List ℕ) (n : ℕ) (settled : View) (opens : Views) (carrier client : Seat) (tolds : List ℕ)
+    → n ≡ min (getD b opensAt 0) maxOpen
+    → settled ≡ viewIn b settledAt
+    → opens ≡ placed (viewsIn b (opensAt + 1) n)
+    → carrier ≡ seatIn b carrierAt
+    → client ≡ seatIn b clientAt
+    → tolds ≡ take maxMembers (drop toldsAt b)
+    → record {
+      settled = settled;
+      opens = opens;
+      carrier = carrier;
+      client = client;
+      registered = flagIn b registeredAt;
+      handed = record { 0 = getD b handedAt 0 };
+      told = record { 0 = getD b toldAt 0 };
+      reported = record { 0 = getD b reportedAt 0 };
+      taken = record { 0 = getD b takenAt 0 };
+      infos = getD b infosAt 0;
+      registrations = getD b registrationsAt 0;
+      tolds = tolds;
+      side = getD b sideAt 0;
+    } ≡ recordIn b
+unfolding recordIn
+record-loaded b n settled opens carrier client tolds e p q r s t = rw (p, q, e, r, s, t)
+
+-- ---- a record stored
+
+pub seats-joined : (b c d e : List ℕ) (h : Book) → c ≡ storeView b settledAt (h .settled) → d ≡ storeSeat c carrierAt (h .carrier)
+    → e ≡ storeSeat d clientAt (h .client) → e ≡ storeSeats b h
+unfolding storeSeats
+seats-joined b c d e h p q r =
+    r ∙ ap (λ (x : List ℕ). storeSeat x clientAt (h .client)) (q ∙ ap (λ (x : List ℕ). storeSeat x carrierAt (h .carrier)) p)
+
+-- a turn of the loop over the told counts
+pub tolds-turn : (b l : List ℕ) (at i : ℕ) → i < length l → at + length l ≤ length b
+    → set (paste b at l i) (at + i) (getD l i 0) ≡ paste b at l (i + 1)
+tolds-turn b l at i h k = rw (add-one i) (paste-suc b at l i 0 (omega arith) h)
+
+-- the open views behind the byte of their count
+pub opens-joined : (b d : List ℕ) (h : Book) → length (listOf (h .opens)) ≡ h .opens .count → h .opens .count ≤ maxOpen
+    → d ≡ take (opensAt + 1) (set b opensAt (h .opens .count % 256))
+    ++ (viewsBytes (listOf (h .opens)) ++ drop (opensAt + 1 + 5 * h .opens .count) (set b opensAt (h .opens .count % 256)))
+    → d ≡ storeOpens b h
+unfolding storeOpens storeViews
+opens-joined b d h e l p = let m : h .opens .count % 256 ≡ h .opens .count = omega arith in p ∙ rw (m, e)
+
+pub parts-joined : (b c d e f : List ℕ) (h : Book) → c ≡ storeSeats b h → d ≡ storeCounts c h → e ≡ storeNotes d h → f ≡ storeOpens e h
+    → f ≡ storeRecord b h
+unfolding storeRecord
+parts-joined b c d e f h p q r s = rw (s, r, q, p)

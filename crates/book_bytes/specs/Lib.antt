@@ -1,0 +1,4 @@
+pub mod Places
+pub mod Records
+pub mod Books
+pub mod Starts

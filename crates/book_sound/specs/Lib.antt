@@ -1,0 +1,2 @@
+pub mod EntryParts
+pub mod Parts

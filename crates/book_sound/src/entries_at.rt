@@ -1,0 +1,75 @@
+// Queue entries and inward items where they lie in bytes, tested in place. Only what is used is looked at.
+use views::sizes;
+use wire::format;
+ghost use mathlib.Core.Bool.{true};
+ghost use mathlib.Core.Path.{_≡_};
+ghost use Prim.Native.Nat.{_+_, _≤_, _*_};
+ghost use lib.ListN.{length};
+ghost use Rattle.rules.specs.Member.{all};
+ghost use Rattle.rules.specs.Sound.{itemFromMember};
+ghost use Rattle.slots.specs.Slots.{slotSize, entryIn, slotFits, slotsFit, entriesIn, itemSize, itemsIn};
+ghost use Rattle.book_sound.specs.EntryParts.{entrySound};
+
+// An entry: its sender is a member, a told's count and an info's views are within their limits.
+pub fn entry_sound(b: &[u8], at: usize, n: u8) -> bool
+    requires { ⌜ (at + slotSize ≤ length (now b)) × (slotFits (now b) at ≡ true) ⌝ }
+    ensures { λ r. ⌜ r ≡ entrySound n (entryIn (now (b .entry)) at) ⌝ }
+{
+    if n <= b[at] {
+        return false;
+    }
+    let kind = b[at + slots::KIND];
+    if kind == format::INFO {
+        return crate::views_at::sound(b, at + slots::VIEWS, b[at + slots::COUNT] as usize, n);
+    }
+    if kind != format::TOLD {
+        return true;
+    }
+    let x = numbers::get_number(b, at + slots::NUMBER, sizes::NUMBER);
+    format::told_fits(kind, x)
+}
+
+// The slots of a queue have entries of known kind, with their views in their places.
+pub fn slots_fit(b: &[u8], at: usize, count: usize) -> bool
+    requires { ⌜ at + slotSize * count ≤ length (now b) ⌝ }
+    ensures { λ r. ⌜ r ≡ slotsFit (now (b .entry)) at count ⌝ }
+{
+    let mut i = 0;
+    while i < count {
+        if !slots::slot_fits(b, at + slots::SLOT * i) {
+            return false;
+        }
+        i += 1;
+    }
+    true
+}
+
+// Every entry of a queue is sound.
+pub fn entries_sound(b: &[u8], at: usize, count: usize, n: u8) -> bool
+    requires { ⌜ (at + slotSize * count ≤ length (now b)) × (slotsFit (now b) at count ≡ true) ⌝ }
+    ensures { λ r. ⌜ r ≡ all (entrySound n) (entriesIn (now (b .entry)) at count) ⌝ }
+{
+    let mut i = 0;
+    while i < count {
+        if !entry_sound(b, at + slots::SLOT * i, n) {
+            return false;
+        }
+        i += 1;
+    }
+    true
+}
+
+// The senders of an inward list are members.
+pub fn items_sound(b: &[u8], at: usize, count: usize, n: u8) -> bool
+    requires { ⌜ at + itemSize * count ≤ length (now b) ⌝ }
+    ensures { λ r. ⌜ r ≡ all (itemFromMember n) (itemsIn (now (b .entry)) at count) ⌝ }
+{
+    let mut i = 0;
+    while i < count {
+        if n <= b[at + slots::ITEM * i] {
+            return false;
+        }
+        i += 1;
+    }
+    true
+}

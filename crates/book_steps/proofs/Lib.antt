@@ -1,0 +1,14 @@
+pub mod Committed
+pub mod Means
+pub mod TurnFits
+pub mod MeansSpeak
+pub mod MeansMarks
+pub mod MeansJoin
+pub mod MeansTake
+pub mod Answers
+pub mod JoinLaws
+pub mod RoomLaws
+pub mod TakeLaws
+pub mod MarkLaws
+pub mod SpeakLaws
+pub mod AttemptLaws

@@ -1,0 +1,73 @@
+use Prim.Native.Nat.{_-_}
+use native.Mathlib.Omega.{arith}
+use Rattle.book_steps.proofs.Committed.{sound-size, loaded-side}
+use Rattle.book_steps.proofs.AttemptLaws.{emptied-size, attempt-refused, attempt-few, attempt-accepted}
+use Rattle.book_bytes.specs.Places.{inwardAt}
+use borrow.Author.Needs.{needs}
+use Rattle.book_steps.proofs.carrier_view.attempt.Statement.{statement}
+use Rattle.book_steps.proofs.carrier_view.attempt.Tie as tie
+
+load-requires : tie.Need-load-requires
+load-requires c κs = omega (arith, sound-size _ (c .before .before .pre))
+
+slice-read-attempt : tie.Need-slice-read-attempt
+slice-read-attempt c = omega (arith, sound-size _ (c .before .before .before .before .pre))
+
+attempt-requires : tie.Need-attempt-requires
+attempt-requires c κs = loaded-side _ (c .before .before .before .before .pre) _ (c .before .load .ensures)
+
+few-open-requires : tie.Need-few-open-requires
+few-open-requires c κs = search needs
+
+enum-known-verdict : tie.Need-enum-known-verdict
+enum-known-verdict c = search needs
+
+refuse-requires : tie.Need-refuse-requires
+refuse-requires c κs = search needs
+
+enum-told : tie.Need-enum-told
+enum-told c = search needs
+
+slice-read-t15 : tie.Need-slice-read-t15
+slice-read-t15 c = omega (arith, sound-size _ (c .before .before .before .before .before .before .before .before .before .pre))
+
+attempted-requires : tie.Need-attempted-requires
+attempted-requires c κs = search needs
+
+empty-requires : tie.Need-empty-requires
+empty-requires c κs = (omega (arith, sound-size _ (c .before .before .before .before .before .before .before .before .before .before .before .pre)), loaded-side _ (c .before .before .before .before .before .before .before .before .before .before .before .pre) _ (c .before .before .before .before .before .before .before .before .load .ensures))
+
+store-requires : tie.Need-store-requires
+store-requires c κs = (emptied-size (c .before .before .before .before .before .before .before .before .before .before .before .before .before .before .before .before .args .b .now) _ (inwardAt (c .before .before .before .before .before .before .before .before .before .before .before .before .before .load .result .side)) (c .before .before .before .before .empty .ensures) (sound-size _ (c .before .before .before .before .before .before .before .before .before .before .before .before .before .before .before .before .pre)), attempt-few _ _ (c .before .before .before .before .before .before .before .before .before .before .before .before .before .load .ensures) _ (c .before .before .before .before .before .before .before .before .before .before .before .attempt .ensures) _ (c .before .before .before .before .before .before .before .before .before .before .few-open .ensures) (c .before .before .before .before .before .before .before .before .enum-told .given .1))
+
+same-length : tie.Need-same-length
+same-length c = search needs
+
+returns : tie.Need-returns
+returns c = attempt-refused _ _ (c .before .before .before .before .before .before .before .load .ensures) _ (c .before .before .before .before .before .attempt .ensures) _ (c .before .before .before .before .few-open .ensures) _ _ (c .before .before .verdict .given .1) (c .refuse .ensures)
+
+same-length-2 : tie.Need-same-length-2
+same-length-2 c = search needs
+
+returns-2 : tie.Need-returns-2
+returns-2 c = attempt-accepted _ _ (c .before .before .before .before .before .before .before .before .before .before .before .before .before .before .before .before .load .ensures) _ (c .before .before .before .before .before .before .before .before .before .before .before .before .before .before .attempt .ensures) _ (c .before .before .before .before .before .before .before .before .before .before .before .before .before .few-open .ensures) (c .before .before .before .before .before .before .before .before .before .before .before .enum-told .given .1) _ (c .before .before .before .before .before .before .before .before .before .attempted .ensures) _ _ (c .before .before .before .before .before .before .before .empty .ensures) (c .before .before .store .ensures)
+
+pub attempt-spec : {M : Type 1} → statement M
+attempt-spec =
+    tie.close
+    (tie.spec
+    load-requires
+    slice-read-attempt
+    attempt-requires
+    few-open-requires
+    enum-known-verdict
+    refuse-requires
+    enum-told
+    slice-read-t15
+    attempted-requires
+    empty-requires
+    store-requires
+    same-length
+    returns
+    same-length-2
+    returns-2)

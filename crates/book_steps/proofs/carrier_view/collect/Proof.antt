@@ -1,0 +1,40 @@
+use Prim.Native.Nat.{_-_}
+use native.Mathlib.Omega.{arith}
+use Rattle.book_steps.proofs.Committed.{sound-size}
+use Rattle.book_steps.proofs.MarkLaws.{collect-few, collect-done}
+use borrow.Author.Needs.{needs}
+use Rattle.book_steps.proofs.carrier_view.collect.Statement.{statement}
+use Rattle.book_steps.proofs.carrier_view.collect.Tie as tie
+
+load-requires : tie.Need-load-requires
+load-requires c κs = omega (arith, sound-size _ (c .before .before .pre))
+
+slice-read-collect : tie.Need-slice-read-collect
+slice-read-collect c = omega (arith, sound-size _ (c .before .before .before .before .pre))
+
+collect-requires : tie.Need-collect-requires
+collect-requires c κs = search needs
+
+no-event-requires : tie.Need-no-event-requires
+no-event-requires c κs = search needs
+
+keep-requires : tie.Need-keep-requires
+keep-requires c κs = (omega (arith, sound-size _ (c .before .before .before .before .before .before .before .pre)), collect-few _ _ (c .before .before .before .before .load .ensures) _ (c .before .before .collect .ensures))
+
+same-length : tie.Need-same-length
+same-length c = search needs
+
+returns : tie.Need-returns
+returns c = collect-done _ _ (c .before .before .before .before .before .before .before .load .ensures) _ (c .before .before .before .before .before .collect .ensures) _ (c .before .before .before .before .no-event .ensures) _ _ (c .before .before .keep .ensures)
+
+pub collect-spec : {M : Type 1} → statement M
+collect-spec =
+    tie.close
+    (tie.spec
+    load-requires
+    slice-read-collect
+    collect-requires
+    no-event-requires
+    keep-requires
+    same-length
+    returns)

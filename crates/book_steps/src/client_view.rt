@@ -1,0 +1,151 @@
+// The steps in the client view, in a sound book's bytes: register, send and tell, which put a message at the end of outgoing; hand and safe, which
+// change the record alone.
+use crate::Said;
+use book_bytes::Book;
+use events::Event;
+use events::Reply;
+use events::kinds;
+use views::Member;
+use views::View;
+use views::refusal::Verdict;
+use views::sizes;
+use wire::format;
+ghost use mathlib.Core.Path.{_≡_};
+ghost use mathlib.Core.Bool.{true};
+ghost use Prim.Native.Nat.{_+_, _*_, _≤_};
+ghost use lib.ListN.{length, getD};
+ghost use Rattle.events.specs.Replies.{happened, named, replyOf, left};
+ghost use Rattle.rules.specs.Member.{registers, sends, hands, tells, reports};
+ghost use Rattle.slots.specs.Slots.{itemSize};
+ghost use Rattle.book_bytes.specs.Books.{bookIn, bytesSound};
+ghost use Rattle.record_steps.specs.Turns.{verdictOf};
+ghost use Rattle.book_steps.specs.Parts.{spoken, itemEvent};
+ghost use Rattle.book_steps.specs.Acts.{selfIn, registerBytes, sendBytes, handBytes, tellBytes, membersIn, safeBytes};
+
+// What the member says of a kind and a number: only where the client view is the carrier view.
+fn spoken(h: Book, kind: u8, number: u64) -> Said
+    ensures { λ r. ⌜ r ≡ spoken h kind number ⌝ }
+{
+    let client = h.client;
+    let carrier = h.carrier;
+    Said {
+        there: record_steps::tests::same_view(client, carrier),
+        kind,
+        number,
+    }
+}
+
+// An event of the member p in its client view.
+fn in_client(h: Book, kind: u8, p: Member, entry: u64) -> Event
+    ensures { λ r. ⌜ r ≡ happened kind (p .0) (named (h .client .view .id .0)) 0 entry ⌝ }
+{
+    let id = h.client.view.id;
+    let view = View { id, set: 0 };
+    Event {
+        kind,
+        member: p,
+        view,
+        sender: Member(0),
+        entry,
+    }
+}
+
+// Noted for the client view; outgoing gains a registered message.
+pub fn register(b: &mut [u8]) -> Reply
+    requires { ⌜ bytesSound (now b) ≡ true ⌝ }
+    ensures { λ r. ⌜ (r ≡ replyOf (registers (selfIn (now (b .entry))) (bookIn (now (b .entry)))))
+        × (now (b .exit) ≡ left (verdictOf (registers (selfIn (now (b .entry))) (bookIn (now (b .entry))))) (registerBytes (now (b .entry))) (now (b .entry))) ⌝ }
+{
+    let h = book_bytes::load(b);
+    let p = Member(b[book_bytes::SELF]);
+    let s = record_steps::client_view::register(h, b[book_bytes::OUTGOING]);
+    let m = spoken(h, format::REGISTERED, 0);
+    let e = in_client(h, kinds::REGISTER, p, 0);
+    crate::commit(b, s, m, e)
+}
+
+// Outgoing gains a client message; the record stays.
+pub fn send(b: &mut [u8], entry: u64) -> Reply
+    requires { ⌜ bytesSound (now b) ≡ true ⌝ }
+    ensures { λ r. ⌜ (r ≡ replyOf (sends (selfIn (now (b .entry))) entry (bookIn (now (b .entry)))))
+        × (now (b .exit) ≡ left (verdictOf (sends (selfIn (now (b .entry))) entry (bookIn (now (b .entry))))) (sendBytes entry (now (b .entry))) (now (b .entry))) ⌝ }
+{
+    let h = book_bytes::load(b);
+    let p = Member(b[book_bytes::SELF]);
+    let s = record_steps::client_view::send(h, b[book_bytes::OUTGOING]);
+    let verdict = s.verdict;
+    match verdict {
+        Verdict::Refused(r) => events::refuse(r),
+        Verdict::Accepted => {
+            let m = spoken(h, format::CLIENT, entry);
+            let e = in_client(h, kinds::SEND, p, entry);
+            crate::say(b, m);
+            Reply {
+                verdict: Verdict::Accepted,
+                event: e,
+            }
+        }
+    }
+}
+
+// The event of item k of the inward list with its count at a place, if it has so many.
+fn of_item(b: &[u8], at: usize, k: u8, kind: u8, h: Book) -> Event
+    requires { ⌜ (at + 1 + itemSize * getD (now b) at 0 ≤ length (now b)) × (2 ≤ length (now b)) ⌝ }
+    ensures { λ r. ⌜ r ≡ itemEvent (now (b .entry)) at k kind h ⌝ }
+{
+    if b[at] <= k {
+        return events::no_event();
+    }
+    let i = at + 1 + slots::ITEM * (k as usize);
+    let member = Member(b[book_bytes::SELF]);
+    let sender = Member(b[i]);
+    let entry = numbers::get_number(b, i + slots::ITEM_NUMBER, sizes::NUMBER);
+    let id = h.client.view.id;
+    let view = View { id, set: 0 };
+    Event {
+        kind,
+        member,
+        view,
+        sender,
+        entry,
+    }
+}
+
+// The next of the client view's inward list is given out.
+pub fn hand(b: &mut [u8]) -> Reply
+    requires { ⌜ bytesSound (now b) ≡ true ⌝ }
+    ensures { λ r. ⌜ (r ≡ replyOf (hands (selfIn (now (b .entry))) (bookIn (now (b .entry)))))
+        × (now (b .exit) ≡ left (verdictOf (hands (selfIn (now (b .entry))) (bookIn (now (b .entry))))) (handBytes (now (b .entry))) (now (b .entry))) ⌝ }
+{
+    let h = book_bytes::load(b);
+    let at = book_bytes::INWARD + book_bytes::APART * (h.side as usize);
+    let s = record_steps::client_view::hand(h, b[at]);
+    let e = of_item(b, at, h.handed.0, kinds::HAND, h);
+    crate::keep(b, s, e)
+}
+
+// Outgoing gains told, with the number handed out in the client view.
+pub fn tell(b: &mut [u8]) -> Reply
+    requires { ⌜ bytesSound (now b) ≡ true ⌝ }
+    ensures { λ r. ⌜ (r ≡ replyOf (tells (selfIn (now (b .entry))) (bookIn (now (b .entry)))))
+        × (now (b .exit) ≡ left (verdictOf (tells (selfIn (now (b .entry))) (bookIn (now (b .entry))))) (tellBytes (now (b .entry))) (now (b .entry))) ⌝ }
+{
+    let h = book_bytes::load(b);
+    let s = record_steps::client_view::tell(h, b[book_bytes::OUTGOING]);
+    let m = spoken(h, format::TOLD, h.handed.0 as u64);
+    let e = events::no_event();
+    crate::commit(b, s, m, e)
+}
+
+// The next handed message not yet reported is reported, once every member of the view told of it.
+pub fn safe(b: &mut [u8]) -> Reply
+    requires { ⌜ bytesSound (now b) ≡ true ⌝ }
+    ensures { λ r. ⌜ (r ≡ replyOf (reports (membersIn (now (b .entry))) (selfIn (now (b .entry))) (bookIn (now (b .entry)))))
+        × (now (b .exit) ≡ left (verdictOf (reports (membersIn (now (b .entry))) (selfIn (now (b .entry))) (bookIn (now (b .entry))))) (safeBytes (now (b .entry))) (now (b .entry))) ⌝ }
+{
+    let h = book_bytes::load(b);
+    let at = book_bytes::INWARD + book_bytes::APART * (h.side as usize);
+    let s = record_steps::client_view::safe(b[book_bytes::MEMBERS], h, b[at]);
+    let e = of_item(b, at, h.reported.0, kinds::SAFE, h);
+    crate::keep(b, s, e)
+}

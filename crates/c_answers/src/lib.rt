@@ -1,0 +1,95 @@
+// Answers as numbers and lent bytes: a verdict's number; the bytes of an event, which the calls of the C interface and the answers of a run share,
+// and of a message's length; and numbers of 32 bits taken in a byte.
+use events::Event;
+use events::Reply;
+use views::refusal;
+use views::refusal::Refusal;
+use views::refusal::Verdict;
+use views::sizes;
+ghost use lib.ListN.{length};
+ghost use mathlib.Core.Path.{_≡_};
+ghost use Rattle.views.specs.Refusals.{codeOf, numberOf};
+ghost use Rattle.events.specs.Replies.{left};
+ghost use Rattle.c_answers.specs.Answers.{narrowed, eventSize, eventBytes, lengthSize, lengthBytes};
+
+// Where the parts of an event stand: its kind, the member, the view, the sender, the entry number.
+pub const KIND: usize = 0;
+
+pub const MEMBER: usize = KIND + 1;
+
+pub const VIEW: usize = MEMBER + 1;
+
+pub const SENDER: usize = VIEW + sizes::VIEW;
+
+pub const ENTRY: usize = SENDER + 1;
+
+// Bytes of an event.
+pub const EVENT: usize = ENTRY + sizes::NUMBER;
+
+// Bytes of the length of a message.
+pub const LENGTH: usize = 4;
+
+// 0 for accepted, or the refusal's number.
+pub fn code(v: Verdict) -> u32
+    ensures { λ r. ⌜ r ≡ codeOf v ⌝ }
+{
+    refusal::code(v) as u32
+}
+
+// The refusal's number.
+pub fn refused(r: Refusal) -> u32
+    ensures { λ x. ⌜ x ≡ numberOf r ⌝ }
+{
+    refusal::number(r) as u32
+}
+
+// The number in one byte, or another number that stands for all that are too large for it.
+pub fn narrow(x: u32, other: u8) -> u8
+    ensures { λ r. ⌜ r ≡ narrowed other x ⌝ }
+{
+    if 256 <= x {
+        return other;
+    }
+    (x % 256) as u8
+}
+
+// The event: its kind, the member, the view's identifier and set, the sender, the entry number.
+pub fn put_event(out: &mut [u8], e: Event)
+    requires { ⌜ length (now out) ≡ eventSize ⌝ }
+    ensures { λ _. ⌜ now (out .exit) ≡ eventBytes e ⌝ }
+{
+    out[KIND] = e.kind;
+    out[MEMBER] = e.member.0;
+    wire::writer::store_view(out, VIEW, e.view);
+    out[SENDER] = e.sender.0;
+    numbers::put_number(out, ENTRY, sizes::NUMBER, e.entry);
+}
+
+// The number of a call that gives an event out: a refusal leaves the bytes.
+pub fn answer(out: &mut [u8], r: Reply) -> u32
+    requires { ⌜ length (now out) ≡ eventSize ⌝ }
+    ensures { λ x. ⌜ (x ≡ codeOf (r .verdict)) × (now (out .exit) ≡ left (r .verdict) (eventBytes (r .event)) (now (out .entry))) ⌝ }
+{
+    let v = r.verdict;
+    match v {
+        Verdict::Refused(why) => refused(why),
+        Verdict::Accepted => {
+            put_event(out, r.event);
+            0
+        }
+    }
+}
+
+// The number of a call that gives the length n of a message out: a refusal leaves the bytes.
+pub fn measure(out: &mut [u8], v: Verdict, n: usize) -> u32
+    requires { ⌜ length (now out) ≡ lengthSize ⌝ }
+    ensures { λ x. ⌜ (x ≡ codeOf v) × (now (out .exit) ≡ left v (lengthBytes n) (now (out .entry))) ⌝ }
+{
+    match v {
+        Verdict::Refused(why) => refused(why),
+        Verdict::Accepted => {
+            numbers::put_number(out, 0, LENGTH, n as u64);
+            0
+        }
+    }
+}

@@ -1,2 +1,0 @@
--- Laws of the steps in the client view.
-pub mod ClientLaws

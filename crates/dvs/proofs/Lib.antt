@@ -1,0 +1,6 @@
+pub mod BookLaws
+pub mod BookNarrowing
+pub mod MessageLaws
+pub mod EventLaws
+pub mod GroupLaws
+pub mod GroupNarrowing

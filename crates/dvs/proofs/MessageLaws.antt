@@ -1,0 +1,116 @@
+-- From what the member's pass, the reader and the writer gave to what the calls give here.
+use mathlib.Core.Path.{_≡_, refl, sym, ap, _∙_}
+use mathlib.Core.List.{List}
+use Prim.Native.Nat.{ℕ}
+use mathlib.Core.Bool.{true, false}
+use lib.ListN.{length, getD}
+use Rattle.views.specs.declared.refusal.Refusal.{Refusal}
+use Rattle.views.specs.declared.refusal.Refusal.the-variants.{RecordsUnsound, UnknownKind}
+use Rattle.views.specs.declared.refusal.Verdict.{Verdict}
+use Rattle.views.specs.declared.refusal.Verdict.the-variants.{Accepted, Refused}
+use Rattle.views.specs.Refusals.{codeOf, need}
+use Rattle.wire.specs.declared.Reading.{Reading}
+use Rattle.wire.specs.declared.Written.{Written}
+use Rattle.wire.specs.Format.{isKnown}
+use Rattle.wire.specs.Reader.{readOf}
+use Rattle.wire.specs.Writer.{frameBytes, writeVerdict, writtenOf, leaves, Wrote}
+use Rattle.rules.specs.Data.{Result, refused, accepted}
+use Rattle.rules.specs.Member.{Passing}
+use Rattle.record_steps.specs.Turns.{verdictOf}
+use Rattle.events.specs.Replies.{left}
+use Rattle.book_steps.specs.Acts.{passBytes}
+use Rattle.member.specs.declared.Passed.{Passed}
+use Rattle.member.specs.Calls.{GaveOut, passCall, passedOf, passBuffer}
+use Rattle.c_answers.specs.Answers.{lengthSize, lengthBytes}
+use Rattle.c_answers.proofs.AnswerLaws.{sized-met, sized-unmet}
+use Rattle.wire.specs.Records.{recordSize, recordBytes, frameOf}
+use Rattle.dvs.specs.MessageCalls.{Passes, reading, Reads, writing, Writes}
+
+-- ---- pass
+
+passed-verdict : (result : Result Passing) → passedOf result .verdict ≡ verdictOf result
+passed-verdict (refused r) = refl
+passed-verdict (accepted x) = refl
+
+passed-buffer : (result : Result Passing) (o : List ℕ) → passBuffer result o ≡ left (verdictOf result) (passBuffer result o) o
+unfolding left
+passed-buffer (refused r) o = refl
+passed-buffer (accepted x) o = refl
+
+pub passes-unsized : (b o l : List ℕ) (x : ℕ) → (length l ≡ lengthSize → ⊥) → x ≡ 4 → Passes b b o o l l x
+unfolding left
+passes-unsized b o l x h k =
+    let v = sized-unmet l lengthSize (verdictOf (passCall (length o) b)) h in
+    record { number = rw v k; book = rw v; buffer = rw v; size = rw v }
+
+pub passes-call : (b b' o o' l l' : List ℕ) (r : Passed) (x : ℕ) → length l ≡ lengthSize
+    → GaveOut (passCall (length o) b) (passBytes b) b b' o o' r
+    → (x ≡ codeOf (r .verdict)) × (l' ≡ left (r .verdict) (lengthBytes (r .length)) l) → Passes b b' o o' l l' x
+passes-call b b' o o' l l' r x n h k =
+    let result = passCall (length o) b in
+    let v = sized-met l lengthSize (verdictOf result) n in
+    let w : r .verdict ≡ verdictOf result = ap (λ (y : Passed). y .verdict) (h .reply) ∙ passed-verdict result in
+    let number : x ≡ codeOf (verdictOf result) = rw w at (k .0) in
+    let size : l' ≡ left (verdictOf result) (lengthBytes (passedOf result .length)) l = rw (w, h .reply) at (k .1) in
+    record { number = rw v number; book = rw v (h .book); buffer = rw v (h .buffer ∙ passed-buffer result o); size = rw v size }
+
+-- ---- read and write
+
+pub reads-unsized : (s m : List ℕ) (x : ℕ) → (length m ≡ recordSize → ⊥) → x ≡ 4 → Reads s m m x
+unfolding left
+reads-unsized s m x h k =
+    let v = sized-unmet m recordSize (readOf s .verdict) h in
+    let number : x ≡ codeOf (reading s m) = rw v k in
+    record { number = number; message = rw v }
+
+pub reads-refused : (s m : List ℕ) (x : ℕ) (r : Reading) (why : Refusal) → length m ≡ recordSize → r ≡ readOf s → r .verdict ≡ Refused why → x ≡ codeOf (Refused why)
+    → Reads s m m x
+unfolding left
+reads-refused s m x r why n e w k =
+    let v : reading s m ≡ Refused why = sized-met m recordSize (readOf s .verdict) n ∙ ap (λ (y : Reading). y .verdict) (sym e) ∙ w in
+    record { number = rw v k; message = rw v }
+
+pub reads-accepted : (s m m' : List ℕ) (r : Reading) → length m ≡ recordSize → r ≡ readOf s → r .verdict ≡ Accepted → m' ≡ recordBytes (r .frame) → Reads s m m' 0
+unfolding left
+reads-accepted s m m' r n e w k =
+    let v : reading s m ≡ Accepted = sized-met m recordSize (readOf s .verdict) n ∙ ap (λ (y : Reading). y .verdict) (sym e) ∙ w in
+    let message : m' ≡ recordBytes (readOf s .frame) = rw e at k in
+    record { number = rw v; message = rw v message }
+
+-- what the writer gave, by its verdict
+written-said : (v : Verdict) (n x : ℕ) (l l' : List ℕ) → (x ≡ codeOf (writtenOf v n .verdict)) × (l' ≡ left (writtenOf v n .verdict) (lengthBytes (writtenOf v n .length)) l)
+    → (x ≡ codeOf v) × (l' ≡ left v (lengthBytes n) l)
+unfolding writtenOf left
+written-said Accepted n x l l' h = h
+written-said (Refused r) n x l l' h = h
+
+leaves-left : (v : Verdict) (a b : List ℕ) → leaves v a b ≡ left v a b
+unfolding leaves left
+leaves-left Accepted a b = refl
+leaves-left (Refused r) a b = refl
+
+module _ (m o l : List ℕ) where
+  writes-refused : (r : Refusal) (x : ℕ) → writing m o l ≡ Refused r → x ≡ codeOf (Refused r) → Writes m o o l l x
+  unfolding left
+  writes-refused r x v k = record { number = rw v k; buffer = rw v; size = rw v }
+
+  pub writes-unsized : (x : ℕ) → (length m ≡ recordSize → ⊥) → x ≡ 4 → Writes m o o l l x
+  writes-unsized x h k = writes-refused RecordsUnsound x (sized-unmet m recordSize _ h) k
+
+  module _ (whole : length m ≡ recordSize) where
+    pub writes-unmeasured : (x : ℕ) → (length l ≡ lengthSize → ⊥) → x ≡ 4 → Writes m o o l l x
+    writes-unmeasured x h k = writes-refused RecordsUnsound x (sized-met m recordSize _ whole ∙ sized-unmet l lengthSize _ h) k
+
+    module _ (room : length l ≡ lengthSize) where
+      pub writes-unknown : (x : ℕ) → isKnown (getD m 0 0) ≡ false → x ≡ 33 → Writes m o o l l x
+      unfolding need
+      writes-unknown x h k = writes-refused UnknownKind x (sized-met m recordSize _ whole ∙ sized-met l lengthSize _ room ∙ rw h) k
+
+      pub writes-call : (o' l' : List ℕ) (r : Written) (x : ℕ) → isKnown (getD m 0 0) ≡ true → Wrote (frameOf m) o o' r
+          → (x ≡ codeOf (r .verdict)) × (l' ≡ left (r .verdict) (lengthBytes (r .length)) l) → Writes m o o' l l' x
+      unfolding need
+      writes-call o' l' r x h w k =
+          let v : writing m o l ≡ writeVerdict (frameOf m) (length o) = sized-met m recordSize _ whole ∙ sized-met l lengthSize _ room ∙ rw h in
+          let n = length (frameBytes (frameOf m)) in
+          let (number, size) = written-said (writeVerdict (frameOf m) (length o)) n x l l' (rw (w .reply) at k) in
+          record { number = rw v number; buffer = rw v (w .buffer ∙ leaves-left (writeVerdict (frameOf m) (length o)) _ _); size = rw v size }

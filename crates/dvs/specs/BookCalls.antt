@@ -1,0 +1,12 @@
+-- What a call that lends a book alone gives and leaves: x is the number given, b the book before it and b' after it.
+use mathlib.Core.Path.{_≡_}
+use mathlib.Core.List.{List}
+use Prim.Native.Nat.{ℕ}
+use Rattle.views.specs.declared.refusal.Verdict.{Verdict}
+use Rattle.views.specs.Refusals.{codeOf}
+use Rattle.events.specs.Replies.{left}
+
+-- a call with the verdict v; `new` is what it leaves if it is accepted
+pub record Gives (v : Verdict) (new b b' : List ℕ) (x : ℕ) : Type 0 where
+  pub number : x ≡ codeOf v
+  pub book : b' ≡ left v new b

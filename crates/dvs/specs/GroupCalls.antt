@@ -1,0 +1,31 @@
+-- What start and step of the whole group give and leave: x is the number given, r the three ranges before the call and d after it, e and e' the event.
+use mathlib.Core.Path.{_≡_}
+use mathlib.Core.List.{List}
+use Prim.Native.Nat.{ℕ}
+use Rattle.views.specs.declared.refusal.Verdict.{Verdict}
+use Rattle.views.specs.Refusals.{codeOf}
+use Rattle.rules.specs.Data.{Step}
+use Rattle.record_steps.specs.Turns.{verdictOf}
+use Rattle.events.specs.Replies.{left}
+use Rattle.group_bytes.specs.Groups.{Ranges}
+use Rattle.group_bytes.specs.Starts.{startRanges}
+use Rattle.group_bytes.specs.Steps.{startResult, leftRanges, stepRanges, stepReply}
+use Rattle.c_answers.specs.Answers.{eventSize, eventBytes, sized}
+
+-- a start with n members and the first set S
+pub record Begins (r : Ranges) (n S : ℕ) (d : Ranges) (x : ℕ) : Type 0 where
+  pub number : x ≡ codeOf (verdictOf (startResult n S r))
+  pub list : d .list ≡ leftRanges (verdictOf (startResult n S r)) (startRanges n S r) r .list
+  pub books : d .books ≡ leftRanges (verdictOf (startResult n S r)) (startRanges n S r) r .books
+  pub queues : d .queues ≡ leftRanges (verdictOf (startResult n S r)) (startRanges n S r) r .queues
+
+-- 4 for an event range of another length, then the step's own verdict
+abbrev pub stepping : Ranges → Step → List ℕ → Verdict
+stepping r c e = sized e eventSize (stepReply r c .verdict)
+
+pub record Steps (r : Ranges) (c : Step) (d : Ranges) (e e' : List ℕ) (x : ℕ) : Type 0 where
+  pub number : x ≡ codeOf (stepping r c e)
+  pub list : d .list ≡ left (stepping r c e) (stepRanges r c .list) (r .list)
+  pub books : d .books ≡ left (stepping r c e) (stepRanges r c .books) (r .books)
+  pub queues : d .queues ≡ left (stepping r c e) (stepRanges r c .queues) (r .queues)
+  pub event : e' ≡ left (stepping r c e) (eventBytes (stepReply r c .event)) e

@@ -1,0 +1,4 @@
+pub mod BookCalls
+pub mod MessageCalls
+pub mod EventCalls
+pub mod GroupCalls

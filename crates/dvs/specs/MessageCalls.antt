@@ -1,0 +1,49 @@
+-- What pass, read and write give and leave: x is the number given, b the book, o the buffer, l the bytes of a length, m the message's record,
+-- each before the call, and with a ' after it.
+use mathlib.Core.Path.{_≡_}
+use mathlib.Core.List.{List}
+use Prim.Native.Nat.{ℕ}
+use lib.ListN.{length, getD}
+use Rattle.views.specs.declared.refusal.Refusal.the-variants.{UnknownKind}
+use Rattle.views.specs.declared.refusal.Verdict.{Verdict}
+use Rattle.views.specs.Refusals.{codeOf, need}
+use Rattle.wire.specs.Format.{isKnown}
+use Rattle.wire.specs.Reader.{readOf}
+use Rattle.wire.specs.Writer.{frameBytes, writeVerdict, overwritten}
+use Rattle.record_steps.specs.Turns.{verdictOf}
+use Rattle.events.specs.Replies.{left}
+use Rattle.book_steps.specs.Acts.{passBytes}
+use Rattle.member.specs.Calls.{passCall, passedOf, passBuffer}
+use Rattle.c_answers.specs.Answers.{lengthSize, lengthBytes, sized}
+use Rattle.wire.specs.Records.{recordSize, recordBytes, frameOf, recordKind}
+
+-- ---- pass: 4 for a length range of another length, then the member's refusals
+abbrev pub passing : List ℕ → List ℕ → List ℕ → Verdict
+passing b o l = sized l lengthSize (verdictOf (passCall (length o) b))
+
+pub record Passes (b b' o o' l l' : List ℕ) (x : ℕ) : Type 0 where
+  pub number : x ≡ codeOf (passing b o l)
+  pub book : b' ≡ left (passing b o l) (passBytes b) b
+  pub buffer : o' ≡ left (passing b o l) (passBuffer (passCall (length o) b) o) o
+  pub size : l' ≡ left (passing b o l) (lengthBytes (passedOf (passCall (length o) b) .length)) l
+
+-- ---- read: 4 for a record of another length, then the reader's refusals of the bytes s
+abbrev pub reading : List ℕ → List ℕ → Verdict
+reading s m = sized m recordSize (readOf s .verdict)
+
+pub record Reads (s m m' : List ℕ) (x : ℕ) : Type 0 where
+  pub number : x ≡ codeOf (reading s m)
+  pub message : m' ≡ left (reading s m) (recordBytes (readOf s .frame)) m
+
+-- ---- write: 4, 33, then the writer's refusals
+abbrev pub writing : List ℕ → List ℕ → List ℕ → Verdict
+writing m o l =
+    sized m recordSize (
+    sized l lengthSize (
+    need (isKnown (getD m recordKind 0)) UnknownKind (
+    writeVerdict (frameOf m) (length o))))
+
+pub record Writes (m o o' l l' : List ℕ) (x : ℕ) : Type 0 where
+  pub number : x ≡ codeOf (writing m o l)
+  pub buffer : o' ≡ left (writing m o l) (overwritten (frameBytes (frameOf m)) o) o
+  pub size : l' ≡ left (writing m o l) (lengthBytes (length (frameBytes (frameOf m)))) l

@@ -1,0 +1,71 @@
+// Messages and the bytes that go over the line: a member gives one out and takes one in, and any message is read into a record and written from one.
+use views::refusal::Refusal;
+use views::refusal::Verdict;
+use wire::format;
+ghost use Rattle.record_steps.specs.Turns.{verdictOf};
+ghost use Rattle.member.specs.Calls.{deliverCall, deliverBytes};
+ghost use Rattle.dvs.specs.MessageCalls.{Passes, Reads, Writes};
+ghost use Rattle.dvs.specs.BookCalls.{Gives};
+
+// The first outgoing message goes to the front of the buffer, and its length to `length`.
+#[no_mangle]
+pub extern "C" fn dvs_pass(book: &mut [u8], buffer: &mut [u8], length: &mut [u8]) -> u32
+    ensures { λ r. ⌜ Passes (now (book .entry)) (now (book .exit)) (now (buffer .entry)) (now (buffer .exit)) (now (length .entry)) (now (length .exit)) r ⌝ }
+{
+    if length.len() != c_answers::LENGTH {
+        return c_answers::refused(Refusal::RecordsUnsound);
+    }
+    let r = member::messages::pass::pass(book, buffer);
+    let v = r.verdict;
+    c_answers::measure(length, v, r.length)
+}
+
+// The next message of the carrier view's order is taken.
+#[no_mangle]
+pub extern "C" fn dvs_deliver(book: &mut [u8], bytes: &[u8], sender: u32) -> u32
+    ensures { λ r. ⌜ Gives (verdictOf (deliverCall (now (bytes .entry)) sender (now (book .entry)))) (deliverBytes (now (bytes .entry)) sender (now (book .entry))) (now (book .entry)) (now (book .exit)) r ⌝ }
+{
+    let r = member::messages::deliver::deliver(book, bytes, c_answers::narrow(sender, 255));
+    let v = r.verdict;
+    c_answers::code(v)
+}
+
+// One message, which the bytes must be as a whole, is read into the record.
+#[no_mangle]
+pub extern "C" fn dvs_read(bytes: &[u8], message: &mut [u8]) -> u32
+    ensures { λ r. ⌜ Reads (now (bytes .entry)) (now (message .entry)) (now (message .exit)) r ⌝ }
+{
+    if message.len() != wire::record::RECORD {
+        return c_answers::refused(Refusal::RecordsUnsound);
+    }
+    let r = wire::reader::read(bytes);
+    let v = r.verdict;
+    match v {
+        Verdict::Refused(why) => c_answers::refused(why),
+        Verdict::Accepted => {
+            let f = r.frame;
+            wire::record::put_frame(message, f);
+            0
+        }
+    }
+}
+
+// The record's message goes to the front of the buffer, and its length to `length`.
+#[no_mangle]
+pub extern "C" fn dvs_write(message: &[u8], buffer: &mut [u8], length: &mut [u8]) -> u32
+    ensures { λ r. ⌜ Writes (now (message .entry)) (now (buffer .entry)) (now (buffer .exit)) (now (length .entry)) (now (length .exit)) r ⌝ }
+{
+    if message.len() != wire::record::RECORD {
+        return c_answers::refused(Refusal::RecordsUnsound);
+    }
+    if length.len() != c_answers::LENGTH {
+        return c_answers::refused(Refusal::RecordsUnsound);
+    }
+    if !format::known(message[wire::record::KIND]) {
+        return c_answers::refused(Refusal::UnknownKind);
+    }
+    let f = wire::record::load_frame(message);
+    let r = wire::writer::write(buffer, f);
+    let v = r.verdict;
+    c_answers::measure(length, v, r.length)
+}

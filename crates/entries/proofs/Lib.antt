@@ -1,3 +1,0 @@
--- Laws.
-pub mod Walks
-pub mod Entries

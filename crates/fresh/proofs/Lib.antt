@@ -1,2 +1,0 @@
-pub mod FreshLaws
-pub mod StartBook

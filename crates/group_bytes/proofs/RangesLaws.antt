@@ -1,0 +1,119 @@
+-- What ranges that fit say, in words of numbers, both ways.
+use mathlib.Core.Path.{_≡_}
+use mathlib.Core.Bool.{true}
+use mathlib.Core.List.{List}
+use Prim.Native.Nat.{ℕ, _+_, _%_, _≤_, _<_}
+use borrow.Author.Tests.{eqb-true, leb-true, eq-eqb, le-leb}
+use lib.Dec.{leb}
+use lib.ListN.{length, getD}
+use Rattle.views.specs.Limits.{maxMembers, maxViews, maxWaiting, maxOrdered}
+use Rattle.views.specs.Sizes.{viewSize}
+use Rattle.views.proofs.SetLaws.{both-true}
+use Rattle.wire.proofs.TripViews.{AreBytes}
+use Rattle.rules.specs.Data.{Group}
+use Rattle.rules.proofs.TestLaws.{_and_, both-from, within-says, within-from, every-at, every-from, conditions-say, conditions-from}
+use Rattle.slots.specs.Slots.{slotsFit}
+use Rattle.book_bytes.specs.Places.{membersAt, selfAt}
+use Rattle.book_bytes.proofs.LayoutLaws.{Layout, layout-says, layout-from}
+use Rattle.group_bytes.specs.Places.{roomOf, booksSize, bookBytes, orderAt, waitingAt, queuesSize}
+use Rattle.group_bytes.specs.Groups.{Ranges, membersOf, madeOf, queueFits, tableFits, seatFits, rangesFit, groupIn}
+
+-- every byte of the ranges is one
+pub record RangesBytes (r : Ranges) : Type 0 where
+  pub list : AreBytes (r .list)
+  pub books : AreBytes (r .books)
+  pub queues : AreBytes (r .queues)
+
+-- ---- a queue with its count at c
+
+pub record Queued (q : List ℕ) (limit c : ℕ) : Type 0 where
+  pub few : getD q c 0 ≤ limit
+  pub slots : slotsFit q (c + 1) (getD q c 0) ≡ true
+
+pub queue-says : (q : List ℕ) (limit c : ℕ) → queueFits q limit c ≡ true → Queued q limit c
+queue-says q limit c h = let t = both-true (leb (getD q c 0) limit) (slotsFit q (c + 1) (getD q c 0)) h in record { few = leb-true _ _ (t .0); slots = t .1 }
+
+pub queue-from : (q : List ℕ) (limit c : ℕ) → Queued q limit c → queueFits q limit c ≡ true
+queue-from q limit c h = both-from _ _ (le-leb _ _ (h .few)) (h .slots)
+
+-- ---- the queues of the view at place i
+
+pub record Tabled (q : List ℕ) (n i : ℕ) : Type 0 where
+  pub order : Queued q maxOrdered (orderAt i)
+  pub waiting : (p : ℕ) → p < n → Queued q maxWaiting (waitingAt i p)
+
+pub table-says : (q : List ℕ) (n i : ℕ) → tableFits q n i ≡ true → Tabled q n i
+unfolding tableFits
+table-says q n i h =
+    let t = both-true _ _ h in
+    record { order = queue-says q maxOrdered (orderAt i) (t .0); waiting = λ p k. queue-says q maxWaiting (waitingAt i p) (every-at n _ (t .1) p k) }
+
+pub table-from : (q : List ℕ) (n i : ℕ) → Tabled q n i → tableFits q n i ≡ true
+unfolding tableFits
+table-from q n i t = both-from _ _ (queue-from q maxOrdered (orderAt i) (t .order)) (every-from n _ (λ p k. queue-from q maxWaiting (waitingAt i p) (t .waiting p k)))
+
+-- ---- the book of p, of n members
+
+pub record Seated (books : List ℕ) (n p : ℕ) : Type 0 where
+  pub layout : Layout (bookBytes books p)
+  pub members : getD (bookBytes books p) membersAt 0 ≡ n
+  pub self : getD (bookBytes books p) selfAt 0 ≡ p
+
+pub seat-says : (books : List ℕ) (n p : ℕ) → seatFits books n p ≡ true → Seated books n p
+unfolding seatFits
+seat-says books n p h =
+    let (layout, (members, (self, _))) = conditions-say _ h in
+    record { layout = layout-says _ layout; members = eqb-true _ _ members; self = eqb-true _ _ self }
+
+pub seat-from : (books : List ℕ) (n p : ℕ) → Seated books n p → seatFits books n p ≡ true
+unfolding seatFits
+seat-from books n p s = conditions-from _ (layout-from _ (s .layout) and eq-eqb _ _ (s .members) and eq-eqb _ _ (s .self) and tt)
+
+-- ---- the ranges
+
+pub record Ranged (r : Ranges) : Type 0 where
+  pub whole : length (r .list) % viewSize ≡ 0
+  pub room : (1 ≤ roomOf (r .list)) × (roomOf (r .list) ≤ maxViews)
+  pub books : length (r .books) ≡ booksSize
+  pub queues : length (r .queues) ≡ queuesSize (roomOf (r .list))
+  pub members : (1 ≤ membersOf r) × (membersOf r ≤ maxMembers)
+  pub made : (1 ≤ madeOf r) × (madeOf r ≤ roomOf (r .list))
+  pub seats : (p : ℕ) → p < membersOf r → Seated (r .books) (membersOf r) p
+  pub tables : (i : ℕ) → i < madeOf r → Tabled (r .queues) (membersOf r) i
+
+pub ranges-says : (r : Ranges) → rangesFit r ≡ true → Ranged r
+unfolding rangesFit
+ranges-says r h =
+    let (whole, (room, (books, (queues, (members, (made, (seats, (tables, _)))))))) = conditions-say _ h in
+    record {
+      whole = eqb-true _ _ whole;
+      room = within-says _ _ _ room;
+      books = eqb-true _ _ books;
+      queues = eqb-true _ _ queues;
+      members = within-says _ _ _ members;
+      made = within-says _ _ _ made;
+      seats = λ p k. seat-says (r .books) (membersOf r) p (every-at (membersOf r) _ seats p k);
+      tables = λ i k. table-says (r .queues) (membersOf r) i (every-at (madeOf r) _ tables i k);
+    }
+
+pub ranges-from : (r : Ranges) → Ranged r → rangesFit r ≡ true
+unfolding rangesFit
+ranges-from r s =
+    conditions-from _ (
+    eq-eqb _ _ (s .whole)
+    and within-from _ _ _ (s .room .0) (s .room .1)
+    and eq-eqb _ _ (s .books)
+    and eq-eqb _ _ (s .queues)
+    and within-from _ _ _ (s .members .0) (s .members .1)
+    and within-from _ _ _ (s .made .0) (s .made .1)
+    and every-from (membersOf r) _ (λ p k. seat-from (r .books) (membersOf r) p (s .seats p k))
+    and every-from (madeOf r) _ (λ i k. table-from (r .queues) (membersOf r) i (s .tables i k))
+    and tt
+    )
+
+-- ---- the ranges r are the group s
+
+pub record MeansGroup (r : Ranges) (s : Group) : Type 0 where
+  pub group : groupIn r ≡ s
+  pub fits : Ranged r
+  pub bytes : RangesBytes r

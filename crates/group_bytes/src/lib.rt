@@ -1,0 +1,60 @@
+// A group's records in three lent ranges, the list, the books and the queues: where they stand. docs/LAYOUT.md has the tables.
+use views::limits;
+use views::sizes;
+ghost use Prim.Native.Nat.{_*_, _+_, _≤_};
+ghost use mathlib.Core.Path.{_≡_};
+ghost use lib.ListN.{length};
+ghost use Rattle.views.specs.Sizes.{viewSize};
+ghost use Rattle.views.specs.Limits.{maxViews, maxMembers};
+ghost use Rattle.wire.specs.Reader.{viewsIn};
+ghost use Rattle.group_bytes.specs.Groups.{placeOf};
+ghost use Rattle.group_bytes.specs.Places.{orderAt, waitingAt};
+
+// Bytes of a view in the list, and of the eight books.
+pub const VIEW: usize = sizes::VIEW;
+
+pub const BOOKS: usize = book_bytes::SIZE * limits::MEMBERS as usize;
+
+// In the queues: the number of views made, and the bytes of the group before the first view's queues.
+pub const MADE: usize = 0;
+
+pub const HEAD: usize = 64;
+
+// A queue is a count and its slots. The bytes of a view's order, of what waits for a member in the view, and of all the
+// view's queues.
+pub const ORDER: usize = 1 + slots::SLOT * limits::ORDERED as usize;
+
+pub const WAITING: usize = 1 + slots::SLOT * limits::WAITING as usize;
+
+pub const TABLE: usize = ORDER + WAITING * limits::MEMBERS as usize;
+
+// The place of the first of n views with the identifier, n if there is none.
+pub fn place(list: &[u8], n: u8, id: u64) -> u8
+    requires { ⌜ viewSize * n ≤ length (now list) ⌝ }
+    ensures { λ r. ⌜ r ≡ placeOf id (viewsIn (now (list .entry)) 0 n) ⌝ }
+{
+    let mut i = 0;
+    while i < n {
+        if numbers::get_number(list, VIEW * (i as usize), sizes::IDENTIFIER) == id {
+            return i;
+        }
+        i += 1;
+    }
+    n
+}
+
+// Where the order of the view at a place stands.
+pub fn order_at(i: u8) -> usize
+    requires { ⌜ i ≤ maxViews ⌝ }
+    ensures { λ r. ⌜ r ≡ orderAt i ⌝ }
+{
+    HEAD + TABLE * (i as usize)
+}
+
+// Where what waits there for a member stands.
+pub fn waiting_at(i: u8, p: u8) -> usize
+    requires { ⌜ (i ≤ maxViews) × (p ≤ maxMembers) ⌝ }
+    ensures { λ r. ⌜ r ≡ waitingAt i p ⌝ }
+{
+    HEAD + TABLE * (i as usize) + ORDER + WAITING * (p as usize)
+}

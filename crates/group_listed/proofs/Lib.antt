@@ -1,0 +1,11 @@
+pub mod Again
+pub mod Share
+pub mod SliceLaws
+pub mod CreateLaws
+pub mod BytesLaws
+pub mod Fits
+pub mod ListBytes
+pub mod ListLaws
+pub mod ListRuns
+pub mod StartLaws
+pub mod StepLaws

@@ -1,0 +1,5 @@
+pub mod SliceParts
+pub mod Creates
+pub mod Calls
+pub mod Parts
+pub mod Runs

@@ -1,0 +1,126 @@
+-- The parts, by the tests that the code asks one after another.
+use mathlib.Core.Path.{_≡_, refl, ap, _∙_}
+use mathlib.Core.Bool.{Bool, true, false, cond}
+use mathlib.Core.Option.{none, some}
+use mathlib.Core.List.{List, [], _∷_}
+use Prim.Native.Nat.{ℕ, _+_, _-_, _*_, _%_, _/_, _<_, _≤_}
+use native.Mathlib.Omega.{arith}
+use borrow.Author.Tests.{eqb-true}
+use lib.Dec.{eqb, leb}
+use lib.ListN.{length, getD, take, drop}
+use Rattle.views.specs.declared.View.{View}
+use Rattle.views.specs.Limits.{maxMembers, maxViews, maxOpen}
+use Rattle.views.specs.Sizes.{viewSize}
+use Rattle.views.specs.Sets.{both}
+use Rattle.views.specs.Lists.{idOf, listOf}
+use Rattle.wire.specs.Reader.{viewIn, viewsIn}
+use Rattle.rules.specs.Member.{all}
+use Rattle.rules.specs.Sound.{conditions, listed, listedIf}
+use Rattle.rules.proofs.TestLaws.{within-says, conditions-say, listed-in}
+use Rattle.book_bytes.specs.declared.Seat.{Seat}
+use Rattle.book_bytes.specs.declared.Book.{Book}
+use Rattle.book_bytes.specs.Places.{bookSize, settledAt, carrierAt, clientAt, opensAt}
+use Rattle.book_bytes.specs.Records.{seated, seatIn, recordIn}
+use Rattle.book_bytes.specs.Books.{layoutFits, bytesSound}
+use Rattle.rules.proofs.Truth.{both-unit}
+use Rattle.book_sound.proofs.Tests.{opens-in}
+use Rattle.group_bytes.specs.Places.{roomOf, booksSize, bookBytes, orderAt, queuesSize}
+use Rattle.group_bytes.specs.Groups.{Ranges, membersOf, madeOf, viewsMade, placeOf}
+use Rattle.group_sound.specs.Parts.{sizesFit, numbersFit, recordListed, orderedIn, seatSound}
+use Rattle.group_sound.proofs.PlaceLaws.{place-within}
+
+sizes-order : (z a b c d : Bool) → conditions (z ∷ both a b ∷ c ∷ d ∷ []) ≡ both z (both a (both b (both c d)))
+unfolding conditions
+sizes-order false a b c d = refl
+sizes-order true false b c d = refl
+sizes-order true true false c d = refl
+sizes-order true true true c d = rw (both-unit d)
+
+numbers-order : (a b c d : Bool) → conditions (both a b ∷ both c d ∷ []) ≡ both a (both b (both c d))
+unfolding conditions
+numbers-order false b c d = refl
+numbers-order true b c d = rw (both-unit (both c d))
+
+record-order : (s o a b : Bool) → conditions (both s o ∷ a ∷ b ∷ []) ≡ both s (both o (both a b))
+unfolding conditions
+record-order false o a b = refl
+record-order true o a b = rw (both-unit b)
+
+pub sizes-are : (list books queues : ℕ) → sizesFit list books queues
+    ≡ both (eqb (list % viewSize) 0) (both (leb 1 (list / viewSize)) (both (leb (list / viewSize) maxViews)
+    (both (eqb books booksSize) (eqb queues (queuesSize (list / viewSize))))))
+unfolding sizesFit
+sizes-are list books queues =
+    sizes-order (eqb (list % viewSize) 0) (leb 1 (list / viewSize)) (leb (list / viewSize) maxViews) (eqb books booksSize) (eqb queues (queuesSize (list / viewSize)))
+
+pub numbers-are : (n made room : ℕ) → numbersFit n made room ≡ both (leb 1 n) (both (leb n maxMembers) (both (leb 1 made) (leb made room)))
+unfolding numbersFit
+numbers-are n made room = numbers-order (leb 1 n) (leb n maxMembers) (leb 1 made) (leb made room)
+
+record-are : (views : List View) (h : Book) → recordListed views h
+    ≡ both (listed views (h .settled)) (both (all (listed views) (listOf (h .opens))) (both (listedIf views (seated (h .carrier))) (listedIf views (seated (h .client)))))
+unfolding recordListed all
+record-are views h =
+    record-order (listed views (h .settled)) (all (listed views) (listOf (h .opens))) (listedIf views (seated (h .carrier))) (listedIf views (seated (h .client)))
+
+pub record-in : (views : List View) (b : List ℕ) → getD b opensAt 0 ≤ maxOpen → (settled : View) → settled ≡ viewIn b settledAt
+    → recordListed views (recordIn b) ≡ both (listed views settled) (both (all (listed views) (viewsIn b (opensAt + 1) (getD b opensAt 0)))
+    (both (listedIf views (seated (seatIn b carrierAt))) (listedIf views (seated (seatIn b clientAt)))))
+unfolding recordIn
+record-in views b few settled e = rw (e, ← opens-in b few) (record-are views (recordIn b))
+
+-- ---- what tests that were met say
+
+-- the three ranges have room for what the numbers say
+module _ (r : Ranges) (sizes : sizesFit (length (r .list)) (length (r .books)) (length (r .queues)) ≡ true) where
+  pub books-long : length (r .books) ≡ booksSize
+  unfolding sizesFit
+  books-long = let (_, (_, (x, _))) = conditions-say _ sizes in eqb-true _ _ x
+
+  pub queues-long : length (r .queues) ≡ queuesSize (roomOf (r .list))
+  unfolding sizesFit
+  queues-long = let (_, (_, (_, (x, _)))) = conditions-say _ sizes in eqb-true _ _ x
+
+  module _ (numbers : numbersFit (membersOf r) (madeOf r) (roomOf (r .list)) ≡ true) where
+    pub members-few : membersOf r ≤ maxMembers
+    unfolding numbersFit
+    members-few = let (x, _) = conditions-say _ numbers in within-says 1 (membersOf r) maxMembers x .1
+
+    made-few : madeOf r ≤ roomOf (r .list)
+    unfolding numbersFit
+    made-few = let (_, (x, _)) = conditions-say _ numbers in within-says 1 (madeOf r) (roomOf (r .list)) x .1
+
+    pub list-holds : 5 * madeOf r ≤ length (r .list)
+    list-holds = omega (arith, made-few)
+
+    pub queues-hold : orderAt (madeOf r) ≤ length (r .queues)
+    queues-hold = omega (arith, queues-long, made-few)
+
+-- the carrier view of a record whose views are listed
+pub record-carrier : (views : List View) (h : Book) → recordListed views h ≡ true → listedIf views (seated (h .carrier)) ≡ true
+unfolding recordListed
+record-carrier views h t = let (_, (x, _)) = conditions-say _ t in x
+
+-- a sound book has its layout
+pub fits-layout : (b : List ℕ) → bytesSound b ≡ true → layoutFits b ≡ true
+unfolding bytesSound
+fits-layout b h = let (x, _) = conditions-say _ h in x
+
+-- ---- the order of a listed view
+
+there-listed : (views : List View) (t : Bool) (v : View) → t ≡ true → listedIf views (cond t (some v) none) ≡ true → listed views v ≡ true
+there-listed views t v e h = rw e at h
+
+pub ordered-place : (views : List View) (s : Seat) → s .there ≡ true → listedIf views (seated s) ≡ true → placeOf (idOf (s .view)) views < length views
+ordered-place views s e h = place-within views (s .view) (listed-in views (s .view) (there-listed views (s .there) (s .view) e h))
+
+pub ordered-there : (views : List View) (q : List ℕ) (s : Seat) → s .there ≡ true → getD q (orderAt (placeOf (idOf (s .view)) views)) 0 ≡ orderedIn views q (seated s)
+unfolding orderedIn
+ordered-there views q s e = rw e
+
+-- ---- the part of the books that is the book of p
+
+pub part-answer : (views : List View) (q books : List ℕ) (n p : ℕ)
+    → seatSound views q n p (bookBytes books p) ≡ seatSound views q n p (take (bookSize * p + bookSize - bookSize * p) (drop (bookSize * p) books))
+unfolding bookBytes
+part-answer views q books n p = let e : bookSize * p + bookSize - bookSize * p ≡ bookSize = omega arith in rw e

@@ -1,0 +1,37 @@
+-- `group_sound::listed::seat_listed` meets its contract: with a view that view is looked up, without one there is nothing to look up.
+use mathlib.Core.Path.{ap, _∙_}
+use borrow.Author.Tests.{eq-eqb, ne-eqb}
+use Rattle.wire.specs.Reader.{viewsIn}
+use Rattle.rules.specs.Sound.{listed}
+use borrow.Author.Needs.{needs}
+use Rattle.group_sound.proofs.listed.seat_listed.Statement.{statement}
+use Rattle.group_sound.proofs.listed.seat_listed.Tie as tie
+
+shared-slice-read-if1 : tie.Need-shared-slice-read-if1
+shared-slice-read-if1 c = search needs
+
+add-load-view : tie.Need-add-load-view
+add-load-view c = search needs
+
+load-view-requires : tie.Need-load-view-requires
+load-view-requires c κs = search needs
+
+view-listed-requires : tie.Need-view-listed-requires
+view-listed-requires c κs = search needs
+
+returns : tie.Need-returns
+returns c = rw (eq-eqb _ _ (c .before .before .if1 .taken)) (c .view-listed .ensures ∙ ap (listed (viewsIn (c .before .before .before .before .before .before .args .list .now) 0 (c .before .before .before .before .before .before .args .made))) (c .before .load-view .ensures))
+
+returns-2 : tie.Need-returns-2
+returns-2 c = rw (ne-eqb _ _ (c .if1 .left))
+
+pub seat-listed-spec : {M : Type 1} → statement M
+seat-listed-spec =
+    tie.close
+    (tie.spec
+    shared-slice-read-if1
+    add-load-view
+    load-view-requires
+    view-listed-requires
+    returns
+    returns-2)

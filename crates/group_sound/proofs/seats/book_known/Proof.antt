@@ -1,0 +1,72 @@
+-- `group_sound::seats::book_known` meets its contract: a layout that fits has every part within the bytes, and each is tested where it lies.
+use mathlib.Core.Path.{sym, ap, _∙_}
+use Prim.Native.Nat.{ℕ}
+use native.Mathlib.Omega.{arith}
+use borrow.Author.Tests.{le-leb, lt-leb, not-true, not-false}
+use lib.Dec.{leb}
+use lib.ListN.{getD}
+use Rattle.wire.specs.Reader.{viewsIn}
+use Rattle.rules.specs.Sound.{listedIf}
+use Rattle.rules.proofs.Truth.{stopped, three}
+use Rattle.book_bytes.specs.declared.Seat.{Seat}
+use Rattle.book_bytes.specs.Places.{outgoingAt, takenAt}
+use Rattle.book_bytes.specs.Records.{seated, recordIn}
+use Rattle.book_bytes.proofs.LayoutLaws.{layout-says}
+use Rattle.group_sound.specs.Parts.{orderedIn, bookKnown}
+use Rattle.group_sound.proofs.Tests.{record-carrier}
+use borrow.Author.Needs.{needs}
+use Rattle.group_sound.proofs.seats.book_known.Statement.{statement}
+use Rattle.group_sound.proofs.seats.book_known.Tie as tie
+
+record-listed-requires : tie.Need-record-listed-requires
+record-listed-requires c κs = let l = layout-says (c .before .before .before .args .b .now) (c .before .before .before .pre .1) in (c .before .before .before .pre .0, omega (arith, l .size), l .opens)
+
+returns : tie.Need-returns
+unfolding bookKnown
+returns c = sym (stopped _ 0 (sym (c .before .record-listed .ensures) ∙ not-true _ (c .if1 .taken)))
+
+load-seat-requires : tie.Need-load-seat-requires
+load-seat-requires c κs = let l = layout-says (c .before .before .before .before .before .args .b .now) (c .before .before .before .before .before .pre .1) in omega (arith, l .size)
+
+ordered-requires : tie.Need-ordered-requires
+unfolding recordIn
+ordered-requires c κs = (c .before .before .before .before .before .before .pre .0, c .before .before .before .before .before .before .pre .2, ap (λ (s : Seat). listedIf (viewsIn (c .before .before .before .before .before .before .args .list .now) 0 (c .before .before .before .before .before .before .args .made)) (seated s)) (c .load-seat .ensures) ∙ record-carrier (viewsIn (c .before .before .before .before .before .before .args .list .now) 0 (c .before .before .before .before .before .before .args .made)) (recordIn (c .before .before .before .before .before .before .args .b .now)) (sym (c .before .before .record-listed .ensures) ∙ not-false _ (c .before .if1 .left)))
+
+shared-slice-read-if2 : tie.Need-shared-slice-read-if2
+shared-slice-read-if2 c = let l = layout-says (c .before .before .before .before .before .before .before .before .args .b .now) (c .before .before .before .before .before .before .before .before .pre .1) in omega (arith, l .size)
+
+returns-2 : tie.Need-returns-2
+unfolding bookKnown recordIn
+returns-2 c = sym (stopped _ 1 (ap (λ (k : ℕ). leb (getD (c .before .before .before .before .before .before .before .before .before .args .b .now) takenAt 0) k) (sym (c .before .before .ordered .ensures ∙ ap (λ (s : Seat). orderedIn (viewsIn (c .before .before .before .before .before .before .before .before .before .args .list .now) 0 (c .before .before .before .before .before .before .before .before .before .args .made)) (c .before .before .before .before .before .before .before .before .before .args .queues .now) (seated s)) (c .before .before .before .load-seat .ensures))) ∙ lt-leb _ _ (c .if2 .taken)))
+
+add-infos-listed : tie.Need-add-infos-listed
+add-infos-listed c = search needs
+
+shared-slice-read-infos-listed : tie.Need-shared-slice-read-infos-listed
+shared-slice-read-infos-listed c = let l = layout-says (c .before .before .before .before .before .before .before .before .before .before .args .b .now) (c .before .before .before .before .before .before .before .before .before .before .pre .1) in omega (arith, l .size)
+
+cast-infos-listed : tie.Need-cast-infos-listed
+cast-infos-listed c = omega (arith, c .shared-slice-known5 .given outgoingAt)
+
+infos-listed-requires : tie.Need-infos-listed-requires
+infos-listed-requires c κs = let l = layout-says (c .before .before .before .before .before .before .before .before .before .before .args .b .now) (c .before .before .before .before .before .before .before .before .before .before .pre .1) in (c .before .before .before .before .before .before .before .before .before .before .pre .0, omega (arith, l .size, l .outgoing), l .slots)
+
+returns-3 : tie.Need-returns-3
+unfolding bookKnown recordIn
+returns-3 c = c .infos-listed .ensures ∙ sym (three _ _ _ ∙ rw (sym (c .before .before .before .before .before .before .before .record-listed .ensures) ∙ not-false _ (c .before .before .before .before .before .before .if1 .left), ap (λ (k : ℕ). leb (getD (c .before .before .before .before .before .before .before .before .before .before .before .args .b .now) takenAt 0) k) (sym (c .before .before .before .before .ordered .ensures ∙ ap (λ (s : Seat). orderedIn (viewsIn (c .before .before .before .before .before .before .before .before .before .before .before .args .list .now) 0 (c .before .before .before .before .before .before .before .before .before .before .before .args .made)) (c .before .before .before .before .before .before .before .before .before .before .before .args .queues .now) (seated s)) (c .before .before .before .before .before .load-seat .ensures))) ∙ le-leb _ _ (c .before .before .if2 .left)))
+
+pub book-known-spec : {M : Type 1} → statement M
+book-known-spec =
+    tie.close
+    (tie.spec
+    record-listed-requires
+    returns
+    load-seat-requires
+    ordered-requires
+    shared-slice-read-if2
+    returns-2
+    add-infos-listed
+    shared-slice-read-infos-listed
+    cast-infos-listed
+    infos-listed-requires
+    returns-3)

@@ -1,0 +1,106 @@
+-- The parts in which three ranges are tested for a sound group: the sizes, the list, each member's book, the queues of each view made. Here `views` is
+-- the list of views made, and n the number of members.
+use mathlib.Core.Bool.{Bool, true}
+use mathlib.Core.Option.{Option, none, some}
+use mathlib.Core.List.{List, [], _∷_}
+use Prim.Native.Nat.{ℕ, zero, suc, _+_, _%_, _/_}
+use lib.Dec.{eqb, leb}
+use lib.ListN.{length, getD}
+use Rattle.views.specs.declared.View.{View}
+use Rattle.views.specs.Limits.{maxMembers, maxViews, maxWaiting, maxOrdered}
+use Rattle.views.specs.Sizes.{viewSize}
+use Rattle.views.specs.Sets.{both}
+use Rattle.views.specs.Lists.{idOf, isRising, listOf}
+use Rattle.rules.specs.Member.{every, all}
+use Rattle.rules.specs.Sound.{within, conditions, setFits, listed, listedIf, infoListed}
+use Rattle.slots.specs.Slots.{slotSize, entryIn, queueIn, slotFits, slotsFit}
+use Rattle.book_bytes.specs.declared.Book.{Book}
+use Rattle.book_bytes.specs.Places.{membersAt, selfAt}
+use Rattle.book_bytes.specs.Records.{seated, recordIn}
+use Rattle.book_bytes.specs.Books.{outgoingIn, bytesSound}
+use Rattle.book_sound.specs.EntryParts.{entrySound}
+use Rattle.group_bytes.specs.Places.{roomOf, booksSize, bookBytes, orderAt, waitingAt, queuesSize}
+use Rattle.group_bytes.specs.Groups.{Ranges, membersOf, madeOf, viewsMade, placeOf}
+
+-- the lengths of the three ranges
+unfoldable pub sizesFit : ℕ → ℕ → ℕ → Bool
+sizesFit list books queues = conditions (
+    eqb (list % viewSize) 0
+    ∷ within 1 (list / viewSize) maxViews
+    ∷ eqb books booksSize
+    ∷ eqb queues (queuesSize (list / viewSize))
+    ∷ [])
+
+-- the number of members and of views made, in a list with this room
+unfoldable pub numbersFit : ℕ → ℕ → ℕ → Bool
+numbersFit n made room = conditions (within 1 n maxMembers ∷ within 1 made room ∷ [])
+
+-- the views of a book's record are listed
+unfoldable pub recordListed : List View → Book → Bool
+recordListed views h = conditions (
+    all (listed views) (h .settled ∷ listOf (h .opens))
+    ∷ listedIf views (seated (h .carrier))
+    ∷ listedIf views (seated (h .client))
+    ∷ [])
+
+-- how many messages are ordered in a view or none, by the count in the queues
+unfoldable pub orderedIn : List View → List ℕ → Option View → ℕ
+orderedIn views q none = 0
+orderedIn views q (some v) = getD q (orderAt (placeOf (idOf v) views)) 0
+
+-- what a book of a group is asked beyond what a member by itself is
+unfoldable pub bookKnown : List View → List ℕ → List ℕ → Bool
+bookKnown views q b = conditions (
+    recordListed views (recordIn b)
+    ∷ leb (recordIn b .taken .0) (orderedIn views q (seated (recordIn b .carrier)))
+    ∷ all (infoListed views) (outgoingIn b)
+    ∷ [])
+
+-- the book of p
+unfoldable pub seatSound : List View → List ℕ → ℕ → ℕ → List ℕ → Bool
+seatSound views q n p b = conditions (
+    bytesSound b
+    ∷ eqb (getD b membersAt 0) n
+    ∷ eqb (getD b selfAt 0) p
+    ∷ bookKnown views q b
+    ∷ [])
+
+-- the slot at a place: of known kind, its entry sound, its views listed
+unfoldable pub entryKnown : List View → ℕ → List ℕ → ℕ → Bool
+entryKnown views n q at = conditions (slotFits q at ∷ entrySound n (entryIn q at) ∷ infoListed views (entryIn q at) ∷ [])
+
+-- k slots from a place on
+unfoldable pub entriesKnown : List View → ℕ → List ℕ → ℕ → ℕ → Bool
+entriesKnown views n q at zero = true
+entriesKnown views n q at (suc k) = both (entryKnown views n q at) (entriesKnown views n q (at + slotSize) k)
+
+-- the queue with its count at c
+unfoldable pub queueSound : List View → ℕ → List ℕ → ℕ → ℕ → Bool
+queueSound views n q limit c = conditions (
+    leb (getD q c 0) limit
+    ∷ slotsFit q (c + 1) (getD q c 0)
+    ∷ all (entrySound n) (queueIn q c (c + 1))
+    ∷ all (infoListed views) (queueIn q c (c + 1))
+    ∷ [])
+
+-- what waits in the view at place i, and all its queues
+unfoldable pub waitingSound : List View → ℕ → List ℕ → ℕ → Bool
+waitingSound views n q i = every n (λ p. queueSound views n q maxWaiting (waitingAt i p))
+
+unfoldable pub tableSound : List View → ℕ → List ℕ → ℕ → Bool
+tableSound views n q i = both (queueSound views n q maxOrdered (orderAt i)) (waitingSound views n q i)
+
+-- the list, the books and the queues
+unfoldable pub recordsSound : List View → ℕ → List ℕ → List ℕ → Bool
+recordsSound views n books q = conditions (
+    both (all (setFits n) views) (isRising views)
+    ∷ every n (λ p. seatSound views q n p (bookBytes books p))
+    ∷ every (length views) (tableSound views n q)
+    ∷ [])
+
+unfoldable pub partsSound : Ranges → Bool
+partsSound r = conditions (
+    sizesFit (length (r .list)) (length (r .books)) (length (r .queues))
+    ∷ numbersFit (membersOf r) (madeOf r) (roomOf (r .list))
+    ∷ recordsSound (viewsMade r) (membersOf r) (r .books) (r .queues)
+    ∷ [])

@@ -1,0 +1,9 @@
+pub mod Rows
+pub mod Found
+pub mod OrderLaws
+pub mod CreateLaws
+pub mod PassLaws
+pub mod OwnStepLaws
+pub mod JoinLaws
+pub mod DeliverLaws
+pub mod NextLaws

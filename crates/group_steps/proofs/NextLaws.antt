@@ -1,0 +1,73 @@
+-- Deliver in the code's terms: the order's place as it is looked up, the position as it is read from the books.
+use mathlib.Core.Path.{_≡_, sym, ap, _∙_}
+use mathlib.Core.Bool.{true}
+use mathlib.Core.List.{List}
+use Prim.Native.Nat.{ℕ, _+_, _*_, _≤_, _<_}
+use native.Mathlib.Omega.{arith}
+use lib.ListN.{length, getD}
+use Rattle.views.specs.declared.ViewId.{ViewId}
+use Rattle.views.specs.declared.refusal.Refusal.the-variants.{NoneToDeliver}
+use Rattle.views.specs.declared.refusal.Verdict.the-variants.{Refused}
+use Rattle.views.specs.Limits.{maxViews, maxMembers, maxOrdered}
+use Rattle.views.specs.Lists.{listOf}
+use Rattle.rules.specs.Data.{Member}
+use Rattle.rules.specs.Alone.{messageOf}
+use Rattle.slots.specs.Slots.{slotSize}
+use Rattle.slots.specs.FrameParts.{framed, frameAt}
+use Rattle.book_bytes.specs.Places.{carrierAt, takenAt, bookSize}
+use Rattle.book_bytes.specs.Records.{seatIn}
+use Rattle.book_bytes.specs.Books.{bookIn}
+use Rattle.events.specs.declared.Reply.{Reply}
+use Rattle.events.specs.Replies.{noEvent, replied}
+use Rattle.book_steps.specs.Acts.{taking, takeBytes}
+use Rattle.group_bytes.specs.Places.{bookBytes, orderSize, orderAt}
+use Rattle.group_bytes.specs.Groups.{Ranges, membersOf, viewsMade, placeOf, rangesSound}
+use Rattle.group_bytes.proofs.RangesLaws.{RangesBytes}
+use Rattle.group_bytes.proofs.BookBytes.{book-byte}
+use Rattle.group_bytes.proofs.Inside.{order-inside}
+use Rattle.group_steps.specs.OwnParts.{Desk, ofMember, Sat}
+use Rattle.group_steps.proofs.Rows.{ranged}
+use Rattle.group_steps.specs.VisitParts.{Delivered}
+use Rattle.group_steps.proofs.DeliverLaws.{carrier-made, deliver-none, take-asks, deliver-done}
+
+module _ (r : Ranges) (p : Member) (s : rangesSound r ≡ true) (member : p < membersOf r) (there : seatIn (bookBytes (r .books) p) carrierAt .there ≡ true)
+    (g : ViewId) (own : g ≡ seatIn (bookBytes (r .books) p) carrierAt .view .id) (c : ℕ) (place : c ≡ orderAt (placeOf (g .0) (viewsMade r))) where
+  -- the place of the carrier view
+  abbrev i : ℕ
+  i = placeOf (seatIn (bookBytes (r .books) p) carrierAt .view .id .0) (viewsMade r)
+
+  -- the position
+  abbrev k : ℕ
+  k = getD (r .books) (bookSize * p + takenAt) 0
+
+  at-order : c ≡ orderAt i
+  at-order = place ∙ ap (λ (h : ViewId). orderAt (placeOf (h .0) (viewsMade r))) own
+
+  at-count : getD (r .queues) c 0 ≡ getD (r .queues) (orderAt i) 0
+  at-count = ap (λ (j : ℕ). getD (r .queues) j 0) at-order
+
+  at-taken : k ≡ getD (bookBytes (r .books) p) takenAt 0
+  at-taken = sym (book-byte (r .books) p takenAt (omega arith))
+
+  pub next-inside : c + orderSize ≤ length (r .queues)
+  next-inside = omega (arith, at-order, order-inside r (ranged r s) i (carrier-made r p s member there))
+
+  pub next-none : getD (r .queues) c 0 ≤ k → (x : Reply) → x ≡ replied (Refused NoneToDeliver) noEvent → Delivered r p (r .books) x
+  next-none h x e = deliver-none r p s member there (omega (arith, at-count, at-taken)) x e
+
+  module _ (bytes : RangesBytes r) (more : k < getD (r .queues) c 0) where
+    abbrev at : ℕ
+    at = c + 1 + slotSize * k
+
+    ahead : getD (bookBytes (r .books) p) takenAt 0 < getD (r .queues) (orderAt i) 0
+    ahead = omega (arith, at-count, at-taken)
+
+    pub next-asks : Desk (r .books) p × (p < membersOf r) × (at + slotSize ≤ length (r .queues)) × (framed (r .queues) at ≤ maxViews) × (getD (r .queues) at 0 < maxMembers)
+        × (getD (bookBytes (r .books) p) takenAt 0 < maxOrdered) × (getD (bookBytes (r .books) p) carrierAt 0 ≡ 1)
+    next-asks = take-asks r p s member there bytes ahead at (omega (arith, at-order, at-taken))
+
+    pub next-done : (exit : List ℕ) (x : Reply)
+        → Sat p (ofMember (r .books) p (λ b. taking (getD (r .queues) at 0) (messageOf (frameAt (r .queues) at (g .0) .message) (listOf (frameAt (r .queues) at (g .0) .views))) (bookIn b)))
+        (takeBytes (getD (r .queues) at 0) (messageOf (frameAt (r .queues) at (g .0) .message) (listOf (frameAt (r .queues) at (g .0) .views)))) (r .books) exit x
+        → Delivered r p exit x
+    next-done exit x y = deliver-done r p s member there bytes ahead at (g .0) (omega (arith, at-order, at-taken)) exit x y

@@ -1,0 +1,103 @@
+-- Order: each refusal at its place in the row, and the bytes of an accepted one.
+use mathlib.Core.Path.{_≡_, refl, sym, ap, ap₂, _∙_}
+use mathlib.Core.Logic.{inr}
+use mathlib.Core.List.{List, []}
+use Prim.Native.Nat.{ℕ, _+_, _*_, _≤_, _<_}
+use native.Mathlib.Omega.{arith}
+use borrow.Author.Tests.{lt-ltb, le-ltb}
+use lib.ListN.{length, getD}
+use Rattle.views.specs.declared.refusal.Refusal.{Refusal}
+use Rattle.views.specs.declared.refusal.Refusal.the-variants.{NoSuchView, NoneWaiting, OrderFull}
+use Rattle.views.specs.declared.refusal.Verdict.the-variants.{Accepted, Refused}
+use Rattle.views.specs.Limits.{maxOrdered}
+use Rattle.rules.specs.Data.{need, withFirst}
+use Rattle.rules.specs.Group.{withListed, orderStep}
+use Rattle.slots.specs.Slots.{slotSize}
+use Rattle.slots.specs.Changes.{popped}
+use Rattle.slots.proofs.Lists.{length-entries}
+use Rattle.record_steps.specs.Turns.{verdictOf}
+use Rattle.events.specs.Replies.{left}
+use Rattle.group_bytes.specs.Places.{orderAt, waitingAt}
+use Rattle.group_bytes.specs.Groups.{Ranges, membersOf, madeOf, viewsMade, placeOf, waitingIn, orderIn, groupIn}
+use Rattle.group_bytes.specs.Moves.{slotAdded, orderRanges}
+use Rattle.group_bytes.proofs.RangesLaws.{Ranged}
+use Rattle.group_bytes.proofs.SlotLaws.{add-changed}
+use Rattle.group_bytes.proofs.Inside.{waiting-inside}
+use Rattle.group_bytes.proofs.Tables.{waiting-at, order-at}
+use Rattle.group_steps.specs.CarrierParts.{ordering, Ordered}
+use Rattle.group_steps.proofs.Rows.{by-rule, first-of, none-of}
+use Rattle.group_steps.proofs.Found.{found-at, missing-at}
+
+-- ---- the bytes
+
+-- what the pop asks once the entry is copied to a queue below: the copy does not reach the queue that the entry came from
+pub pop-asks : (q : List ℕ) (c w : ℕ) → c + 1 + slotSize * (getD q c 0 + 1) ≤ w → 0 < getD q w 0 → w + 1 + slotSize * getD q w 0 ≤ length q
+    → (w < w + 1) × (0 < getD (slotAdded q c q (w + 1)) w 0) × (w + 1 + slotSize * getD (slotAdded q c q (w + 1)) w 0 ≤ length (slotAdded q c q (w + 1)))
+pop-asks q c w low some inside =
+    let x = add-changed q c q (w + 1) (omega arith) (omega arith) in
+    let same : getD (slotAdded q c q (w + 1)) w 0 ≡ getD q w 0 = x .outside w (λ e. omega arith) (inr (omega arith)) in
+    (omega arith, omega arith, omega (arith, x .long))
+
+-- what the code asks to move the entry: the order lies below what waits, and both within the range
+pub forward-asks : (r : Ranges) → Ranged r → (p : ℕ) → p < membersOf r → (i : ℕ) → i < madeOf r → 0 < getD (r .queues) (waitingAt i p) 0 → getD (r .queues) (orderAt i) 0 < maxOrdered
+    → (orderAt i + 1 + slotSize * (getD (r .queues) (orderAt i) 0 + 1) ≤ waitingAt i p) × (getD (r .queues) (orderAt i) 0 < 255) × (0 < getD (r .queues) (waitingAt i p) 0)
+    × (waitingAt i p + 1 + slotSize * getD (r .queues) (waitingAt i p) 0 ≤ length (r .queues))
+forward-asks r fits p member i there some room =
+    (omega arith, omega arith, some, omega (arith, waiting-inside r fits i there p member, fits .tables i there .waiting p member .few))
+
+-- what the code leaves is what the step leaves
+pub order-bytes : (r : Ranges) (p g c w : ℕ) (q : List ℕ) → c ≡ orderAt (placeOf g (viewsMade r)) → w ≡ waitingAt (placeOf g (viewsMade r)) p
+    → q ≡ popped (slotAdded (r .queues) c (r .queues) (w + 1)) w (w + 1) → q ≡ orderRanges r p g .queues
+unfolding orderRanges
+order-bytes r p g c w q e f h = h ∙ ap₂ (λ (c w : ℕ). popped (slotAdded (r .queues) c (r .queues) (w + 1)) w (w + 1)) e f
+
+-- a refusal leaves the queues, and an accepted order moves the entry
+pub order-refused : (r : Ranges) (p g : ℕ) (x : Refusal) → verdictOf (ordering r p g) ≡ Refused x → Ordered r p g (r .queues) (Refused x)
+unfolding left
+order-refused r p g x e = record { verdict = sym e; moved = rw e }
+
+pub order-accepted : (r : Ranges) (p g : ℕ) (q : List ℕ) → verdictOf (ordering r p g) ≡ Accepted → q ≡ orderRanges r p g .queues → Ordered r p g q Accepted
+unfolding left
+order-accepted r p g q e f = record { verdict = sym e; moved = rw e f }
+
+-- ---- the row
+
+module _ (r : Ranges) (p g : ℕ) where
+  module _ (member : p < membersOf r) where
+    pub no-view : madeOf r ≤ placeOf g (viewsMade r) → verdictOf (ordering r p g) ≡ Refused NoSuchView
+    unfolding orderStep groupIn withListed
+    no-view h = ap verdictOf (by-rule r p (orderStep (groupIn r) p g) member) ∙ rw (missing-at r g h)
+
+    module _ (there : placeOf g (viewsMade r) < madeOf r) where
+      abbrev i : ℕ
+      i = placeOf g (viewsMade r)
+
+      abbrev w : ℕ
+      w = waitingAt i p
+
+      pub none-waiting : getD (r .queues) w 0 ≡ 0 → verdictOf (ordering r p g) ≡ Refused NoneWaiting
+      unfolding orderStep groupIn withListed withFirst
+      none-waiting h =
+          let f = found-at r g there in
+          let k : waitingIn r p g ≡ [] = waiting-at r g i refl p member there ∙ none-of (r .queues) (w + 1) (getD (r .queues) w 0) h in
+          ap verdictOf (by-rule r p (orderStep (groupIn r) p g) member) ∙ rw (f .1, k)
+
+      order-length : length (orderIn r g) ≡ getD (r .queues) (orderAt i) 0
+      order-length = ap length (order-at r g i refl there) ∙ length-entries (r .queues) (orderAt i + 1) (getD (r .queues) (orderAt i) 0)
+
+      module _ (some : 0 < getD (r .queues) w 0) where
+        pub order-full : maxOrdered ≤ getD (r .queues) (orderAt i) 0 → verdictOf (ordering r p g) ≡ Refused OrderFull
+        unfolding orderStep groupIn withListed withFirst need
+        order-full h =
+            let f = found-at r g there in
+            let (e, rest, k) = first-of (r .queues) (w + 1) (getD (r .queues) w 0) some in
+            let l = waiting-at r g i refl p member there ∙ k in
+            ap verdictOf (by-rule r p (orderStep (groupIn r) p g) member) ∙ rw (f .1, l, order-length, le-ltb _ _ h)
+
+        pub order-moves : getD (r .queues) (orderAt i) 0 < maxOrdered → verdictOf (ordering r p g) ≡ Accepted
+        unfolding orderStep groupIn withListed withFirst need
+        order-moves h =
+            let f = found-at r g there in
+            let (e, rest, k) = first-of (r .queues) (w + 1) (getD (r .queues) w 0) some in
+            let l = waiting-at r g i refl p member there ∙ k in
+            ap verdictOf (by-rule r p (orderStep (groupIn r) p g) member) ∙ rw (f .1, l, order-length, lt-ltb _ _ h)

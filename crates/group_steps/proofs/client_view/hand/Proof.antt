@@ -1,0 +1,61 @@
+use mathlib.Core.Path.{refl}
+use Prim.Native.Nat.{_+_, _-_, _*_}
+use native.Mathlib.Omega.{arith}
+use Rattle.book_bytes.specs.Places.{bookSize}
+use Rattle.group_steps.proofs.OwnStepLaws.{desk-refused, desk-sound, desk-done}
+use borrow.Author.Needs.{needs}
+use Rattle.group_steps.proofs.client_view.hand.Statement.{statement}
+use Rattle.group_steps.proofs.client_view.hand.Tie as tie
+
+slice-read-if1 : tie.Need-slice-read-if1
+slice-read-if1 c = search needs
+
+cast-if1 : tie.Need-cast-if1
+cast-if1 c = search needs
+
+refuse-requires : tie.Need-refuse-requires
+refuse-requires c κs = search needs
+
+returns : tie.Need-returns
+returns c = desk-refused (c .before .before .before .before .args .all .now) (c .before .before .before .before .args .p) _ _ _ (c .before .if1 .taken) (c .refuse .ensures)
+
+mul-a : tie.Need-mul-a
+mul-a c = search needs
+
+add-e : tie.Need-add-e
+add-e c = search needs
+
+sub-hand : tie.Need-sub-hand
+sub-hand c = search needs
+
+part-hand-start : tie.Need-part-hand-start
+part-hand-start c = search needs
+
+part-hand-end : tie.Need-part-hand-end
+part-hand-end c = search needs
+
+hand-requires : tie.Need-hand-requires
+hand-requires c κs = desk-sound (c .before .before .before .before .args .all .now) (c .before .before .before .before .args .p) (c .before .before .before .before .pre) (c .before .if1 .left) (bookSize * c .before .before .before .before .args .p + bookSize - bookSize * c .before .before .before .before .args .p) (omega arith)
+
+same-length : tie.Need-same-length
+same-length c = search needs
+
+returns-2 : tie.Need-returns-2
+returns-2 c = desk-done (c .before .before .before .before .before .before .before .args .all .now) (c .before .before .before .before .before .before .before .args .p) _ _ _ (c .before .before .before .before .if1 .left) (bookSize * c .before .before .before .before .before .before .before .args .p + bookSize - bookSize * c .before .before .before .before .before .before .before .args .p) (omega arith) _ _ (c .before .before .hand .ensures) refl
+
+pub hand-spec : {M : Type 1} → statement M
+hand-spec =
+    tie.close
+    (tie.spec
+    slice-read-if1
+    cast-if1
+    refuse-requires
+    returns
+    mul-a
+    add-e
+    sub-hand
+    part-hand-start
+    part-hand-end
+    hand-requires
+    same-length
+    returns-2)

@@ -1,0 +1,61 @@
+use mathlib.Core.Path.{refl}
+use Prim.Native.Nat.{_+_, _-_, _*_}
+use native.Mathlib.Omega.{arith}
+use Rattle.book_bytes.specs.Places.{bookSize}
+use Rattle.group_steps.proofs.OwnStepLaws.{desk-refused, desk-sound, desk-done}
+use borrow.Author.Needs.{needs}
+use Rattle.group_steps.proofs.client_view.tell.Statement.{statement}
+use Rattle.group_steps.proofs.client_view.tell.Tie as tie
+
+slice-read-if1 : tie.Need-slice-read-if1
+slice-read-if1 c = search needs
+
+cast-if1 : tie.Need-cast-if1
+cast-if1 c = search needs
+
+refuse-requires : tie.Need-refuse-requires
+refuse-requires c κs = search needs
+
+returns : tie.Need-returns
+returns c = desk-refused (c .before .before .before .before .args .all .now) (c .before .before .before .before .args .p) _ _ _ (c .before .if1 .taken) (c .refuse .ensures)
+
+mul-a : tie.Need-mul-a
+mul-a c = search needs
+
+add-e : tie.Need-add-e
+add-e c = search needs
+
+sub-tell : tie.Need-sub-tell
+sub-tell c = search needs
+
+part-tell-start : tie.Need-part-tell-start
+part-tell-start c = search needs
+
+part-tell-end : tie.Need-part-tell-end
+part-tell-end c = search needs
+
+tell-requires : tie.Need-tell-requires
+tell-requires c κs = desk-sound (c .before .before .before .before .args .all .now) (c .before .before .before .before .args .p) (c .before .before .before .before .pre) (c .before .if1 .left) (bookSize * c .before .before .before .before .args .p + bookSize - bookSize * c .before .before .before .before .args .p) (omega arith)
+
+same-length : tie.Need-same-length
+same-length c = search needs
+
+returns-2 : tie.Need-returns-2
+returns-2 c = desk-done (c .before .before .before .before .before .before .before .args .all .now) (c .before .before .before .before .before .before .before .args .p) _ _ _ (c .before .before .before .before .if1 .left) (bookSize * c .before .before .before .before .before .before .before .args .p + bookSize - bookSize * c .before .before .before .before .before .before .before .args .p) (omega arith) _ _ (c .before .before .tell .ensures) refl
+
+pub tell-spec : {M : Type 1} → statement M
+tell-spec =
+    tie.close
+    (tie.spec
+    slice-read-if1
+    cast-if1
+    refuse-requires
+    returns
+    mul-a
+    add-e
+    sub-tell
+    part-tell-start
+    part-tell-end
+    tell-requires
+    same-length
+    returns-2)

@@ -1,0 +1,3 @@
+pub mod CarrierParts
+pub mod OwnParts
+pub mod VisitParts

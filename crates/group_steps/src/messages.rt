@@ -1,0 +1,84 @@
+// The way of a message: pass and order, which are the carrier's, each in a file of its own, and deliver, in which a member takes it.
+pub mod order;
+pub mod pass;
+
+use events::Reply;
+use views::Member;
+use views::ViewId;
+use views::refusal::Refusal;
+ghost use mathlib.Core.Path.{_≡_};
+ghost use Prim.Native.Nat.{_*_, _≤_, _<_, _+_};
+ghost use lib.ListN.{length, getD};
+ghost use mathlib.Core.Bool.{true};
+ghost use Rattle.views.specs.Limits.{maxViews, maxMembers, maxOrdered};
+ghost use Rattle.views.specs.Sizes.{viewSize};
+ghost use Rattle.views.specs.Lists.{listOf};
+ghost use Rattle.wire.specs.Reader.{viewsIn};
+ghost use Rattle.rules.specs.Alone.{messageOf};
+ghost use Rattle.slots.specs.Slots.{slotSize};
+ghost use Rattle.slots.specs.FrameParts.{framed, frameAt};
+ghost use Rattle.book_bytes.specs.Places.{membersAt, carrierAt, takenAt};
+ghost use Rattle.book_bytes.specs.Books.{bookIn};
+ghost use Rattle.book_bytes.specs.Records.{seatIn};
+ghost use Rattle.book_steps.specs.Acts.{taking, takeBytes};
+ghost use Rattle.group_bytes.specs.Places.{madeAt, orderAt, bookBytes};
+ghost use Rattle.group_bytes.specs.Groups.{placeOf, rangesSound};
+ghost use Rattle.group_steps.specs.OwnParts.{Desk, ofMember, Sat};
+ghost use Rattle.group_steps.specs.VisitParts.{Delivered};
+
+// Where the order of the view with the identifier stands.
+fn order_of(list: &[u8], queues: &[u8], g: ViewId) -> usize
+    requires { ⌜ (madeAt < length (now queues)) × (viewSize * getD (now queues) madeAt 0 ≤ length (now list)) × (getD (now queues) madeAt 0 ≤ maxViews) ⌝ }
+    ensures { λ r. ⌜ r ≡ orderAt (placeOf (g .0) (viewsIn (now (list .entry)) 0 (getD (now (queues .entry)) madeAt 0))) ⌝ }
+{
+    let i = group_bytes::place(list, queues[group_bytes::MADE], g.0 as u64);
+    group_bytes::order_at(i)
+}
+
+// The member p takes the entry in the slot at a place, sent in the view g.
+fn take_at(all: &mut [u8], queues: &[u8], p: u32, at: usize, g: ViewId) -> Reply
+    requires { ⌜ Desk (now all) p × (p < getD (now all) membersAt 0) × (at + slotSize ≤ length (now queues)) × (framed (now queues) at ≤ maxViews)
+        × (getD (now queues) at 0 < maxMembers) × (getD (bookBytes (now all) p) takenAt 0 < maxOrdered) × (getD (bookBytes (now all) p) carrierAt 0 ≡ 1) ⌝ }
+    ensures { λ r. ⌜ Sat p (ofMember (now (all .entry)) p (λ b. taking (getD (now (queues .entry)) at 0)
+        (messageOf (frameAt (now (queues .entry)) at (g .0) .message) (listOf (frameAt (now (queues .entry)) at (g .0) .views))) (bookIn b)))
+        (takeBytes (getD (now (queues .entry)) at 0)
+        (messageOf (frameAt (now (queues .entry)) at (g .0) .message) (listOf (frameAt (now (queues .entry)) at (g .0) .views))))
+        (now (all .entry)) (now (all .exit)) r ⌝ }
+{
+    let q = Member(queues[at]);
+    let f = slots::load_frame(queues, at, g);
+    let a = book_bytes::SIZE * (p as usize);
+    let e = a + book_bytes::SIZE;
+    book_steps::messages::take(&mut all[a..e], q, f)
+}
+
+// The member p takes the next message of its carrier view, which has the identifier g.
+fn next(list: &[u8], all: &mut [u8], queues: &[u8], p: u32, g: ViewId) -> Reply
+    requires { ⌜ (rangesSound (record { list = now list; books = now all; queues = now queues }) ≡ true) × (p < getD (now all) membersAt 0)
+        × (seatIn (bookBytes (now all) p) carrierAt .there ≡ true) × (g ≡ seatIn (bookBytes (now all) p) carrierAt .view .id) ⌝ }
+    ensures { λ r. ⌜ Delivered (record { list = now (list .entry); books = now (all .entry); queues = now (queues .entry) }) p (now (all .exit)) r ⌝ }
+{
+    let c = order_of(list, queues, g);
+    let k = all[book_bytes::SIZE * (p as usize) + book_bytes::TAKEN];
+    if queues[c] <= k {
+        return events::refuse(Refusal::NoneToDeliver);
+    }
+    take_at(all, queues, p, c + 1 + slots::SLOT * (k as usize), g)
+}
+
+// The member p takes the next message of its carrier view's order.
+pub fn deliver(list: &[u8], all: &mut [u8], queues: &[u8], p: u32) -> Reply
+    requires { ⌜ rangesSound (record { list = now list; books = now all; queues = now queues }) ≡ true ⌝ }
+    ensures { λ r. ⌜ Delivered (record { list = now (list .entry); books = now (all .entry); queues = now (queues .entry) }) p (now (all .exit)) r ⌝ }
+{
+    if all[book_bytes::MEMBERS] as u32 <= p {
+        return events::refuse(Refusal::NoSuchMember);
+    }
+    let a = book_bytes::SIZE * (p as usize);
+    let e = a + book_bytes::SIZE;
+    let seat = book_bytes::load_seat(&all[a..e], book_bytes::CARRIER);
+    if !seat.there {
+        return events::refuse(Refusal::NoCarrierView);
+    }
+    next(list, all, queues, p, seat.view.id)
+}

@@ -1,0 +1,57 @@
+// Order: the first one waiting goes to the end of the view's order.
+use views::limits;
+use views::refusal::Refusal;
+use views::refusal::Verdict;
+ghost use mathlib.Core.Path.{_≡_};
+ghost use Prim.Native.Nat.{_+_, _*_, _≤_, _<_};
+ghost use lib.ListN.{length, getD};
+ghost use mathlib.Core.Bool.{true};
+ghost use Rattle.slots.specs.Slots.{slotSize};
+ghost use Rattle.slots.specs.Changes.{popped};
+ghost use Rattle.group_bytes.specs.Moves.{slotAdded};
+ghost use Rattle.group_bytes.specs.Groups.{rangesSound};
+ghost use Rattle.group_steps.specs.CarrierParts.{Ordered};
+
+// The slot at a place goes to the end of the queue at c, which lies below it.
+fn append(q: &mut [u8], c: usize, at: usize)
+    requires { ⌜ (c + 1 + slotSize * (getD (now q) c 0 + 1) ≤ at) × (getD (now q) c 0 < 255) × (at + slotSize ≤ length (now q)) ⌝ }
+    ensures { λ _. ⌜ now (q .exit) ≡ slotAdded (now (q .entry)) c (now (q .entry)) at ⌝ }
+{
+    let n = q[c];
+    slots::move_down(q, at, c + 1 + slots::SLOT * (n as usize), slots::SLOT);
+    q[c] = n + 1;
+}
+
+// The first entry of the queue at w goes to the end of the queue at c, which lies below it.
+fn forward(q: &mut [u8], c: usize, w: usize)
+    requires { ⌜ (c + 1 + slotSize * (getD (now q) c 0 + 1) ≤ w) × (getD (now q) c 0 < 255) × (0 < getD (now q) w 0) × (w + 1 + slotSize * getD (now q) w 0 ≤ length (now q)) ⌝ }
+    ensures { λ _. ⌜ now (q .exit) ≡ popped (slotAdded (now (q .entry)) c (now (q .entry)) (w + 1)) w (w + 1) ⌝ }
+{
+    append(q, c, w + 1);
+    slots::pop(q, w, w + 1);
+}
+
+// The first one waiting for the member p in a view goes to the end of the view's order.
+pub fn order(list: &[u8], all: &[u8], queues: &mut [u8], p: u32, id: u64) -> Verdict
+    requires { ⌜ rangesSound (record { list = now list; books = now all; queues = now queues }) ≡ true ⌝ }
+    ensures { λ r. ⌜ Ordered (record { list = now (list .entry); books = now (all .entry); queues = now (queues .entry) }) p id (now (queues .exit)) r ⌝ }
+{
+    if all[book_bytes::MEMBERS] as u32 <= p {
+        return Verdict::Refused(Refusal::NoSuchMember);
+    }
+    let made = queues[group_bytes::MADE];
+    let i = group_bytes::place(list, made, id);
+    if made <= i {
+        return Verdict::Refused(Refusal::NoSuchView);
+    }
+    let c = group_bytes::order_at(i);
+    let w = group_bytes::waiting_at(i, p as u8);
+    if queues[w] == 0 {
+        return Verdict::Refused(Refusal::NoneWaiting);
+    }
+    if limits::ORDERED <= queues[c] {
+        return Verdict::Refused(Refusal::OrderFull);
+    }
+    forward(queues, c, w);
+    Verdict::Accepted
+}

@@ -1,7 +1,0 @@
--- Laws.
-pub mod PlaceLaws
-pub mod Walks
-pub mod Infos
-pub mod Tests
-pub mod GroupParts
-pub mod Whole

@@ -1,2 +1,0 @@
--- Laws of the steps that change nothing but the record.
-pub mod MarkLaws

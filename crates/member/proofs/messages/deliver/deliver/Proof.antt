@@ -1,0 +1,52 @@
+-- `member::messages::deliver::deliver` meets its contract: 4, 6, then what was read.
+use Rattle.rules.specs.Data.{after}
+use Rattle.rules.specs.Alone.{deliverAlone}
+use Rattle.book_steps.specs.Acts.{fewOpen}
+use Rattle.member.specs.Calls.{deliverCall}
+use Rattle.member.proofs.CallLaws.{call-refused, call-sound, call-done}
+use borrow.Author.Needs.{needs}
+use Rattle.member.proofs.messages.deliver.deliver.Statement.{statement}
+use Rattle.member.proofs.messages.deliver.deliver.Tie as tie
+
+admit-requires : tie.Need-admit-requires
+admit-requires c κs = search needs
+
+enum-known-v : tie.Need-enum-known-v
+enum-known-v c = search needs
+
+refuse-requires : tie.Need-refuse-requires
+refuse-requires c κs = search needs
+
+enum-told : tie.Need-enum-told
+enum-told c = search needs
+
+deliver-read-requires : tie.Need-deliver-read-requires
+deliver-read-requires c κs = call-sound _ _ (c .before .before .before .admit .ensures) (c .before .enum-told .given .1)
+
+same-length : tie.Need-same-length
+same-length c = search needs
+
+returns : tie.Need-returns
+unfolding deliverCall deliverAlone
+returns c = call-refused _ _ _ _ (c .before .before .before .before .admit .ensures) _ (c .before .before .v .given .1) _ (c .refuse .ensures)
+
+same-length-2 : tie.Need-same-length-2
+same-length-2 c = search needs
+
+returns-2 : tie.Need-returns-2
+unfolding deliverCall deliverAlone fewOpen after
+returns-2 c = call-done _ _ _ _ (c .before .before .before .before .before .before .admit .ensures) (c .before .before .before .before .enum-told .given .1) _ _ (c .before .before .deliver-read .ensures)
+
+pub deliver-spec : {M : Type 1} → statement M
+deliver-spec =
+    tie.close
+    (tie.spec
+    admit-requires
+    enum-known-v
+    refuse-requires
+    enum-told
+    deliver-read-requires
+    same-length
+    returns
+    same-length-2
+    returns-2)

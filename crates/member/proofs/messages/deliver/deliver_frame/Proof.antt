@@ -1,0 +1,52 @@
+-- `member::messages::deliver::deliver_frame` meets its contract: the answer to the frame, then the message taken.
+use native.Mathlib.Omega.{arith}
+use Rattle.book_steps.proofs.Committed.{sound-size}
+use Rattle.member.proofs.ArriveLaws.{carrier-mark, sender-small, frame-refused, frame-sender, frame-room, frame-taken}
+use borrow.Author.Needs.{needs}
+use Rattle.member.proofs.messages.deliver.deliver_frame.Statement.{statement}
+use Rattle.member.proofs.messages.deliver.deliver_frame.Tie as tie
+
+slice-read-answer : tie.Need-slice-read-answer
+slice-read-answer c = omega (arith, sound-size _ (c .before .before .pre .0))
+
+slice-read-answer-2 : tie.Need-slice-read-answer-2
+slice-read-answer-2 c = omega (arith, sound-size _ (c .before .before .before .pre .0))
+
+answer-requires : tie.Need-answer-requires
+answer-requires c κs = search needs
+
+enum-known-verdict : tie.Need-enum-known-verdict
+enum-known-verdict c = search needs
+
+refuse-requires : tie.Need-refuse-requires
+refuse-requires c κs = search needs
+
+enum-told : tie.Need-enum-told
+enum-told c = search needs
+
+take-requires : tie.Need-take-requires
+take-requires c κs = (c .before .before .before .before .before .before .before .pre .0, sender-small _ _ _ (c .before .before .before .before .before .before .before .pre .0) (c .before .before .before .before .before .before .before .pre .1) (frame-sender (c .before .before .before .before .before .before .before .args .b .now) (c .before .before .before .before .before .before .before .args .v) (c .before .before .before .before .before .before .before .args .q .0) (c .before .before .before .before .before .before .before .args .f) (c .before .before .before .before .before .before .before .pre .2) _ (c .before .before .before .answer .ensures) (c .before .enum-told .given .1)), frame-room (c .before .before .before .before .before .before .before .args .b .now) (c .before .before .before .before .before .before .before .args .v) (c .before .before .before .before .before .before .before .args .q .0) (c .before .before .before .before .before .before .before .args .f) (c .before .before .before .before .before .before .before .pre .2) _ (c .before .before .before .answer .ensures) (c .before .enum-told .given .1), carrier-mark _ _ (c .before .before .before .before .before .before .before .pre .1))
+
+returns : tie.Need-returns
+returns c = frame-refused _ _ _ _ (c .before .before .before .before .before .before .before .before .pre .2) _ (c .before .before .before .before .answer .ensures) _ (c .before .before .verdict .given .1) _ (c .refuse .ensures)
+
+same-length : tie.Need-same-length
+same-length c = search needs
+
+returns-2 : tie.Need-returns-2
+returns-2 c = frame-taken (c .before .before .before .before .before .before .before .before .before .before .args .b .now) (c .before .before .before .before .before .before .before .before .before .before .args .v) (c .before .before .before .before .before .before .before .before .before .before .args .q .0) (c .before .before .before .before .before .before .before .before .before .before .args .f) (c .before .before .before .before .before .before .before .before .before .before .pre .2) _ (c .before .before .before .before .before .before .answer .ensures) (c .before .before .before .before .enum-told .given .1) _ _ (c .before .before .take .ensures)
+
+pub deliver-frame-spec : {M : Type 1} → statement M
+deliver-frame-spec =
+    tie.close
+    (tie.spec
+    slice-read-answer
+    slice-read-answer-2
+    answer-requires
+    enum-known-verdict
+    refuse-requires
+    enum-told
+    take-requires
+    returns
+    same-length
+    returns-2)

@@ -1,0 +1,3 @@
+pub mod LoanLaws
+pub mod LoanMeans
+pub mod BytesMean

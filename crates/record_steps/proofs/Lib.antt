@@ -1,0 +1,10 @@
+pub mod AskLaws
+pub mod RowLaws
+pub mod MeaningNotes
+pub mod MeaningVerdicts
+pub mod MeaningBooks
+pub mod MeaningTaken
+pub mod MeaningLeft
+pub mod MeaningMarks
+pub mod ClientLaws
+pub mod TakeLaws

@@ -1,4 +1,0 @@
-pub mod BufferLaws
-pub mod SpokenLaws
-pub mod Longest
-pub mod BenchCases

@@ -1,5 +1,0 @@
-pub mod Numbers
-pub mod Answers
-pub mod Shown
-pub mod Turning
-pub mod Promise

@@ -1,3 +1,0 @@
-pub mod Again
-pub mod Share
-pub mod SliceLaws

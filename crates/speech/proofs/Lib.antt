@@ -1,2 +1,0 @@
--- Laws of the steps that queue a message.
-pub mod SpeakLaws

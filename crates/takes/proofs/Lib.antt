@@ -1,2 +1,0 @@
--- Laws of what taking a message changes.
-pub mod TakeLaws

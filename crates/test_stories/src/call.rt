@@ -1,0 +1,37 @@
+// The calls of a book, with their operands from a line.
+use events::Reply;
+use events::kinds;
+
+pub fn start(b: &mut [u8], line: &[u8]) -> Reply {
+    member::start(b, word(line, 2), word(line, 3), word(line, 4))
+}
+
+fn word(line: &[u8], n: usize) -> u8 {
+    crate::word::byte(line, n)
+}
+
+// A step, by the number of its kind.
+pub fn step(b: &mut [u8], line: &[u8], kind: u8) -> Reply {
+    match kind {
+        kinds::JOIN => member::carrier_view::join(
+            b,
+            crate::word::identifier(line, 2),
+            word(line, 3),
+        ),
+        kinds::DELIVER => deliver(b, line),
+        kinds::ATTEMPT => member::carrier_view::attempt(b),
+        kinds::REGISTER => member::client_view::register(b),
+        kinds::SEND => member::client_view::send(b, test_script::parse::number(line, 2)),
+        kinds::HAND => member::client_view::hand(b),
+        kinds::TELL => member::client_view::tell(b),
+        kinds::SAFE => member::client_view::safe(b),
+        _ => member::carrier_view::collect(b),
+    }
+}
+
+// The bytes are the fourth word; without one there are none.
+fn deliver(b: &mut [u8], line: &[u8]) -> Reply {
+    let mut bytes = [0u8; crate::desk::SLIP];
+    let n = test_script::parse::unhex(line, test_script::parse::word(line, 3), &mut bytes);
+    member::messages::deliver::deliver(b, &bytes[..n], word(line, 2))
+}

@@ -1,0 +1,88 @@
+// What a line says: its word, and operands cut to what there is room for.
+use events::kinds;
+ghost use Prim.Native.Nat.{_<_, _≤_};
+
+// A step of a book that a call carries out has the number of its kind.
+pub enum Word {
+    Unknown,
+    Comment,
+    Start,
+    Pass,
+    Relay,
+    Poke,
+    Lend,
+    Step(u8),
+}
+
+// The first letters tell the word.
+pub fn of(line: &[u8]) -> Word {
+    let first = test_script::parse::byte(line, 0);
+    let second = test_script::parse::byte(line, 1);
+    match first {
+        b'#' => Word::Comment,
+        b'j' => Word::Step(kinds::JOIN),
+        b'd' => Word::Step(kinds::DELIVER),
+        b'a' => Word::Step(kinds::ATTEMPT),
+        b'h' => Word::Step(kinds::HAND),
+        b't' => Word::Step(kinds::TELL),
+        b'c' => Word::Step(kinds::COLLECT),
+        b'l' => Word::Lend,
+        b'p' => with_p(second),
+        b'r' => with_r(test_script::parse::byte(line, 2)),
+        b's' => with_s(second),
+        _ => Word::Unknown,
+    }
+}
+
+// pass, poke
+fn with_p(second: u8) -> Word {
+    match second {
+        b'a' => Word::Pass,
+        b'o' => Word::Poke,
+        _ => Word::Unknown,
+    }
+}
+
+// register, relay
+fn with_r(third: u8) -> Word {
+    match third {
+        b'g' => Word::Step(kinds::REGISTER),
+        b'l' => Word::Relay,
+        _ => Word::Unknown,
+    }
+}
+
+// start, send, safe
+fn with_s(second: u8) -> Word {
+    match second {
+        b't' => Word::Start,
+        b'e' => Word::Step(kinds::SEND),
+        b'a' => Word::Step(kinds::SAFE),
+        _ => Word::Unknown,
+    }
+}
+
+// An operand that is a book.
+pub fn book(line: &[u8], n: usize) -> usize
+    ensures { λ r. ⌜ r < 4 ⌝ }
+{
+    (test_script::parse::number(line, n) % 4) as usize
+}
+
+// An operand of one byte.
+pub fn byte(line: &[u8], n: usize) -> u8 {
+    (test_script::parse::number(line, n) % 256) as u8
+}
+
+// An operand that is an identifier.
+pub fn identifier(line: &[u8], n: usize) -> u32 {
+    (test_script::parse::number(line, n) % 4294967296) as u32
+}
+
+// An operand of at most so much.
+pub fn upto(line: &[u8], n: usize, most: usize) -> usize
+    ensures { λ r. ⌜ r ≤ most ⌝ }
+{
+    let x = test_script::parse::number(line, n);
+    if x < most as u64 { x as usize } else { most }
+}

@@ -1,0 +1,128 @@
+-- Records and frames: the frame of a record's bytes is the frame they were stored from, and the record of a message, written and read again, is that record.
+use mathlib.Core.Path.{_≡_, refl, sym, ap, _∙_}
+use mathlib.Core.Logic.{⊎-elim}
+use mathlib.Core.Bool.{true, false}
+use mathlib.Core.List.{List, [], _∷_, _++_, append-assoc, append-nil}
+use Prim.Native.Nat.{ℕ, zero, suc, _^_, _<_}
+use native.Mathlib.Omega.{arith}
+use borrow.Author.Tests.{leb-true, eqb-true, eqb-false}
+use lib.Dec.{eqb, leb}
+use lib.ListN.{length, take, replicate, length-append, length-take}
+use Rattle.numbers.specs.Number.{get, digits}
+use Rattle.numbers.proofs.NumberLaws.{length-digits, get-digits}
+use Rattle.views.specs.declared.View.{View}
+use Rattle.views.specs.declared.refusal.Verdict.the-variants.{Accepted}
+use Rattle.views.specs.Limits.{maxViews, maxOrdered}
+use Rattle.views.specs.Sets.{both}
+use Rattle.views.specs.Lists.{noView, listOf, places}
+use Rattle.views.proofs.SetLaws.{known, both-true}
+use Rattle.views.proofs.PlaceLaws.{length-places}
+use Rattle.wire.specs.declared.Message.{Message}
+use Rattle.wire.specs.declared.Message.the-variants.{Client, Info, Registered, Told}
+use Rattle.wire.specs.declared.Frame.{Frame}
+use Rattle.wire.specs.declared.Reading.{Reading}
+use Rattle.wire.specs.Format.{kindOf, viewsBytes, toldFits, viewsAllowed, contentOf}
+use Rattle.wire.specs.Reader.{viewsIn, readOf}
+use Rattle.wire.specs.Writer.{numberOf, frameBytes, frameVerdict}
+use Rattle.wire.proofs.VerdictLaws.{need-accepted}
+use Rattle.wire.proofs.TripViews.{ViewFits, EachFits, views-back}
+use Rattle.wire.proofs.TripMessages.{told-met, number-fits, message-back}
+use Rattle.wire.proofs.RoundTrip.{Fits, canonical, canonical-same-bytes, written-reads}
+use Rattle.wire.specs.Records.{headBytes, recordBytes, counted, frameOf}
+use Rattle.wire.proofs.RecordLaws.{length-head, counted-small, counted-other}
+
+-- ---- the places of views
+
+none-fits : ViewFits noView
+none-fits = record { id = omega arith; set = omega arith }
+
+zeros-fit : (n : ℕ) → EachFits (replicate n noView)
+zeros-fit zero j = none-fits
+zeros-fit (suc n) zero = none-fits
+zeros-fit (suc n) (suc j) = zeros-fit n j
+
+append-fit : (l m : List View) → EachFits l → EachFits m → EachFits (l ++ m)
+append-fit [] m h k j = k j
+append-fit (v ∷ l) m h k zero = h 0
+append-fit (v ∷ l) m h k (suc j) = append-fit l m (λ i. h (suc i)) k j
+
+take-fit : (n : ℕ) (l : List View) → EachFits l → EachFits (take n l)
+take-fit zero l h j = none-fits
+take-fit (suc n) [] h j = none-fits
+take-fit (suc n) (v ∷ l) h zero = h 0
+take-fit (suc n) (v ∷ l) h (suc j) = take-fit n l (λ i. h (suc i)) j
+
+places-fit : (l : List View) → EachFits l → EachFits (places l)
+unfolding places
+places-fit l h = take-fit maxViews (l ++ replicate maxViews noView) (append-fit l (replicate maxViews noView) h (zeros-fit maxViews))
+
+-- ---- the number
+
+-- a told's count in its range stays as it is
+counted-kept : (kind x : ℕ) → toldFits kind x ≡ true → counted kind x ≡ x
+unfolding toldFits
+counted-kept kind x h =
+    ⊎-elim
+    (λ (e : eqb kind 4 ≡ true).
+    let w : both (leb 1 x) (leb x maxOrdered) ≡ true = rw e at h in
+    let (_, few) = both-true (leb 1 x) (leb x maxOrdered) w in
+    sym (counted-small kind x (eqb-true kind 4 e) (omega (arith, leb-true x maxOrdered few))))
+    (λ (e : eqb kind 4 ≡ false). sym (counted-other kind x (eqb-false kind 4 e)))
+    (known (eqb kind 4))
+
+number-bound : (m : Message) → ((x : ℕ) → m ≡ Client x → x < 256 ^ 8) → toldFits (kindOf m) (numberOf m) ≡ true → numberOf m < 256 ^ 8
+number-bound (Client x) h t = h x refl
+number-bound Info h t = omega arith
+number-bound Registered h t = omega arith
+number-bound (Told k) h t = number-fits (Told k) h t
+
+-- ---- a record's bytes
+
+regroup : (k : ℕ) (a b c v : List ℕ) → ((k ∷ a) ++ (b ++ c)) ++ v ≡ (k ∷ a) ++ (b ++ (c ++ v))
+regroup k a b c v = simp append-assoc
+
+pub frame-back : (f : Frame) → f .view .0 < 256 ^ 4 → numberOf (f .message) < 256 ^ 8 → toldFits (kindOf (f .message)) (numberOf (f .message)) ≡ true
+    → f .views .count < 256 ^ 1 → length (f .views .at) ≡ maxViews → EachFits (f .views .at) → frameOf (recordBytes f) ≡ f
+unfolding frameOf recordBytes headBytes
+frame-back f hg hx told hn z each =
+    let kind = kindOf (f .message) in
+    let g = f .view .0 in
+    let x = numberOf (f .message) in
+    let n = f .views .count in
+    let at = f .views .at in
+    let a = digits 4 g in
+    let b = digits 8 x in
+    let d = digits 1 n in
+    let v = viewsBytes at in
+    let r = ((kind ∷ a) ++ (b ++ d)) ++ v in
+    let re : r ≡ (kind ∷ a) ++ (b ++ (d ++ v)) = regroup kind a b d v in
+    let la : length (kind ∷ a) ≡ 5 = omega (arith, length-digits 4 g) in
+    let lb : length ((kind ∷ a) ++ b) ≡ 13 = length-append (kind ∷ a) b ∙ omega (arith, length-digits 8 x) in
+    let view : get r 1 4 ≡ g = ap (λ (l : List ℕ). get l 1 4) re ∙ get-digits (kind ∷ []) 4 g (b ++ (d ++ v)) hg in
+    let number : get r 5 8 ≡ x = ap (λ (l : List ℕ). get l 5 8) re ∙ (rw la at (get-digits (kind ∷ a) 8 x (d ++ v) hx)) in
+    let count : get r 13 1 ≡ n =
+    ap (λ (l : List ℕ). get l 13 1) (re ∙ sym (append-assoc (kind ∷ a) b (d ++ v))) ∙ (rw lb at (get-digits ((kind ∷ a) ++ b) 1 n v hn))
+    in
+    let list : viewsIn r 14 maxViews ≡ at =
+    rw (append-nil v, length-head kind g x n, z) at (views-back (headBytes kind g x n) at [] each)
+    in
+    rw (view, number, counted-kept kind x told, message-back (f .message) told, count, list)
+
+-- ---- written and read
+
+-- the record of a message that can be written, with 0 in the places it does not use, is what reading gives of what writing it gives
+pub written-record-returns : (f : Frame) → Fits f → frameVerdict f ≡ Accepted
+    → recordBytes (readOf (frameBytes (frameOf (recordBytes (canonical f)))) .frame) ≡ recordBytes (canonical f)
+unfolding frameVerdict
+written-record-returns f fit v =
+    let m = f .message in
+    let l = listOf (f .views) in
+    let content = need-accepted (viewsAllowed (kindOf m) (f .views .count)) _ (contentOf (kindOf m) l (numberOf m)) v .1 in
+    let told = told-met (kindOf m) l (numberOf m) content in
+    let few : length l < 256 ^ 1 = omega (arith, length-take (f .views .count) (f .views .at), fit .room) in
+    let back : frameOf (recordBytes (canonical f)) ≡ canonical f =
+    frame-back (canonical f) (fit .view) (number-bound m (fit .entry) told) told few (length-places l) (places-fit l (fit .each))
+    in
+    ap (λ (y : Frame). recordBytes (readOf (frameBytes y) .frame)) back
+    ∙ ap (λ (y : List ℕ). recordBytes (readOf y .frame)) (canonical-same-bytes f fit)
+    ∙ ap (λ (y : Reading). recordBytes (y .frame)) (written-reads f fit v)
