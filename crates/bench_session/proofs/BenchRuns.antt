@@ -11,8 +11,7 @@ use Rattle.views.specs.Sets.{one}
 use Rattle.views.proofs.SetLaws.{both-true}
 use Rattle.rules.specs.Data.{Group as State, Step as Asked, Event as Outward, Result, refused, accepted}
 use Rattle.rules.specs.Promise.{Promised}
-use Rattle.record_steps.specs.Turns.{verdictOf}
-use Rattle.events.specs.Replies.{noEvent, replied}
+use Rattle.events.specs.Replies.{noEvent, replied, verdictOf}
 use Rattle.group_bytes.specs.Groups.{Ranges}
 use Rattle.group_bytes.specs.Starts.{startRanges}
 use Rattle.group_bytes.specs.Steps.{startResult, leftRanges, stepRanges, stepReply, repliesOf}

@@ -5,9 +5,8 @@ use Prim.Native.Nat.{ℕ}
 use Rattle.views.specs.declared.refusal.Refusal.the-variants.{LineUnreadable}
 use Rattle.views.specs.declared.refusal.Verdict.{Verdict}
 use Rattle.views.specs.declared.refusal.Verdict.the-variants.{Accepted, Refused}
-use Rattle.record_steps.specs.Turns.{verdictOf}
 use Rattle.events.specs.declared.Reply.{Reply}
-use Rattle.events.specs.Replies.{noEvent, replied}
+use Rattle.events.specs.Replies.{noEvent, replied, verdictOf}
 use Rattle.group_bytes.specs.Groups.{Ranges}
 use Rattle.group_bytes.specs.Starts.{startRanges}
 use Rattle.group_bytes.specs.Steps.{startResult, leftRanges, stepRanges, stepReply}

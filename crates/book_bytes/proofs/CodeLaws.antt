@@ -14,7 +14,7 @@ use Rattle.wire.specs.Format.{viewsBytes}
 use Rattle.wire.specs.Reader.{viewIn, viewsIn}
 use Rattle.wire.specs.Writer.{storeView, storeViews}
 use Rattle.book_bytes.specs.declared.Seat.{Seat}
-use Rattle.book_bytes.specs.declared.Book.{Book}
+use Rattle.book_bytes.specs.declared.Record.{Record}
 use Rattle.book_bytes.specs.Places.{settledAt, carrierAt, clientAt, registeredAt, handedAt, toldAt, reportedAt, takenAt, infosAt, registrationsAt, toldsAt, sideAt, opensAt, bookSize}
 use Rattle.book_bytes.specs.Records.{flagIn, seatIn, recordIn, storeSeat, storeSeats, storeCounts, storeNotes, storeOpens, storeRecord}
 
@@ -63,7 +63,7 @@ record-loaded b n settled opens carrier client tolds e p q r s t = rw (p, q, e, 
 
 -- ---- a record stored
 
-pub seats-joined : (b c d e : List ℕ) (h : Book) → c ≡ storeView b settledAt (h .settled) → d ≡ storeSeat c carrierAt (h .carrier)
+pub seats-joined : (b c d e : List ℕ) (h : Record) → c ≡ storeView b settledAt (h .settled) → d ≡ storeSeat c carrierAt (h .carrier)
     → e ≡ storeSeat d clientAt (h .client) → e ≡ storeSeats b h
 unfolding storeSeats
 seats-joined b c d e h p q r =
@@ -75,14 +75,14 @@ pub tolds-turn : (b l : List ℕ) (at i : ℕ) → i < length l → at + length 
 tolds-turn b l at i h k = rw (add-one i) (paste-suc b at l i 0 (omega arith) h)
 
 -- the open views behind the byte of their count
-pub opens-joined : (b d : List ℕ) (h : Book) → length (listOf (h .opens)) ≡ h .opens .count → h .opens .count ≤ maxOpen
+pub opens-joined : (b d : List ℕ) (h : Record) → length (listOf (h .opens)) ≡ h .opens .count → h .opens .count ≤ maxOpen
     → d ≡ take (opensAt + 1) (set b opensAt (h .opens .count % 256))
     ++ (viewsBytes (listOf (h .opens)) ++ drop (opensAt + 1 + 5 * h .opens .count) (set b opensAt (h .opens .count % 256)))
     → d ≡ storeOpens b h
 unfolding storeOpens storeViews
 opens-joined b d h e l p = let m : h .opens .count % 256 ≡ h .opens .count = omega arith in p ∙ rw (m, e)
 
-pub parts-joined : (b c d e f : List ℕ) (h : Book) → c ≡ storeSeats b h → d ≡ storeCounts c h → e ≡ storeNotes d h → f ≡ storeOpens e h
+pub parts-joined : (b c d e f : List ℕ) (h : Record) → c ≡ storeSeats b h → d ≡ storeCounts c h → e ≡ storeNotes d h → f ≡ storeOpens e h
     → f ≡ storeRecord b h
 unfolding storeRecord
 parts-joined b c d e f h p q r s = rw (s, r, q, p)

@@ -13,7 +13,7 @@ use Rattle.views.proofs.PlaceLaws.{list-placed}
 use Rattle.wire.specs.Reader.{viewIn, viewsIn}
 use Rattle.wire.proofs.ReaderLaws.{length-viewsIn}
 use Rattle.wire.proofs.TripViews.{ViewFits, EachFits, AreBytes, get-fits, views-fit}
-use Rattle.book_bytes.specs.declared.Book.{Book}
+use Rattle.book_bytes.specs.declared.Record.{Record}
 use Rattle.book_bytes.specs.Places.{settledAt, carrierAt, clientAt, handedAt, toldAt, reportedAt, takenAt, infosAt, registrationsAt, toldsAt, opensAt, bookSize}
 use Rattle.book_bytes.specs.Records.{recordIn}
 
@@ -24,7 +24,7 @@ pub record OpensFit (v : Views) : Type 0 where
   pub few : length list ≤ maxOpen
   pub each : EachFits list
 
-pub record Fits (h : Book) : Type 0 where
+pub record Fits (h : Record) : Type 0 where
   pub settled : ViewFits (h .settled)
   pub opens : OpensFit (h .opens)
   pub carrier : ViewFits (h .carrier .view)

@@ -6,7 +6,7 @@ use native.Mathlib.Omega.{arith}
 use native.Mathlib.Numerals.{add-one}
 use lib.ListN.{length, set, replicate, drop, length-replicate, drop-of-length-le, replicate-append-replicate}
 use lib.Seq.{set-at, drop-cons}
-use Rattle.book_bytes.specs.declared.Book.{Book}
+use Rattle.book_bytes.specs.declared.Record.{Record}
 use Rattle.book_bytes.specs.Places.{membersAt, selfAt}
 use Rattle.book_bytes.specs.Records.{storeRecord}
 use Rattle.book_bytes.specs.Starts.{startBytes, freshRecord}
@@ -22,7 +22,7 @@ cleared b i h k =
     let e : i ≡ length b = omega arith in
     rw (drop-of-length-le b h, append-nil {A = ℕ} (replicate i 0), e) refl
 
-pub begun : (n S p : ℕ) (b c d e : List ℕ) (h : Book) → c ≡ replicate (length b) 0 → d ≡ set (set c membersAt n) selfAt p → h ≡ freshRecord S p → e ≡ storeRecord d h
+pub begun : (n S p : ℕ) (b c d e : List ℕ) (h : Record) → c ≡ replicate (length b) 0 → d ≡ set (set c membersAt n) selfAt p → h ≡ freshRecord S p → e ≡ storeRecord d h
     → e ≡ startBytes n S p b
 unfolding startBytes
 begun n S p b c d e h i j k l = l ∙ rw (j, i, k) refl

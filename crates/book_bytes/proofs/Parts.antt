@@ -17,7 +17,7 @@ use Rattle.slots.proofs.Outside.{Changed, changed-within, changed-then, view-ap
 use Rattle.slots.proofs.Stored.{view-stored, views-stored}
 use Rattle.wire.specs.Writer.{storeView}
 use Rattle.book_bytes.specs.declared.Seat.{Seat}
-use Rattle.book_bytes.specs.declared.Book.{Book}
+use Rattle.book_bytes.specs.declared.Record.{Record}
 use Rattle.book_bytes.specs.Places.{settledAt, carrierAt, clientAt, registeredAt, handedAt, toldAt, reportedAt, takenAt, infosAt, registrationsAt, toldsAt, sideAt, opensAt, outgoingAt, bookSize}
 use Rattle.book_bytes.specs.Records.{flag, seatIn, storeSeat, storeSeats, storeCounts, storeNotes, storeOpens}
 use Rattle.book_bytes.proofs.Fits.{Fits, opens-list, opens-count}
@@ -43,19 +43,19 @@ pub record Seated (b : List ℕ) (at : ℕ) (s : Seat) : Type 0 where
   pub mark : getD b at 0 ≡ flag (s .there)
   pub view : viewIn b (at + 1) ≡ s .view
 
-pub record Seats (b : List ℕ) (h : Book) : Type 0 where
+pub record Seats (b : List ℕ) (h : Record) : Type 0 where
   pub settled : viewIn b settledAt ≡ h .settled
   pub carrier : Seated b carrierAt (h .carrier)
   pub client : Seated b clientAt (h .client)
 
-pub record Counts (b : List ℕ) (h : Book) : Type 0 where
+pub record Counts (b : List ℕ) (h : Record) : Type 0 where
   pub registered : getD b registeredAt 0 ≡ flag (h .registered)
   pub handed : getD b handedAt 0 ≡ h .handed .0
   pub told : getD b toldAt 0 ≡ h .told .0
   pub reported : getD b reportedAt 0 ≡ h .reported .0
   pub taken : getD b takenAt 0 ≡ h .taken .0
 
-pub record Notes (b : List ℕ) (h : Book) : Type 0 where
+pub record Notes (b : List ℕ) (h : Record) : Type 0 where
   pub infos : getD b infosAt 0 ≡ h .infos
   pub registrations : getD b registrationsAt 0 ≡ h .registrations
   pub tolds : (j : ℕ) → j < maxMembers → getD b (toldsAt + j) 0 ≡ getD (h .tolds) j 0
@@ -99,7 +99,7 @@ module _ {b d : List ℕ} {at n : ℕ} (x : Changed b d at n) where
   seated-kept from s h p =
       record { mark = x .below from (omega arith) ∙ p .mark; view = view-apart x (from + 1) (inl (omega arith)) ∙ p .view }
 
-  module _ (h : Book) where
+  module _ (h : Record) where
     pub seats-kept : registeredAt ≤ at → Seats b h → Seats d h
     seats-kept l p = record {
       settled = view-apart x settledAt (inl (omega arith)) ∙ p .settled;
@@ -126,7 +126,7 @@ module _ {b d : List ℕ} {at n : ℕ} (x : Changed b d at n) where
 
 -- ---- each part is stored
 
-module _ (b : List ℕ) (h : Book) (size : bookSize ≤ length b) (fits : Fits h) where
+module _ (b : List ℕ) (h : Record) (size : bookSize ≤ length b) (fits : Fits h) where
   abbrev settled : List ℕ
   settled = storeView b settledAt (h .settled)
 

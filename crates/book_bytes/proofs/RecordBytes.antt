@@ -11,7 +11,7 @@ use Rattle.wire.proofs.TripViews.{AreBytes}
 use Rattle.slots.proofs.BytesKept.{SetsAreBytes, take-bytes, drop-bytes, paste-bytes, set-bytes, storeView-bytes, storeViews-bytes}
 use Rattle.wire.specs.Writer.{storeView}
 use Rattle.book_bytes.specs.declared.Seat.{Seat}
-use Rattle.book_bytes.specs.declared.Book.{Book}
+use Rattle.book_bytes.specs.declared.Record.{Record}
 use Rattle.book_bytes.specs.Places.{settledAt, carrierAt, clientAt, registeredAt, handedAt, toldAt, reportedAt, takenAt, infosAt, registrationsAt, toldsAt, sideAt, opensAt}
 use Rattle.book_bytes.specs.Records.{flag, recordIn, storeSeat, storeSeats, storeCounts, storeNotes, storeOpens, storeRecord}
 use Rattle.book_bytes.proofs.Fits.{Fits, opens-list, opens-count}
@@ -29,7 +29,7 @@ storeSeat-bytes : (b : List ℕ) (at : ℕ) (s : Seat) → AreBytes b → s .vie
 storeSeat-bytes b at s y h =
     storeView-bytes (set b at (flag (s .there))) (at + 1) (s .view) (set-bytes b at (flag (s .there)) y (mark-byte (s .there))) h
 
-module _ (b : List ℕ) (h : Book) (y : AreBytes b) (fits : Fits h) where
+module _ (b : List ℕ) (h : Record) (y : AreBytes b) (fits : Fits h) where
   storeSeats-bytes : AreBytes (storeSeats b h)
   unfolding storeSeats
   storeSeats-bytes =
@@ -71,7 +71,7 @@ module _ (b : List ℕ) (h : Book) (y : AreBytes b) (fits : Fits h) where
       (set-bytes b opensAt (h .opens .count) y (omega (arith, opens-count (h .opens) (fits .opens), fits .opens .few))) opens-sets
 
 -- the told counts and the side are no part of what a record's fitting says
-pub store-bytes : (b : List ℕ) (h : Book) → AreBytes b → Fits h → h .side < 256 → AreBytes (h .tolds) → AreBytes (storeRecord b h)
+pub store-bytes : (b : List ℕ) (h : Record) → AreBytes b → Fits h → h .side < 256 → AreBytes (h .tolds) → AreBytes (storeRecord b h)
 unfolding storeRecord
 store-bytes b h y fits side tolds =
     let b1 = storeSeats b h in

@@ -13,7 +13,7 @@ use Rattle.wire.specs.Reader.{viewsIn}
 use Rattle.rules.specs.Data.{Entry, Item}
 use Rattle.slots.specs.Slots.{slotsFit}
 use Rattle.slots.proofs.Outside.{Changed, changed-within, changed-then, entries-apart, slots-apart, items-apart}
-use Rattle.book_bytes.specs.declared.Book.{Book}
+use Rattle.book_bytes.specs.declared.Record.{Record}
 use Rattle.book_bytes.specs.Places.{membersAt, selfAt, settledAt, carrierAt, clientAt, registeredAt, infosAt, toldsAt, sideAt, opensAt, outgoingAt, inwardAt, bookSize}
 use Rattle.book_bytes.specs.Records.{flagIn, recordIn, meaning, storeSeats, storeCounts, storeNotes, storeRecord}
 use Rattle.book_bytes.specs.Books.{outgoingIn, inwardIn, bookIn, layoutFits}
@@ -33,7 +33,7 @@ bytes-are b l at n h e s =
     ext-getD 0 (take n (drop at b)) l (size ∙ sym e)
     (λ j k. getD-take n (drop at b) j 0 (omega arith) ∙ getD-drop at b j 0 ∙ s j (omega arith))
 
-module _ (b : List ℕ) (h : Book) (size : length b ≡ bookSize) (fits : Fits h) where
+module _ (b : List ℕ) (h : Record) (size : length b ≡ bookSize) (fits : Fits h) where
   abbrev seats : List ℕ
   seats = storeSeats b h
 
@@ -132,7 +132,7 @@ module _ (b : List ℕ) (h : Book) (size : length b ≡ bookSize) (fits : Fits h
       }
 
   pub record-stored : (out : List Entry) (own new : List (Item ℕ)) → meaning (recordIn (storeRecord b h)) out own new ≡ meaning h out own new
-  record-stored out own new = ap (λ (r : Book). meaning r out own new) record-back
+  record-stored out own new = ap (λ (r : Record). meaning r out own new) record-back
 
   pub side-stored : getD (storeRecord b h) sideAt 0 ≡ h .side
   side-stored = record-notes .side
@@ -185,5 +185,5 @@ module _ (b : List ℕ) (h : Book) (size : length b ≡ bookSize) (fits : Fits h
     slots = slots-kept ∙ l .slots;
   }
 
-pub layout-kept : (b : List ℕ) (h : Book) → layoutFits b ≡ true → Fits h → h .side ≤ 1 → layoutFits (storeRecord b h) ≡ true
+pub layout-kept : (b : List ℕ) (h : Record) → layoutFits b ≡ true → Fits h → h .side ≤ 1 → layoutFits (storeRecord b h) ≡ true
 layout-kept b h e fits s = let l = layout-says b e in layout-from (storeRecord b h) (layout-stored b h (l .size) fits l s)

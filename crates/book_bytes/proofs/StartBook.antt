@@ -15,7 +15,7 @@ use Rattle.views.proofs.SetLaws.{both-true}
 use Rattle.wire.proofs.TripViews.{ViewFits, AreBytes}
 use Rattle.rules.specs.Group.{fits, firstView, fresh}
 use Rattle.slots.proofs.BytesKept.{set-bytes}
-use Rattle.book_bytes.specs.declared.Book.{Book}
+use Rattle.book_bytes.specs.declared.Record.{Record}
 use Rattle.book_bytes.specs.Places.{membersAt, selfAt, carrierAt, clientAt, registeredAt, sideAt, opensAt, outgoingAt, inwardAt, bookSize}
 use Rattle.book_bytes.specs.Records.{meaning}
 use Rattle.book_bytes.specs.Books.{outgoingIn, inwardIn, bookIn}
@@ -71,7 +71,7 @@ module _ (n S p : ℕ) (b : List ℕ) (size : length b ≡ bookSize) (byte : S <
   abbrev seat : List ℕ
   seat = set (set zeros membersAt n) selfAt p
 
-  abbrev h : Book
+  abbrev h : Record
   h = freshRecord S p
 
   long : length seat ≡ bookSize

@@ -6,12 +6,19 @@ use lib.Dec.{eqb, leb}
 use lib.ListN.{length, getD}
 use Rattle.views.specs.Limits.{maxOpen, maxOutgoing, maxOrdered}
 use Rattle.rules.specs.Data as R
-use Rattle.rules.specs.Data.{Entry, Item}
+use Rattle.rules.specs.Data.{Entry, Item, Member}
 use Rattle.rules.specs.Sound.{conditions}
 use Rattle.rules.specs.Alone.{bookSound}
 use Rattle.slots.specs.Slots.{queueIn, itemsIn, slotsFit}
-use Rattle.book_bytes.specs.Places.{membersAt, carrierAt, clientAt, registeredAt, sideAt, opensAt, outgoingAt, inwardAt, bookSize}
+use Rattle.book_bytes.specs.Places.{membersAt, carrierAt, clientAt, registeredAt, sideAt, opensAt, outgoingAt, inwardAt, bookSize, selfAt}
 use Rattle.book_bytes.specs.Records.{recordIn, meaning}
+
+-- the number of members, and the member's own number
+abbrev pub membersIn : List ℕ → ℕ
+membersIn b = getD b membersAt 0
+
+abbrev pub selfIn : List ℕ → Member
+selfIn b = getD b selfAt 0
 
 abbrev pub outgoingIn : List ℕ → List Entry
 outgoingIn b = queueIn b outgoingAt (outgoingAt + 1)

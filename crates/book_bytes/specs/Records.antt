@@ -15,7 +15,7 @@ use Rattle.wire.specs.Writer.{storeView, storeViews}
 use Rattle.rules.specs.Data as R
 use Rattle.rules.specs.Data.{Entry, Item}
 use Rattle.book_bytes.specs.declared.Seat.{Seat}
-use Rattle.book_bytes.specs.declared.Book.{Book}
+use Rattle.book_bytes.specs.declared.Record.{Record}
 use Rattle.book_bytes.specs.Places.{settledAt, carrierAt, clientAt, registeredAt, handedAt, toldAt, reportedAt, takenAt, infosAt, registrationsAt, toldsAt, sideAt, opensAt}
 
 -- ---- which book it is
@@ -24,7 +24,7 @@ abbrev pub seated : Seat → Option View
 seated s = cond (s .there) (some (s .view)) none
 
 -- with the outgoing queue, the client view's inward list, and that of a carrier view not attempted
-abbrev pub meaning : Book → List Entry → List (Item ℕ) → List (Item ℕ) → R.Book
+abbrev pub meaning : Record → List Entry → List (Item ℕ) → List (Item ℕ) → R.Book
 meaning h out own new = record {
   held = record { settled = h .settled; opens = listOf (h .opens) };
   carrier = record { view = seated (h .carrier); infos = has (h .infos); registrations = has (h .registrations); tolds = λ q. getD (h .tolds) q 0; taken = h .taken .0; inward = new };
@@ -40,7 +40,7 @@ flagIn b at = eqb (getD b at 0) 1
 abbrev pub seatIn : List ℕ → ℕ → Seat
 seatIn b at = record { there = flagIn b at; view = viewIn b (at + 1) }
 
-unfoldable pub recordIn : List ℕ → Book
+unfoldable pub recordIn : List ℕ → Record
 recordIn b = record {
   settled = viewIn b settledAt;
   opens = placed (viewsIn b (opensAt + 1) (min (getD b opensAt 0) maxOpen));
@@ -66,18 +66,18 @@ abbrev pub storeSeat : List ℕ → ℕ → Seat → List ℕ
 storeSeat b at s = storeView (set b at (flag (s .there))) (at + 1) (s .view)
 
 -- the views, then the counts and the notes, then the open views
-unfoldable pub storeSeats : List ℕ → Book → List ℕ
+unfoldable pub storeSeats : List ℕ → Record → List ℕ
 storeSeats b h = storeSeat (storeSeat (storeView b settledAt (h .settled)) carrierAt (h .carrier)) clientAt (h .client)
 
-unfoldable pub storeCounts : List ℕ → Book → List ℕ
+unfoldable pub storeCounts : List ℕ → Record → List ℕ
 storeCounts b h =
     set (set (set (set (set b registeredAt (flag (h .registered))) handedAt (h .handed .0)) toldAt (h .told .0)) reportedAt (h .reported .0)) takenAt (h .taken .0)
 
-unfoldable pub storeNotes : List ℕ → Book → List ℕ
+unfoldable pub storeNotes : List ℕ → Record → List ℕ
 storeNotes b h = set (paste (set (set b infosAt (h .infos)) registrationsAt (h .registrations)) toldsAt (h .tolds) maxMembers) sideAt (h .side)
 
-unfoldable pub storeOpens : List ℕ → Book → List ℕ
+unfoldable pub storeOpens : List ℕ → Record → List ℕ
 storeOpens b h = storeViews (set b opensAt (h .opens .count)) (opensAt + 1) (listOf (h .opens))
 
-unfoldable pub storeRecord : List ℕ → Book → List ℕ
+unfoldable pub storeRecord : List ℕ → Record → List ℕ
 storeRecord b h = storeOpens (storeNotes (storeCounts (storeSeats b h) h) h) h

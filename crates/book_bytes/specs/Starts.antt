@@ -8,7 +8,7 @@ use Rattle.views.specs.Lists.{placed}
 use Rattle.rules.specs.Data.{Member}
 use Rattle.rules.specs.Group.{firstView}
 use Rattle.book_bytes.specs.declared.Seat.{Seat}
-use Rattle.book_bytes.specs.declared.Book.{Book}
+use Rattle.book_bytes.specs.declared.Record.{Record}
 use Rattle.book_bytes.specs.Places.{membersAt, selfAt}
 use Rattle.book_bytes.specs.Records.{storeRecord}
 
@@ -16,7 +16,7 @@ use Rattle.book_bytes.specs.Records.{storeRecord}
 abbrev pub firstSeat : ℕ → Member → Seat
 firstSeat S p = record { there = has S p; view = firstView S }
 
-abbrev pub freshRecord : ℕ → Member → Book
+abbrev pub freshRecord : ℕ → Member → Record
 freshRecord S p = record {
   settled = firstView S;
   opens = placed [];

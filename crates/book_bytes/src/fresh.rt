@@ -1,5 +1,5 @@
 // The bytes of a fresh member's book, as a start leaves them.
-use crate::Book;
+use crate::Record;
 use crate::Seat;
 use views::Member;
 use views::Position;
@@ -25,7 +25,7 @@ pub fn clear(b: &mut [u8])
 }
 
 // The record of the member `own` of a group that has the first view alone.
-pub fn record(set: u8, own: u8) -> Book
+pub fn record(set: u8, own: u8) -> Record
     ensures { λ r. ⌜ r ≡ freshRecord set own ⌝ }
 {
     let there = sets::contains(set, Member(own));
@@ -39,7 +39,7 @@ pub fn record(set: u8, own: u8) -> Book
         count: 0,
         at: [none; limits::VIEWS],
     };
-    Book {
+    Record {
         settled: view,
         opens,
         carrier: seat,

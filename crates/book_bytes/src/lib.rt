@@ -20,7 +20,7 @@ pub struct Seat {
 }
 
 // The small record of a book: what is held, the carrier and the client view with what is noted and counted in them.
-pub struct Book {
+pub struct Record {
     pub settled: View,
     pub opens: Views,
     pub carrier: Seat,
@@ -108,7 +108,7 @@ pub fn load_tolds(b: &[u8]) -> [u8; 8]
 }
 
 // The small record.
-pub fn load(b: &[u8]) -> Book
+pub fn load(b: &[u8]) -> Record
     requires { ⌜ bookSize ≤ length (now b) ⌝ }
     ensures { λ r. ⌜ r ≡ recordIn (now (b .entry)) ⌝ }
 {
@@ -123,7 +123,7 @@ pub fn load(b: &[u8]) -> Book
     let carrier = load_seat(b, CARRIER);
     let client = load_seat(b, CLIENT);
     let tolds = load_tolds(b);
-    Book {
+    Record {
         settled,
         opens,
         carrier,
@@ -156,7 +156,7 @@ pub fn store_seat(b: &mut [u8], at: usize, seat: Seat)
     wire::writer::store_view(b, at + 1, seat.view);
 }
 
-fn store_seats(b: &mut [u8], h: Book)
+fn store_seats(b: &mut [u8], h: Record)
     requires { ⌜ bookSize ≤ length (now b) ⌝ }
     ensures { λ _. ⌜ now (b .exit) ≡ storeSeats (now (b .entry)) h ⌝ }
 {
@@ -167,7 +167,7 @@ fn store_seats(b: &mut [u8], h: Book)
     store_seat(b, CLIENT, client);
 }
 
-fn store_counts(b: &mut [u8], h: Book)
+fn store_counts(b: &mut [u8], h: Record)
     requires { ⌜ bookSize ≤ length (now b) ⌝ }
     ensures { λ _. ⌜ now (b .exit) ≡ storeCounts (now (b .entry)) h ⌝ }
 {
@@ -178,7 +178,7 @@ fn store_counts(b: &mut [u8], h: Book)
     b[TAKEN] = h.taken.0;
 }
 
-fn store_notes(b: &mut [u8], h: Book)
+fn store_notes(b: &mut [u8], h: Record)
     requires { ⌜ bookSize ≤ length (now b) ⌝ }
     ensures { λ _. ⌜ now (b .exit) ≡ storeNotes (now (b .entry)) h ⌝ }
 {
@@ -193,7 +193,7 @@ fn store_notes(b: &mut [u8], h: Book)
     b[SIDE] = h.side;
 }
 
-fn store_opens(b: &mut [u8], h: Book)
+fn store_opens(b: &mut [u8], h: Record)
     requires { ⌜ (bookSize ≤ length (now b)) × (h .opens .count ≤ maxOpen) ⌝ }
     ensures { λ _. ⌜ now (b .exit) ≡ storeOpens (now (b .entry)) h ⌝ }
 {
@@ -204,7 +204,7 @@ fn store_opens(b: &mut [u8], h: Book)
 }
 
 // The small record is stored; the queues stay as they are.
-pub fn store(b: &mut [u8], h: Book)
+pub fn store(b: &mut [u8], h: Record)
     requires { ⌜ (bookSize ≤ length (now b)) × (h .opens .count ≤ maxOpen) ⌝ }
     ensures { λ _. ⌜ now (b .exit) ≡ storeRecord (now (b .entry)) h ⌝ }
 {

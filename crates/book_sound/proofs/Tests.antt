@@ -19,7 +19,7 @@ use Rattle.rules.specs.Member.{every, all}
 use Rattle.rules.specs.Sound.{conditions, setFits}
 use Rattle.rules.specs.Alone.{limitIf, setFitsIf}
 use Rattle.book_bytes.specs.declared.Seat.{Seat}
-use Rattle.book_bytes.specs.declared.Book.{Book}
+use Rattle.book_bytes.specs.declared.Record.{Record}
 use Rattle.wire.specs.Reader.{viewIn, viewsIn}
 use Rattle.wire.proofs.ReaderLaws.{list-viewsIn}
 use Rattle.book_bytes.specs.Places.{settledAt, carrierAt, clientAt, opensAt}
@@ -51,7 +51,7 @@ record-order true true true true true true true true s v w x = refl
 -- ---- over records
 
 -- the carrier view and the client view, as they were loaded, and the limit of the position
-module _ (h : Book) (own new : ℕ) (carrier client : Seat) (ec : carrier ≡ h .carrier) (ed : client ≡ h .client) (l : ℕ) (e : l ≡ limitIf (seated carrier) maxOrdered) where
+module _ (h : Record) (own new : ℕ) (carrier client : Seat) (ec : carrier ≡ h .carrier) (ed : client ≡ h .client) (l : ℕ) (e : l ≡ limitIf (seated carrier) maxOrdered) where
   pub taken-over : l < h .taken .0 → takenFits h own new ≡ false
   unfolding takenFits
   taken-over i = stopped _ 0 (rw (← ec, ← e) (lt-leb _ _ i))
@@ -61,19 +61,19 @@ module _ (h : Book) (own new : ℕ) (carrier client : Seat) (ec : carrier ≡ h 
   unfolding takenFits conditions
   taken-within s k m i f g j = rw (← ec, ← ed, ← f, g, ← e, le-leb _ _ i, both-unit, j)
 
-pub positions-are : (h : Book) (own : ℕ) (client : Seat) (l : ℕ) → client ≡ h .client → l ≡ limitIf (seated client) own
+pub positions-are : (h : Record) (own : ℕ) (client : Seat) (l : ℕ) → client ≡ h .client → l ≡ limitIf (seated client) own
     → positionsFit h own ≡ both (leb (h .handed .0) l) (both (leb (h .told .0) l) (leb (h .reported .0) l))
 unfolding positionsFit
 positions-are h own client l d e = rw (← d, e) (three _ _ _)
 
-views-are : (n : ℕ) (h : Book) → viewsSound n h ≡ both (setFits n (h .settled)) (both (all (setFits n) (listOf (h .opens)))
+views-are : (n : ℕ) (h : Record) → viewsSound n h ≡ both (setFits n (h .settled)) (both (all (setFits n) (listOf (h .opens)))
     (both (setFitsIf n (seated (h .carrier))) (both (setFitsIf n (seated (h .client))) (risesAbove (idOf (h .settled)) (listOf (h .opens))))))
 unfolding viewsSound all
 views-are n h =
     views-order (setFits n (h .settled)) (all (setFits n) (listOf (h .opens))) (setFitsIf n (seated (h .carrier))) (setFitsIf n (seated (h .client)))
     (risesAbove (idOf (h .settled)) (listOf (h .opens)))
 
-pub record-are : (n : ℕ) (h : Book) (own new : ℕ) → recordSound n h own new ≡ both (leb 1 n) (both (leb n maxMembers)
+pub record-are : (n : ℕ) (h : Record) (own new : ℕ) → recordSound n h own new ≡ both (leb 1 n) (both (leb n maxMembers)
     (both (every n (λ q. leb (getD (h .tolds) q 0) maxOrdered)) (both (takenFits h own new) (both (positionsFit h own) (viewsSound n h)))))
 unfolding recordSound takenFits positionsFit viewsSound
 record-are n h own new =

@@ -22,7 +22,7 @@ use Rattle.rules.specs.Sound.{conditions, countFits, limitAt, bookCounts, opens
 use Rattle.rules.specs.Alone.{limitIf, setsFit, bookSound}
 use Rattle.rules.proofs.TestLaws.{_and_, both-from, conditions-say, conditions-from, all-at, all-from}
 use Rattle.slots.proofs.Lists.{length-entries, length-items}
-use Rattle.book_bytes.specs.declared.Book.{Book}
+use Rattle.book_bytes.specs.declared.Record.{Record}
 use Rattle.book_bytes.specs.Places.{membersAt, sideAt, opensAt, outgoingAt, inwardAt}
 use Rattle.book_bytes.specs.Records.{seated, meaning, recordIn}
 use Rattle.book_bytes.specs.Books.{outgoingIn, inwardIn, bookIn, layoutFits, bytesSound}
@@ -62,7 +62,7 @@ length-cond false l m = refl
 
 -- ---- a book, of a small record and queues within their limits
 
-module _ (n : ℕ) (h : Book) (out : List Entry) (own new : List (Item ℕ))
+module _ (n : ℕ) (h : Record) (out : List Entry) (own new : List (Item ℕ))
     (opens-few : length (listOf (h .opens)) ≤ maxOpen) (out-few : length out ≤ maxOutgoing) (own-few : length own ≤ maxOrdered) (new-few : length new ≤ maxOrdered) where
   abbrev same : Bool
   same = eqb (rank (seated (h .client))) (rank (seated (h .carrier)))

@@ -11,13 +11,13 @@ use Rattle.rules.specs.Member.{every, all}
 use Rattle.rules.specs.Sound.{within, conditions, setFits, itemFromMember}
 use Rattle.rules.specs.Alone.{limitIf, setFitsIf}
 use Rattle.book_sound.specs.EntryParts.{entrySound}
-use Rattle.book_bytes.specs.declared.Book.{Book}
+use Rattle.book_bytes.specs.declared.Record.{Record}
 use Rattle.book_bytes.specs.Records.{seated}
 use Rattle.book_bytes.specs.Places.{carrierAt, clientAt, registeredAt, sideAt, opensAt, outgoingAt, inwardAt}
 use Rattle.book_bytes.specs.Books.{outgoingIn, inwardIn}
 
 -- a record of n members, with so many items in the client view's inward list and in that of a carrier view not attempted
-unfoldable pub recordSound : ℕ → Book → ℕ → ℕ → Bool
+unfoldable pub recordSound : ℕ → Record → ℕ → ℕ → Bool
 recordSound n h own new = conditions (
     within 1 n maxMembers
     ∷ every n (λ q. leb (getD (h .tolds) q 0) maxOrdered)
@@ -33,14 +33,14 @@ recordSound n h own new = conditions (
     ∷ [])
 
 -- what is asked of the position in the carrier view's order
-unfoldable pub takenFits : Book → ℕ → ℕ → Bool
+unfoldable pub takenFits : Record → ℕ → ℕ → Bool
 takenFits h own new = conditions (
     leb (h .taken .0) (limitIf (seated (h .carrier)) maxOrdered)
     ∷ leb (limitIf (seated (h .carrier)) (cond (eqb (rank (seated (h .client))) (rank (seated (h .carrier)))) own new)) (h .taken .0)
     ∷ [])
 
 -- of the positions in the client view's inward list
-unfoldable pub positionsFit : Book → ℕ → Bool
+unfoldable pub positionsFit : Record → ℕ → Bool
 positionsFit h own = conditions (
     leb (h .handed .0) (limitIf (seated (h .client)) own)
     ∷ leb (h .told .0) (limitIf (seated (h .client)) own)
@@ -48,7 +48,7 @@ positionsFit h own = conditions (
     ∷ [])
 
 -- of the views
-unfoldable pub viewsSound : ℕ → Book → Bool
+unfoldable pub viewsSound : ℕ → Record → Bool
 viewsSound n h = conditions (
     all (setFits n) (h .settled ∷ listOf (h .opens))
     ∷ setFitsIf n (seated (h .carrier))

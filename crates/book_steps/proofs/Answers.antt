@@ -6,16 +6,16 @@ use lib.ListN.{getD}
 use Rattle.views.specs.declared.refusal.Verdict.{Verdict}
 use Rattle.views.specs.declared.refusal.Verdict.the-variants.{Accepted, Refused}
 use Rattle.views.specs.Limits.{maxOpen}
+use Rattle.views.specs.Refusals.{left}
 use Rattle.rules.specs.Data.{Result}
 use Rattle.rules.specs.Member.{Done}
 use Rattle.rules.proofs.Holding.{Holds}
-use Rattle.book_bytes.specs.declared.Book.{Book}
+use Rattle.book_bytes.specs.declared.Record.{Record}
 use Rattle.book_bytes.specs.Places.{takenAt, sideAt}
 use Rattle.book_bytes.specs.Records.{recordIn}
-use Rattle.record_steps.specs.Turns.{verdictOf}
 use Rattle.events.specs.declared.Event.{Event}
 use Rattle.events.specs.declared.Reply.{Reply}
-use Rattle.events.specs.Replies.{noEvent, eventOf, replied, replyOf, left}
+use Rattle.events.specs.Replies.{noEvent, eventOf, replied, replyOf, verdictOf}
 use Rattle.book_steps.proofs.Committed.{record-few, answered}
 
 -- ---- a step without an event
@@ -49,9 +49,9 @@ taken-in : (b : List ℕ) → recordIn b .taken .0 ≡ getD b takenAt 0
 unfolding recordIn
 taken-in b = refl
 
-module _ (b : List ℕ) (h : Book) (loaded : h ≡ recordIn b) where
+module _ (b : List ℕ) (h : Record) (loaded : h ≡ recordIn b) where
   pub loaded-few : h .opens .count ≤ maxOpen
   loaded-few = rw loaded (record-few b)
 
   pub loaded-taken : h .taken .0 ≡ getD b takenAt 0
-  loaded-taken = ap (λ (z : Book). z .taken .0) loaded ∙ taken-in b
+  loaded-taken = ap (λ (z : Record). z .taken .0) loaded ∙ taken-in b

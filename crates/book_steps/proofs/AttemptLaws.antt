@@ -21,23 +21,24 @@ use Rattle.views.specs.Sets.{one}
 use Rattle.views.specs.Lists.{idOf, listOf, placed, insertOf}
 use Rattle.views.proofs.ListLaws.{insert-union, length-union}
 use Rattle.views.proofs.PlaceLaws.{list-placed}
+use Rattle.views.specs.Refusals.{left}
 use Rattle.wire.specs.Reader.{viewsIn}
 use Rattle.wire.proofs.ReaderLaws.{length-viewsIn}
 use Rattle.rules.specs.Data.{Book as Ruled, Member, Result, refused, accepted, need, after}
 use Rattle.rules.specs.Member.{Done, attempts}
 use Rattle.rules.proofs.Holding.{Holds, gives, given, need-holds, view-holds, after-holds}
-use Rattle.book_bytes.specs.declared.Book.{Book}
+use Rattle.book_bytes.specs.declared.Record.{Record}
 use Rattle.book_bytes.specs.Places.{sideAt, opensAt, inwardAt, bookSize}
 use Rattle.book_bytes.specs.Records.{recordIn, storeRecord}
-use Rattle.book_bytes.specs.Books.{outgoingIn, inwardIn, bookIn}
+use Rattle.book_bytes.specs.Books.{outgoingIn, inwardIn, bookIn, membersIn, selfIn}
 use Rattle.record_steps.specs.declared.Stepped.{Stepped}
-use Rattle.record_steps.specs.Turns.{verdictOf, stepped, openedTo, attemptedAt, attemptTurn}
+use Rattle.record_steps.specs.Turns.{stepped, openedTo, attemptedAt, attemptTurn}
 use Rattle.record_steps.proofs.MeaningVerdicts.{attempt-verdict}
 use Rattle.record_steps.proofs.MeaningMarks.{seated-view, attempt-leaves}
 use Rattle.events.specs.declared.Event.{Event}
 use Rattle.events.specs.declared.Reply.{Reply}
-use Rattle.events.specs.Replies.{noEvent, eventOf, happened, replied, replyOf, left}
-use Rattle.book_steps.specs.Acts.{membersIn, selfIn, fewOpen, attemptBytes}
+use Rattle.events.specs.Replies.{noEvent, eventOf, happened, replied, replyOf, verdictOf}
+use Rattle.book_steps.specs.Acts.{fewOpen, attemptBytes}
 use Rattle.book_steps.specs.Parts.{attemptEvent, fewIf, fewStepped}
 use Rattle.book_steps.proofs.Committed.{stepped-verdict, refused-by, accepted-by}
 
@@ -48,7 +49,7 @@ emptied-size b c k e n = rw (e, length-set b k 0, n) (omega arith)
 
 -- ---- the test of 43 on a turned record
 
-module _ (s : Stepped) (h : Book) where
+module _ (s : Stepped) (h : Record) where
   pub few-refused : (r : Refusal) → s .verdict ≡ Refused r → s ≡ fewStepped s h
   unfolding fewIf
   few-refused r e = rw e
@@ -62,7 +63,7 @@ module _ (s : Stepped) (h : Book) where
   few-kept e o = rw (e, le-leb _ _ o)
 
 -- what is accepted passed it
-pub few-accepted : (s : Stepped) (h : Book) (x : Stepped) → x ≡ fewStepped s h → x .verdict ≡ Accepted → x .book .opens .count ≤ maxOpen
+pub few-accepted : (s : Stepped) (h : Record) (x : Stepped) → x ≡ fewStepped s h → x .verdict ≡ Accepted → x .book .opens .count ≤ maxOpen
 few-accepted s h x e v = by-verdict (s .verdict) refl
   where
     by-verdict : (w : Verdict) → s .verdict ≡ w → x .book .opens .count ≤ maxOpen
@@ -103,10 +104,10 @@ module _ (b : List ℕ) where
   abbrev p : Member
   p = selfIn b
 
-  abbrev h : Book
+  abbrev h : Record
   h = recordIn b
 
-  abbrev next : Book
+  abbrev next : Record
   next = attemptedAt (h .carrier .view) h
 
   abbrev rule : Result Done
@@ -160,12 +161,12 @@ module _ (b : List ℕ) where
 
 -- ---- what the code has at hand
 
-module _ (b : List ℕ) (h : Book) (loaded : h ≡ recordIn b) (t : Stepped) (i : t ≡ attemptTurn (membersIn b) h) (s : Stepped) (e : s ≡ fewStepped t h) where
+module _ (b : List ℕ) (h : Record) (loaded : h ≡ recordIn b) (t : Stepped) (i : t ≡ attemptTurn (membersIn b) h) (s : Stepped) (e : s ≡ fewStepped t h) where
   abbrev rule' : Result Done
   rule' = fewOpen (attempts one (membersIn b) (selfIn b) (bookIn b))
 
   turned : s ≡ stepped (verdictOf rule') (attemptedAt (recordIn b .carrier .view) (recordIn b)) (recordIn b)
-  turned = e ∙ ap (λ (z : Stepped). fewStepped z h) i ∙ ap (λ (z : Book). fewStepped (attemptTurn (membersIn b) z) z) loaded ∙ attempt-turned b
+  turned = e ∙ ap (λ (z : Stepped). fewStepped z h) i ∙ ap (λ (z : Record). fewStepped (attemptTurn (membersIn b) z) z) loaded ∙ attempt-turned b
 
   ruled : s .verdict ≡ verdictOf rule'
   ruled = ap (λ (z : Stepped). z .verdict) turned ∙ stepped-verdict (verdictOf rule') _ _
@@ -190,6 +191,6 @@ module _ (b : List ℕ) (h : Book) (loaded : h ≡ recordIn b) (t : Stepped) (i 
   unfolding attemptBytes recordIn
   attempt-accepted v ev g y c l k =
       accepted-by rule' (attemptBytes b) b ev y (sym ruled ∙ v)
-      (rw (g ∙ ap (λ (z : Book). attemptEvent z (selfIn b)) loaded) (attempt-event b))
-      (k ∙ ap (λ (z : List ℕ). storeRecord z (s .book)) (l ∙ ap (λ (z : Book). set b (inwardAt (z .side)) 0) loaded)
-      ∙ ap (λ (z : Book). storeRecord (set b (inwardAt (getD b sideAt 0)) 0) z) (next-is v))
+      (rw (g ∙ ap (λ (z : Record). attemptEvent z (selfIn b)) loaded) (attempt-event b))
+      (k ∙ ap (λ (z : List ℕ). storeRecord z (s .book)) (l ∙ ap (λ (z : Record). set b (inwardAt (z .side)) 0) loaded)
+      ∙ ap (λ (z : Record). storeRecord (set b (inwardAt (getD b sideAt 0)) 0) z) (next-is v))

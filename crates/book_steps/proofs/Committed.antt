@@ -11,22 +11,23 @@ use Rattle.views.specs.declared.refusal.Refusal.{Refusal}
 use Rattle.views.specs.declared.refusal.Verdict.{Verdict}
 use Rattle.views.specs.declared.refusal.Verdict.the-variants.{Accepted, Refused}
 use Rattle.views.specs.Limits.{maxOpen, maxOutgoing}
+use Rattle.views.specs.Refusals.{left}
 use Rattle.wire.proofs.ReaderLaws.{length-viewsIn}
 use Rattle.rules.specs.Data.{Member, Result, refused, accepted, Book as Ruled}
 use Rattle.rules.specs.Member.{Done, clientIsCarrier, hasRoom, registers, sends, tells}
 use Rattle.rules.proofs.TestLaws.{conditions-say}
 use Rattle.rules.proofs.Holding.{Holds, refuses, gives, given, need-holds, view-holds}
-use Rattle.book_bytes.specs.declared.Book.{Book}
+use Rattle.book_bytes.specs.declared.Record.{Record}
 use Rattle.book_bytes.specs.Places.{opensAt, bookSize}
 use Rattle.book_bytes.specs.Records.{recordIn, storeRecord}
 use Rattle.book_bytes.specs.Books.{bookIn, bytesSound}
 use Rattle.book_bytes.proofs.LayoutLaws.{Layout, layout-says}
 use Rattle.record_steps.specs.declared.Stepped.{Stepped}
-use Rattle.record_steps.specs.Turns.{verdictOf, stepped}
+use Rattle.record_steps.specs.Turns.{stepped}
 use Rattle.events.specs.declared.Event.{Event}
 use Rattle.events.specs.declared.Reply.{Reply}
 use Rattle.book_steps.specs.declared.Said.{Said}
-use Rattle.events.specs.Replies.{noEvent, eventOf, replied, replyOf, left}
+use Rattle.events.specs.Replies.{noEvent, eventOf, replied, replyOf, verdictOf}
 use Rattle.book_steps.specs.Parts.{saidBytes}
 
 -- ---- a sound book's bytes
@@ -38,7 +39,7 @@ sound-layout b h = let (fits, _) = conditions-say _ h in layout-says b fits
 pub sound-size : (b : List ℕ) → bytesSound b ≡ true → length b ≡ bookSize
 sound-size b h = sound-layout b h .size
 
-pub loaded-side : (b : List ℕ) → bytesSound b ≡ true → (h : Book) → h ≡ recordIn b → h .side ≤ 1
+pub loaded-side : (b : List ℕ) → bytesSound b ≡ true → (h : Record) → h ≡ recordIn b → h .side ≤ 1
 unfolding recordIn
 loaded-side b sound h e = rw e (sound-layout b sound .side)
 
@@ -58,13 +59,13 @@ pub accepted-holds : {A : Type 0} {P : A → Type 0} (r : Result A) → Holds P 
 accepted-holds (refused r) h e = let z : _≡_ {A = ℕ} 0 1 = cc in absurd (omega arith)
 accepted-holds (accepted x) h e = (x, given h)
 
-pub stepped-verdict : (v : Verdict) (new old : Book) → stepped v new old .verdict ≡ v
+pub stepped-verdict : (v : Verdict) (new old : Record) → stepped v new old .verdict ≡ v
 unfolding stepped
 stepped-verdict Accepted new old = refl
 stepped-verdict (Refused r) new old = refl
 
 -- what both records have, the record after the step has
-pub stepped-few : (v : Verdict) (new old : Book) → new .opens .count ≤ maxOpen → old .opens .count ≤ maxOpen → stepped v new old .book .opens .count ≤ maxOpen
+pub stepped-few : (v : Verdict) (new old : Record) → new .opens .count ≤ maxOpen → old .opens .count ≤ maxOpen → stepped v new old .book .opens .count ≤ maxOpen
 unfolding stepped
 stepped-few Accepted new old f g = f
 stepped-few (Refused r) new old f g = g
@@ -74,7 +75,7 @@ pub commit-refused : (v : Verdict) (x : Refusal) (e : Event) (r : Reply) (d b : 
 unfolding replied left
 commit-refused v x e r d b t h = rw t (h, refl)
 
-pub commit-accepted : (v : Verdict) (e : Event) (h : Book) (m : Said) (c y b : List ℕ) → v ≡ Accepted → c ≡ saidBytes m b → y ≡ storeRecord c h
+pub commit-accepted : (v : Verdict) (e : Event) (h : Record) (m : Said) (c y b : List ℕ) → v ≡ Accepted → c ≡ saidBytes m b → y ≡ storeRecord c h
     → (record { verdict = Accepted; event = e } ≡ replied v e) × (y ≡ left v (storeRecord (saidBytes m b) h) b)
 unfolding replied left
 commit-accepted v e h m c y b t f g = rw t (refl, g ∙ ap (λ (x : List ℕ). storeRecord x h) f)
@@ -98,14 +99,14 @@ unfolding left
 accepted-by (refused z) d b e y v h k = let i : _≡_ {A = ℕ} 0 1 = cc in absurd (omega arith)
 accepted-by (accepted z) d b e y v h k = (rw (given h), k)
 
-stored-by : (r : Result Done) (new old : Book) (c b d : List ℕ) → storeRecord c new ≡ d
+stored-by : (r : Result Done) (new old : Record) (c b d : List ℕ) → storeRecord c new ≡ d
     → left (stepped (verdictOf r) new old .verdict) (storeRecord c (stepped (verdictOf r) new old .book)) b ≡ left (verdictOf r) d b
 unfolding stepped left
 stored-by (refused x) new old c b d p = refl
 stored-by (accepted x) new old c b d p = p
 
 -- a step of the record h by the rule r, stored in the bytes c: its reply x and the bytes y, where d is what an accepted step leaves
-module _ (b : List ℕ) (h : Book) (loaded : h ≡ recordIn b) (r : Result Done) (new : Book → Book) (event : Book → Event) (c d : List ℕ) where
+module _ (b : List ℕ) (h : Record) (loaded : h ≡ recordIn b) (r : Result Done) (new : Record → Record) (event : Record → Event) (c d : List ℕ) where
   pub committed : (s : Stepped) → s ≡ stepped (verdictOf r) (new (recordIn b)) (recordIn b)
       → (e : Event) → e ≡ event h
       → Holds (λ (x : Done). eventOf (x .answer) ≡ event (recordIn b)) r

@@ -11,20 +11,21 @@ use Rattle.views.specs.declared.refusal.Verdict.the-variants.{Accepted}
 use Rattle.views.specs.Limits.{maxViews, maxOpen}
 use Rattle.views.specs.Lists.{listOf, placed}
 use Rattle.views.proofs.PlaceLaws.{list-placed}
+use Rattle.views.specs.Refusals.{left}
 use Rattle.rules.specs.Data.{Member, Book as Ruled}
 use Rattle.rules.specs.Member.{Done, joins}
 use Rattle.rules.proofs.Holding.{Holds, gives, need-holds}
 use Rattle.slots.specs.Changes.{storeInfo}
-use Rattle.book_bytes.specs.declared.Book.{Book}
+use Rattle.book_bytes.specs.declared.Record.{Record}
 use Rattle.book_bytes.specs.Places.{sideAt, outgoingAt, inwardAt}
 use Rattle.book_bytes.specs.Records.{recordIn, storeRecord}
-use Rattle.book_bytes.specs.Books.{outgoingIn, inwardIn, bookIn}
+use Rattle.book_bytes.specs.Books.{outgoingIn, inwardIn, bookIn, selfIn}
 use Rattle.record_steps.specs.declared.Stepped.{Stepped}
-use Rattle.record_steps.specs.Turns.{verdictOf, stepped, joinedTo, joinTurn}
+use Rattle.record_steps.specs.Turns.{stepped, joinedTo, joinTurn}
 use Rattle.record_steps.proofs.MeaningVerdicts.{join-verdict}
 use Rattle.events.specs.declared.Reply.{Reply}
-use Rattle.events.specs.Replies.{noEvent, eventOf, replied, replyOf, left}
-use Rattle.book_steps.specs.Acts.{selfIn, joinBytes}
+use Rattle.events.specs.Replies.{noEvent, eventOf, replied, replyOf, verdictOf}
+use Rattle.book_steps.specs.Acts.{joinBytes}
 use Rattle.book_steps.proofs.Committed.{record-few, stepped-verdict, stepped-few}
 use Rattle.book_steps.specs.ArrivalParts.{announced}
 use Rattle.book_steps.proofs.Answers.{quiet-by, side-in}
@@ -39,7 +40,7 @@ info-list : (s : View) (o l : Views) → o .count ≤ maxOpen → l ≡ placed (
 info-list s o l h e = ap listOf e ∙ list-placed (s ∷ listOf o) (omega (arith, length-take (o .count) (o .at)))
 
 -- the inward list goes, the info stands in the first slot, and it is the only one
-pub announce-done : (b : List ℕ) (p : Member) (h : Book) (at : ℕ) (l : Views) (c : List ℕ) → h .opens .count ≤ maxOpen → at ≡ inwardAt (1 - h .side)
+pub announce-done : (b : List ℕ) (p : Member) (h : Record) (at : ℕ) (l : Views) (c : List ℕ) → h .opens .count ≤ maxOpen → at ≡ inwardAt (1 - h .side)
     → l ≡ placed (h .settled ∷ listOf (h .opens)) → c ≡ storeInfo (set b at 0) (outgoingAt + 1) p (listOf l) → set c outgoingAt 1 ≡ announced p h b
 unfolding announced
 announce-done b p h at l c few e f g = rw (g, e, info-list (h .settled) (h .opens) l few f)
@@ -47,7 +48,7 @@ announce-done b p h at l c few e f g = rw (g, e, info-list (h .settled) (h .open
 -- ---- the turn and the rule
 
 -- an accepted turn leaves the new record
-stepped-new : (v : Verdict) (new old : Book) → v ≡ Accepted → stepped v new old .book ≡ new
+stepped-new : (v : Verdict) (new old : Record) → v ≡ Accepted → stepped v new old .book ≡ new
 unfolding stepped
 stepped-new v new old e = rw e
 
@@ -64,7 +65,7 @@ joined-bytes : (b : List ℕ) (v : View) → storeRecord (announced (selfIn b) (
 unfolding joinBytes announced
 joined-bytes b v = rw (side-in b)
 
-module _ (b : List ℕ) (h : Book) (loaded : h ≡ recordIn b) (v : View) (s : Stepped) (e : s ≡ joinTurn (selfIn b) v h) where
+module _ (b : List ℕ) (h : Record) (loaded : h ≡ recordIn b) (v : View) (s : Stepped) (e : s ≡ joinTurn (selfIn b) v h) where
   abbrev p : Member
   p = selfIn b
 

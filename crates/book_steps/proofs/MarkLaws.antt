@@ -12,31 +12,32 @@ use Rattle.views.specs.declared.refusal.Verdict.{Verdict}
 use Rattle.views.specs.Limits.{maxOpen}
 use Rattle.views.specs.Lists.{idOf, listOf}
 use Rattle.views.proofs.ListLaws.{length-above}
+use Rattle.views.specs.Refusals.{left}
 use Rattle.rules.specs.Data.{Member, Item, item, hand, safe, event}
-use Rattle.rules.specs.Member.{Done, hands, reports, collects}
+use Rattle.rules.specs.Member.{Done, hands, safes, collects}
 use Rattle.rules.proofs.Holding.{Holds, gives, need-holds, view-holds, first-holds}
 use Rattle.slots.specs.Slots.{itemSize, itemIn}
-use Rattle.book_bytes.specs.declared.Book.{Book}
+use Rattle.book_bytes.specs.declared.Record.{Record}
 use Rattle.book_bytes.specs.Places.{sideAt, inwardAt}
 use Rattle.book_bytes.specs.Records.{recordIn, storeRecord}
-use Rattle.book_bytes.specs.Books.{outgoingIn, inwardIn, bookIn, bytesSound}
+use Rattle.book_bytes.specs.Books.{outgoingIn, inwardIn, bookIn, bytesSound, membersIn, selfIn}
 use Rattle.book_bytes.proofs.Behind.{inward-few}
 use Rattle.book_bytes.proofs.InwardBooks.{length-inward, items-at}
 use Rattle.record_steps.specs.declared.Stepped.{Stepped}
-use Rattle.record_steps.specs.Turns.{verdictOf, stepped, bookOf, settledAs, handTurn, safeTurn, collectTurn}
+use Rattle.record_steps.specs.Turns.{stepped, bookOf, settledAs, handTurn, safeTurn, collectTurn}
 use Rattle.record_steps.proofs.MeaningVerdicts.{hand-verdict, safe-verdict, collect-verdict}
 use Rattle.record_steps.proofs.MeaningMarks.{seated-view, handedNow, reportedNow}
 use Rattle.events.specs.declared.Event.{Event}
 use Rattle.events.specs.declared.Reply.{Reply}
-use Rattle.events.specs.Replies.{noEvent, eventOf, outwardOf, happened, named, replied, replyOf, left}
-use Rattle.book_steps.specs.Acts.{membersIn, selfIn, handBytes, safeBytes, collectBytes}
+use Rattle.events.specs.Replies.{noEvent, eventOf, outwardOf, happened, named, replied, replyOf, verdictOf}
+use Rattle.book_steps.specs.Acts.{handBytes, safeBytes, collectBytes}
 use Rattle.book_steps.specs.Parts.{itemEvent}
 use Rattle.book_steps.proofs.Committed.{sound-layout, loaded-side, record-few, stepped-few, committed}
 
 -- ---- the inward list of the client view
 
 module _ (b : List ℕ) (sound : bytesSound b ≡ true) where
-  pub inward-room : (h : Book) → h ≡ recordIn b → inwardAt (h .side) + 1 + itemSize * getD b (inwardAt (h .side)) 0 ≤ length b
+  pub inward-room : (h : Record) → h ≡ recordIn b → inwardAt (h .side) + 1 + itemSize * getD b (inwardAt (h .side)) 0 ≤ length b
   inward-room h e =
       let l = sound-layout b sound in
       let s = loaded-side b sound h e in
@@ -53,7 +54,7 @@ first-of-front (suc j) (suc n) (y ∷ l) x rest e = first-of-front j n l x rest 
 
 -- ---- the event of an item
 
-module _ (b : List ℕ) (h : Book) (k j : ℕ) (x : Item ℕ) (rest : List (Item ℕ)) (e : drop j (inwardIn b k) ≡ x ∷ rest) where
+module _ (b : List ℕ) (h : Record) (k j : ℕ) (x : Item ℕ) (rest : List (Item ℕ)) (e : drop j (inwardIn b k) ≡ x ∷ rest) where
   item-there : j < getD b (inwardAt k) 0
   item-there =
       let n : length (drop j (inwardIn b k)) ≡ suc (length rest) = ap length e in
@@ -71,7 +72,7 @@ module _ (b : List ℕ) (h : Book) (k j : ℕ) (x : Item ℕ) (rest : List (Item
   safe-item = rw (lt-leb _ _ item-there, item-is)
 
 -- the code's reading of it
-pub item-found : (b : List ℕ) (c k kind : ℕ) (h : Book) (y : ℕ) → k < getD b c 0 → y ≡ get b (c + 1 + itemSize * k + 1) 8
+pub item-found : (b : List ℕ) (c k kind : ℕ) (h : Record) (y : ℕ) → k < getD b c 0 → y ≡ get b (c + 1 + itemSize * k + 1) 8
     → happened kind (selfIn b) (named (idOf (h .client .view))) (getD b (c + 1 + itemSize * k) 0) y ≡ itemEvent b c k kind h
 unfolding itemEvent
 item-found b c k kind h y l e = rw (lt-leb _ _ l, e)
@@ -97,10 +98,10 @@ module _ (b : List ℕ) where
       ap (λ (k : ℕ). verdictOf (hands 0 (bookOf (recordIn b) 0 k))) (sym (length-inward b (getD b sideAt 0)))
       ∙ sym (hand-verdict (recordIn b) (outgoingIn b) own new p)
 
-  safe-rule : verdictOf (reports n 0 (bookOf (recordIn b) 0 (getD b (inwardAt (getD b sideAt 0)) 0))) ≡ verdictOf (reports n p (bookIn b))
+  safe-rule : verdictOf (safes n 0 (bookOf (recordIn b) 0 (getD b (inwardAt (getD b sideAt 0)) 0))) ≡ verdictOf (safes n p (bookIn b))
   unfolding bookIn
   safe-rule =
-      ap (λ (k : ℕ). verdictOf (reports n 0 (bookOf (recordIn b) 0 k))) (sym (length-inward b (getD b sideAt 0)))
+      ap (λ (k : ℕ). verdictOf (safes n 0 (bookOf (recordIn b) 0 k))) (sym (length-inward b (getD b sideAt 0)))
       ∙ sym (safe-verdict (recordIn b) (outgoingIn b) own new n p)
 
   collect-rule : verdictOf (collects n (bookOf (recordIn b) 0 0)) ≡ verdictOf (collects n (bookIn b))
@@ -117,8 +118,8 @@ module _ (b : List ℕ) where
       view-holds _ _ _ (λ v e. first-holds _ _ _ (λ x rest f.
       gives (ap (λ (w : View). outwardOf (hand p (idOf w) x)) (seated-view (recordIn b .client) v e) ∙ hand-item b (recordIn b) (getD b sideAt 0) (recordIn b .handed .0) x rest f)))
 
-  safe-event : Holds (λ (d : Done). eventOf (d .answer) ≡ itemEvent b at (recordIn b .reported .0) 11 (recordIn b)) (reports n p (bookIn b))
-  unfolding reports bookIn recordIn
+  safe-event : Holds (λ (d : Done). eventOf (d .answer) ≡ itemEvent b at (recordIn b .reported .0) 11 (recordIn b)) (safes n p (bookIn b))
+  unfolding safes bookIn recordIn
   safe-event =
       view-holds _ _ _ (λ v e. need-holds _ _ _ (λ t. first-holds _ _ _ (λ x rest f. need-holds _ _ _ (λ u.
       let g = first-of-front (recordIn b .reported .0) (recordIn b .handed .0) own x rest f in
@@ -135,14 +136,14 @@ settled-few b = omega (arith, length-above (idOf (recordIn b .carrier .view)) (l
 
 -- ---- what the code has at hand
 
-module _ (b : List ℕ) (h : Book) (loaded : h ≡ recordIn b) (s : Stepped) where
+module _ (b : List ℕ) (h : Record) (loaded : h ≡ recordIn b) (s : Stepped) where
   -- ---- hand
 
   module _ (e : s ≡ handTurn h (getD b (inwardAt (h .side)) 0)) where
     hand-turned : s ≡ stepped (verdictOf (hands (selfIn b) (bookIn b))) (handedNow (recordIn b)) (recordIn b)
     unfolding handTurn recordIn
     hand-turned =
-        e ∙ ap (λ (z : Book). handTurn z (getD b (inwardAt (z .side)) 0)) loaded
+        e ∙ ap (λ (z : Record). handTurn z (getD b (inwardAt (z .side)) 0)) loaded
         ∙ ap (λ (v : Verdict). stepped v (handedNow (recordIn b)) (recordIn b)) (hand-rule b)
 
     pub hand-few : s .book .opens .count ≤ maxOpen
@@ -153,27 +154,27 @@ module _ (b : List ℕ) (h : Book) (loaded : h ≡ recordIn b) (s : Stepped) whe
         → (x ≡ replyOf (hands (selfIn b) (bookIn b))) × (y ≡ left (verdictOf (hands (selfIn b) (bookIn b))) (handBytes b) b)
     unfolding handBytes
     hand-done ev g =
-        committed b h loaded (hands (selfIn b) (bookIn b)) handedNow (λ (z : Book). itemEvent b (inwardAt (z .side)) (z .handed .0) 9 z) b (handBytes b)
+        committed b h loaded (hands (selfIn b) (bookIn b)) handedNow (λ (z : Record). itemEvent b (inwardAt (z .side)) (z .handed .0) 9 z) b (handBytes b)
         s hand-turned ev g (hand-event b) refl
 
   -- ---- safe
 
   module _ (e : s ≡ safeTurn (membersIn b) h (getD b (inwardAt (h .side)) 0)) where
-    safe-turned : s ≡ stepped (verdictOf (reports (membersIn b) (selfIn b) (bookIn b))) (reportedNow (recordIn b)) (recordIn b)
+    safe-turned : s ≡ stepped (verdictOf (safes (membersIn b) (selfIn b) (bookIn b))) (reportedNow (recordIn b)) (recordIn b)
     unfolding safeTurn recordIn
     safe-turned =
-        e ∙ ap (λ (z : Book). safeTurn (membersIn b) z (getD b (inwardAt (z .side)) 0)) loaded
+        e ∙ ap (λ (z : Record). safeTurn (membersIn b) z (getD b (inwardAt (z .side)) 0)) loaded
         ∙ ap (λ (v : Verdict). stepped v (reportedNow (recordIn b)) (recordIn b)) (safe-rule b)
 
     pub safe-few : s .book .opens .count ≤ maxOpen
-    safe-few = rw safe-turned (stepped-few (verdictOf (reports (membersIn b) (selfIn b) (bookIn b))) _ _ (record-few b) (record-few b))
+    safe-few = rw safe-turned (stepped-few (verdictOf (safes (membersIn b) (selfIn b) (bookIn b))) _ _ (record-few b) (record-few b))
 
     pub safe-done : (ev : Event) → ev ≡ itemEvent b (inwardAt (h .side)) (h .reported .0) 11 h
         → (x : Reply) (y : List ℕ) → (x ≡ replied (s .verdict) ev) × (y ≡ left (s .verdict) (storeRecord b (s .book)) b)
-        → (x ≡ replyOf (reports (membersIn b) (selfIn b) (bookIn b))) × (y ≡ left (verdictOf (reports (membersIn b) (selfIn b) (bookIn b))) (safeBytes b) b)
+        → (x ≡ replyOf (safes (membersIn b) (selfIn b) (bookIn b))) × (y ≡ left (verdictOf (safes (membersIn b) (selfIn b) (bookIn b))) (safeBytes b) b)
     unfolding safeBytes
     safe-done ev g =
-        committed b h loaded (reports (membersIn b) (selfIn b) (bookIn b)) reportedNow (λ (z : Book). itemEvent b (inwardAt (z .side)) (z .reported .0) 11 z) b (safeBytes b)
+        committed b h loaded (safes (membersIn b) (selfIn b) (bookIn b)) reportedNow (λ (z : Record). itemEvent b (inwardAt (z .side)) (z .reported .0) 11 z) b (safeBytes b)
         s safe-turned ev g (safe-event b) refl
 
   -- ---- collect
@@ -182,7 +183,7 @@ module _ (b : List ℕ) (h : Book) (loaded : h ≡ recordIn b) (s : Stepped) whe
     collect-turned : s ≡ stepped (verdictOf (collects (membersIn b) (bookIn b))) (settledAs (recordIn b .carrier .view) (recordIn b)) (recordIn b)
     unfolding collectTurn
     collect-turned =
-        e ∙ ap (λ (z : Book). collectTurn (membersIn b) z) loaded
+        e ∙ ap (λ (z : Record). collectTurn (membersIn b) z) loaded
         ∙ ap (λ (v : Verdict). stepped v (settledAs (recordIn b .carrier .view) (recordIn b)) (recordIn b)) (collect-rule b)
 
     pub collect-few : s .book .opens .count ≤ maxOpen
@@ -193,5 +194,5 @@ module _ (b : List ℕ) (h : Book) (loaded : h ≡ recordIn b) (s : Stepped) whe
         → (x ≡ replyOf (collects (membersIn b) (bookIn b))) × (y ≡ left (verdictOf (collects (membersIn b) (bookIn b))) (collectBytes b) b)
     unfolding collectBytes
     collect-done ev g =
-        committed b h loaded (collects (membersIn b) (bookIn b)) (λ (z : Book). settledAs (z .carrier .view) z) (λ (z : Book). noEvent) b (collectBytes b)
+        committed b h loaded (collects (membersIn b) (bookIn b)) (λ (z : Record). settledAs (z .carrier .view) z) (λ (z : Record). noEvent) b (collectBytes b)
         s collect-turned ev g (collect-event b) refl

@@ -16,17 +16,16 @@ use Rattle.rules.proofs.Holding.{Holds, given}
 use Rattle.slots.specs.Changes.{storeMessage, pushed, popped, gained}
 use Rattle.slots.proofs.Stored.{MessageFits}
 use Rattle.slots.proofs.BytesKept.{SetsAreBytes, set-bytes, storeMessage-bytes, pushed-bytes, popped-bytes, gained-bytes}
-use Rattle.book_bytes.specs.declared.Book.{Book}
+use Rattle.book_bytes.specs.declared.Record.{Record}
 use Rattle.book_bytes.specs.Places.{sideAt, outgoingAt, inwardAt}
 use Rattle.book_bytes.specs.Records.{recordIn, meaning, storeRecord}
-use Rattle.book_bytes.specs.Books.{outgoingIn, inwardIn, bookIn, bytesSound}
+use Rattle.book_bytes.specs.Books.{outgoingIn, inwardIn, bookIn, bytesSound, membersIn, selfIn}
 use Rattle.book_bytes.proofs.LayoutLaws.{Layout}
 use Rattle.book_bytes.proofs.Fits.{Fits, record-fits}
 use Rattle.book_bytes.proofs.RecordLaws.{book-stored, layout-stored, members-kept, self-kept}
 use Rattle.book_bytes.proofs.RecordBytes.{store-bytes}
 use Rattle.book_bytes.proofs.QueueBooks.{length-outgoing, push-record, push-members, push-self, push-book, push-layout, pop-record, pop-members, pop-self, pop-book, pop-layout, one-record, one-members, one-self, one-book, one-layout}
 use Rattle.book_bytes.proofs.InwardBooks.{gain-record, gain-members, gain-self, gain-layout, gain-own, gain-new, empty-record, empty-members, empty-self, empty-layout, empty-own, empty-new}
-use Rattle.book_steps.specs.Acts.{membersIn, selfIn}
 use Rattle.book_steps.proofs.Committed.{sound-size}
 
 -- the bytes d after a step from b are the book B, in the same layout, of the same member
@@ -71,7 +70,7 @@ queues-kept b l y = record { kept = refl; means = record { book = refl; layout =
 module _ {b c : List ℕ} {out : List Entry} {own new : List (Item ℕ)} (r : Requeued b c out own new) where
   side-is : getD c sideAt 0 ≡ getD b sideAt 0
   unfolding recordIn
-  side-is = ap (λ (h : Book). h .side) (r .kept)
+  side-is = ap (λ (h : Record). h .side) (r .kept)
 
   out-is : outgoingIn c ≡ out
   unfolding bookIn
@@ -125,7 +124,7 @@ module _ {b c : List ℕ} {out : List Entry} {own new : List (Item ℕ)} (r : Re
 
   -- ---- the record stored
 
-  module _ (h : Book) (fits : Fits h) (tolds : AreBytes (h .tolds)) where
+  module _ (h : Record) (fits : Fits h) (tolds : AreBytes (h .tolds)) where
     stored : (k : ℕ) → h .side ≡ k → k ≤ 1 → (x y : List (Item ℕ)) → inwardIn c k ≡ x → inwardIn c (1 - k) ≡ y
         → Means b (storeRecord c h) (meaning h out x y)
     stored k e s x y f g =

@@ -14,17 +14,17 @@ use Rattle.rules.specs.Member.{Done, Passing, outgoes, joins, attempts, passing
 use Rattle.rules.proofs.Holding.{Holds, gives, view-holds, first-holds}
 use Rattle.slots.proofs.Stored.{MessageFits, info-fits}
 use Rattle.slots.proofs.BytesKept.{sets-fit}
-use Rattle.book_bytes.specs.declared.Book.{Book}
+use Rattle.book_bytes.specs.declared.Record.{Record}
 use Rattle.book_bytes.specs.Places.{selfAt}
 use Rattle.book_bytes.specs.Records.{recordIn, meaning}
-use Rattle.book_bytes.specs.Books.{outgoingIn, bookIn, bytesSound}
+use Rattle.book_bytes.specs.Books.{outgoingIn, bookIn, bytesSound, membersIn, selfIn}
 use Rattle.book_bytes.proofs.LayoutLaws.{Layout}
 use Rattle.book_bytes.proofs.Fits.{Fits}
 use Rattle.book_bytes.proofs.RecordBytes.{tolds-bytes}
 use Rattle.book_bytes.proofs.Blank.{zero-bytes}
 use Rattle.record_steps.specs.Turns.{joinedTo, attemptedAt}
 use Rattle.record_steps.proofs.MeaningMarks.{join-leaves, attempt-leaves}
-use Rattle.book_steps.specs.Acts.{membersIn, selfIn, joinBytes, attemptBytes, passBytes}
+use Rattle.book_steps.specs.Acts.{joinBytes, attemptBytes, passBytes}
 use Rattle.book_steps.proofs.Committed.{sound-layout}
 use Rattle.book_steps.proofs.Means.{Means, sound-fits, means-as, gave, ownIn, newIn, queues-kept, one-left, pops, stores, stores-turned, empties-own, empties-new}
 use Rattle.book_steps.proofs.TurnFits.{opens-few, opens-each, joined-fits, attempted-fits}
@@ -34,7 +34,7 @@ each-cons v l f g zero = f
 each-cons v l f g (suc j) = g j
 
 module _ (b : List ℕ) (bytes : AreBytes b) (sound : bytesSound b ≡ true) where
-  abbrev h : Book
+  abbrev h : Record
   h = recordIn b
 
   layout : Layout b

@@ -8,12 +8,12 @@ use lib.ListN.{length, getD, take, drop, length-drop, length-take}
 use Rattle.views.specs.Limits.{maxOrdered}
 use Rattle.wire.proofs.TripViews.{AreBytes}
 use Rattle.rules.specs.Data.{accepted}
-use Rattle.rules.specs.Member.{Done, hands, reports, collects}
+use Rattle.rules.specs.Member.{Done, hands, safes, collects}
 use Rattle.rules.proofs.Holding.{Holds, gives, need-holds, view-holds, first-holds}
-use Rattle.book_bytes.specs.declared.Book.{Book}
+use Rattle.book_bytes.specs.declared.Record.{Record}
 use Rattle.book_bytes.specs.Places.{sideAt}
 use Rattle.book_bytes.specs.Records.{recordIn}
-use Rattle.book_bytes.specs.Books.{outgoingIn, bookIn, bytesSound}
+use Rattle.book_bytes.specs.Books.{outgoingIn, bookIn, bytesSound, membersIn, selfIn}
 use Rattle.book_bytes.proofs.LayoutLaws.{Layout}
 use Rattle.book_bytes.proofs.Fits.{Fits}
 use Rattle.book_bytes.proofs.RecordBytes.{tolds-bytes}
@@ -21,7 +21,7 @@ use Rattle.book_bytes.proofs.InwardBooks.{length-inward}
 use Rattle.book_bytes.proofs.Behind.{inward-few}
 use Rattle.record_steps.specs.Turns.{settledAs}
 use Rattle.record_steps.proofs.MeaningMarks.{handedNow, reportedNow, hand-leaves, safe-leaves, collect-leaves}
-use Rattle.book_steps.specs.Acts.{membersIn, selfIn, handBytes, safeBytes, collectBytes}
+use Rattle.book_steps.specs.Acts.{handBytes, safeBytes, collectBytes}
 use Rattle.book_steps.proofs.Committed.{sound-layout}
 use Rattle.book_steps.proofs.Means.{Means, sound-fits, means-as, gave, ownIn, newIn, queues-kept, stores}
 use Rattle.book_steps.proofs.TurnFits.{marked-fits, settled-fits}
@@ -31,7 +31,7 @@ some-left : {A : Type 0} (k : ℕ) (l : List A) (x : A) (rest : List A) → drop
 some-left k l x rest e = let n = ap length e in omega (arith, n, length-drop k l)
 
 module _ (b : List ℕ) (bytes : AreBytes b) (sound : bytesSound b ≡ true) where
-  abbrev h : Book
+  abbrev h : Record
   h = recordIn b
 
   layout : Layout b
@@ -59,16 +59,16 @@ module _ (b : List ℕ) (bytes : AreBytes b) (sound : bytesSound b ≡ true) whe
 
   -- ---- safe
 
-  safe-some : Holds (λ (d : Done). h .reported .0 < h .handed .0) (reports (membersIn b) (selfIn b) (bookIn b))
-  unfolding reports bookIn
+  safe-some : Holds (λ (d : Done). h .reported .0 < h .handed .0) (safes (membersIn b) (selfIn b) (bookIn b))
+  unfolding safes bookIn
   safe-some =
       view-holds _ _ _ (λ v e. need-holds _ _ _ (λ t. first-holds _ _ _ (λ x rest f. need-holds _ _ _ (λ u.
       gives (omega (arith, some-left (h .reported .0) (take (h .handed .0) (ownIn b)) x rest f, length-take (h .handed .0) (ownIn b)))))))
 
-  pub safe-means : (d : Done) → reports (membersIn b) (selfIn b) (bookIn b) ≡ accepted d → Means b (safeBytes b) (d .book)
+  pub safe-means : (d : Done) → safes (membersIn b) (selfIn b) (bookIn b) ≡ accepted d → Means b (safeBytes b) (d .book)
   unfolding safeBytes bookIn
   safe-means d e =
-      let next = gave (reports (membersIn b) (selfIn b) (bookIn b)) d safe-some e in
+      let next = gave (safes (membersIn b) (selfIn b) (bookIn b)) d safe-some e in
       let marks : Fits (reportedNow h) =
       marked-fits h fits (h .registered) (h .handed .0) (h .told .0) (h .reported .0 + 1) (fits .handed) (fits .told) (omega (arith, next, fits .handed))
       in

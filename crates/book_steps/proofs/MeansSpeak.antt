@@ -13,21 +13,21 @@ use Rattle.rules.specs.Alone.{viewsOf}
 use Rattle.rules.proofs.Holding.{Holds, gives, need-holds, view-holds}
 use Rattle.slots.proofs.Stored.{MessageFits, client-fits, registered-fits, told-fits}
 use Rattle.slots.proofs.BytesKept.{SetsAreBytes}
-use Rattle.book_bytes.specs.declared.Book.{Book}
+use Rattle.book_bytes.specs.declared.Record.{Record}
 use Rattle.book_bytes.specs.Places.{selfAt}
 use Rattle.book_bytes.specs.Records.{recordIn}
-use Rattle.book_bytes.specs.Books.{outgoingIn, bookIn, bytesSound}
+use Rattle.book_bytes.specs.Books.{outgoingIn, bookIn, bytesSound, selfIn}
 use Rattle.book_bytes.proofs.LayoutLaws.{Layout}
 use Rattle.book_bytes.proofs.Fits.{Fits}
 use Rattle.book_bytes.proofs.RecordBytes.{tolds-bytes}
 use Rattle.record_steps.proofs.MeaningMarks.{registeredNow, toldNow, register-leaves-queued, register-leaves-unqueued, send-leaves-queued, send-leaves-unqueued, tell-leaves}
-use Rattle.book_steps.specs.Acts.{selfIn, queued, queuedIf, registerBytes, sendBytes, tellBytes}
+use Rattle.book_steps.specs.Acts.{queued, queuedIf, registerBytes, sendBytes, tellBytes}
 use Rattle.book_steps.proofs.Committed.{sound-layout, room-for, register-room, send-room, tell-room}
 use Rattle.book_steps.proofs.Means.{Means, sound-fits, means-as, gave, ownIn, newIn, Requeued, queues-kept, pushes, stores}
 use Rattle.book_steps.proofs.TurnFits.{marked-fits}
 
 module _ (b : List ℕ) (bytes : AreBytes b) (sound : bytesSound b ≡ true) where
-  abbrev h : Book
+  abbrev h : Record
   h = recordIn b
 
   layout : Layout b

@@ -14,14 +14,14 @@ use Rattle.views.proofs.SetLaws.{known}
 use Rattle.views.proofs.PlaceLaws.{list-placed}
 use Rattle.wire.proofs.TripViews.{ViewFits, EachFits, AreBytes}
 use Rattle.rules.specs.Data.{Message, client, info, registered, told}
-use Rattle.rules.specs.Member.{clientIsCarrier, learned, took}
+use Rattle.rules.specs.Member.{clientIsCarrier, learned, delivered}
 use Rattle.rules.specs.Sound.{limitAt, carrierInward, bookCounts}
 use Rattle.rules.specs.Alone.{viewsOf, bookSound}
 use Rattle.rules.proofs.TestLaws.{conditions-say}
 use Rattle.slots.proofs.Stored.{MessageFits}
 use Rattle.slots.proofs.BytesKept.{SetsAreBytes, set-bytes}
 use Rattle.book_bytes.specs.declared.Seat.{Seat}
-use Rattle.book_bytes.specs.declared.Book.{Book}
+use Rattle.book_bytes.specs.declared.Record.{Record}
 use Rattle.book_bytes.specs.Places.{carrierAt, takenAt, sideAt, inwardAt}
 use Rattle.book_bytes.specs.Records.{seated, recordIn}
 use Rattle.book_bytes.specs.Books.{outgoingIn, bookIn, bytesSound}
@@ -48,7 +48,7 @@ limit-there : {A : Type 0} (s : Seat) (l : List A) → s .there ≡ true → lim
 limit-there s l t = rw t
 
 module _ (b : List ℕ) (bytes : AreBytes b) (sound : bytesSound b ≡ true) where
-  abbrev h : Book
+  abbrev h : Record
   h = recordIn b
 
   layout : Layout b
@@ -78,7 +78,7 @@ module _ (b : List ℕ) (bytes : AreBytes b) (sound : bytesSound b ≡ true) whe
 
     -- ---- client
 
-    take-client : (x : ℕ) → x < 256 ^ 8 → Means b (takeBytes q (client x) b) (took q (client x) (bookIn b))
+    take-client : (x : ℕ) → x < 256 ^ 8 → Means b (takeBytes q (client x) b) (delivered q (client x) (bookIn b))
     unfolding takeBytes bookIn clientTurn
     take-client x w =
         let behind = inward-behind there in
@@ -101,28 +101,28 @@ module _ (b : List ℕ) (bytes : AreBytes b) (sound : bytesSound b ≡ true) whe
 
     -- ---- info
 
-    take-info : (v : View) (l : List View) → MessageFits (info v l) → SetsAreBytes (v ∷ l) → length (took q (info v l) (bookIn b) .held .opens) ≤ maxOpen
-        → Means b (takeBytes q (info v l) b) (took q (info v l) (bookIn b))
-    unfolding takeBytes bookIn infoTurn took
+    take-info : (v : View) (l : List View) → MessageFits (info v l) → SetsAreBytes (v ∷ l) → length (delivered q (info v l) (bookIn b) .held .opens) ≤ maxOpen
+        → Means b (takeBytes q (info v l) b) (delivered q (info v l) (bookIn b))
+    unfolding takeBytes bookIn infoTurn delivered
     take-info v l w sets few =
         let back : listOf (placed l) ≡ l = list-placed l (omega (arith, w .few)) in
         let first : ViewFits v = record { id = w .ids 0; set = sets 0 } in
         let each : EachFits (listOf (placed l)) = rw back (λ (j : ℕ). record { id = w .ids (suc j); set = sets (suc j) }) in
         let short : length (learned v (listOf (placed l)) (bookOf h 0 0 .held) .opens) ≤ maxOpen = rw back few in
         let is = info-book h (outgoingIn b) (ownIn b) (newIn b) q v (placed l) (omega (arith, short)) in
-        means-as (sym (is ∙ ap (λ (k : List View). took q (info v k) (bookIn b)) back))
+        means-as (sym (is ∙ ap (λ (k : List View). delivered q (info v k) (bookIn b)) back))
         (stores (queues-kept b layout bytes) (infoTurn q v (placed l) h)
         (info-turn-fits h fits one-more q member v (placed l) first each short) (tolds-bytes b bytes) refl)
 
     -- ---- registered, told
 
-    take-registered : Means b (takeBytes q registered b) (took q registered (bookIn b))
+    take-registered : Means b (takeBytes q registered b) (delivered q registered (bookIn b))
     unfolding takeBytes bookIn registeredTurn
     take-registered =
         means-as (sym (registered-book h (outgoingIn b) (ownIn b) (newIn b) q))
         (stores (queues-kept b layout bytes) (registeredTurn q h) (registered-turn-fits h fits one-more q member) (tolds-bytes b bytes) refl)
 
-    take-told : (k : ℕ) → k < 256 → Means b (takeBytes q (told k) b) (took q (told k) (bookIn b))
+    take-told : (k : ℕ) → k < 256 → Means b (takeBytes q (told k) b) (delivered q (told k) (bookIn b))
     unfolding takeBytes bookIn toldTurn
     take-told k w =
         means-as (sym (told-book h (outgoingIn b) (ownIn b) (newIn b) q k (omega (arith, fits .tolds))))
@@ -131,8 +131,8 @@ module _ (b : List ℕ) (bytes : AreBytes b) (sound : bytesSound b ≡ true) whe
   -- ---- any message
 
   pub take-means : (q : ℕ) (m : Message) → q < maxMembers → MessageFits m → SetsAreBytes (viewsOf m) → toldOf m < 256
-      → getD b carrierAt 0 ≡ 1 → getD b takenAt 0 < maxOrdered → length (took q m (bookIn b) .held .opens) ≤ maxOpen
-      → Means b (takeBytes q m b) (took q m (bookIn b))
+      → getD b carrierAt 0 ≡ 1 → getD b takenAt 0 < maxOrdered → length (delivered q m (bookIn b) .held .opens) ≤ maxOpen
+      → Means b (takeBytes q m b) (delivered q m (bookIn b))
   take-means q (client x) member w sets count there room few = take-client q member there room x (w .number)
   take-means q (info v l) member w sets count there room few = take-info q member there room v l w sets few
   take-means q registered member w sets count there room few = take-registered q member there room

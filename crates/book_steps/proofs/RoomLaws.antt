@@ -13,7 +13,7 @@ use Rattle.rules.specs.Alone.{bookSound}
 use Rattle.rules.proofs.TestLaws.{conditions-say}
 use Rattle.slots.specs.Slots.{itemSize}
 use Rattle.book_bytes.specs.declared.Seat.{Seat}
-use Rattle.book_bytes.specs.declared.Book.{Book}
+use Rattle.book_bytes.specs.declared.Record.{Record}
 use Rattle.book_bytes.specs.Places.{carrierAt, takenAt, sideAt, inwardAt, bookSize}
 use Rattle.book_bytes.specs.Records.{seated, recordIn}
 use Rattle.book_bytes.specs.Books.{inwardIn, bookIn, bytesSound}
@@ -34,7 +34,7 @@ side-fits : (t : Bool) (s : ℕ) → s ≤ 1 → inwardAt (cond t s (1 - s)) + 1
 side-fits true s h = omega arith
 side-fits false s h = omega arith
 
-pub gaining-fits : (h : Book) → h .side ≤ 1 → gainingOf h + 1 + itemSize * maxOrdered ≤ bookSize
+pub gaining-fits : (h : Record) → h .side ≤ 1 → gainingOf h + 1 + itemSize * maxOrdered ≤ bookSize
 unfolding gainingOf
 gaining-fits h s = side-fits (clientIsCarrier (bookOf h 0 0)) (h .side) s
 
@@ -70,5 +70,5 @@ carrier-length b c =
     limit-there (recordIn b .carrier) (carrierInward (bookIn b)) (carrier-there b c) ∙ side-length b (clientIsCarrier (bookIn b)) (getD b sideAt 0)
 
 pub gain-room : (b : List ℕ) → bytesSound b ≡ true → getD b carrierAt 0 ≡ 1 → getD b takenAt 0 < maxOrdered
-    → (h : Book) → h ≡ recordIn b → getD b (gainingOf h) 0 < maxOrdered
+    → (h : Record) → h ≡ recordIn b → getD b (gainingOf h) 0 < maxOrdered
 gain-room b s c t h loaded = rw (loaded, ← gaining-in b) (omega (arith, inward-taken b s, carrier-length b c, taken-ruled b))

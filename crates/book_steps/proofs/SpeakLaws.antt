@@ -11,30 +11,31 @@ use Rattle.views.specs.declared.refusal.Verdict.{Verdict}
 use Rattle.views.specs.declared.refusal.Verdict.the-variants.{Accepted, Refused}
 use Rattle.views.specs.Limits.{maxOpen, maxOutgoing}
 use Rattle.views.specs.Lists.{idOf}
+use Rattle.views.specs.Refusals.{left}
 use Rattle.rules.specs.Data.{Member, Item, client, registered, told, Result}
 use Rattle.rules.specs.Member.{Done, clientIsCarrier, hasRoom, registers, sends, tells}
 use Rattle.rules.proofs.Holding.{Holds, gives, need-holds, view-holds}
 use Rattle.slots.specs.Changes.{pushed}
 use Rattle.slots.proofs.Lists.{length-entries}
-use Rattle.book_bytes.specs.declared.Book.{Book}
+use Rattle.book_bytes.specs.declared.Record.{Record}
 use Rattle.book_bytes.specs.Places.{outgoingAt, sideAt}
 use Rattle.book_bytes.specs.Records.{recordIn, storeRecord}
-use Rattle.book_bytes.specs.Books.{outgoingIn, inwardIn, bookIn}
-use Rattle.record_steps.specs.Turns.{verdictOf, stepped, bookOf, registerTurn, sendTurn, tellTurn}
+use Rattle.book_bytes.specs.Books.{outgoingIn, inwardIn, bookIn, selfIn}
+use Rattle.record_steps.specs.Turns.{stepped, bookOf, registerTurn, sendTurn, tellTurn}
 use Rattle.record_steps.specs.declared.Stepped.{Stepped}
 use Rattle.record_steps.proofs.MeaningVerdicts.{register-verdict, send-verdict, tell-verdict}
 use Rattle.record_steps.proofs.MeaningMarks.{seated-view, registeredNow, toldNow}
 use Rattle.events.specs.declared.Event.{Event}
 use Rattle.events.specs.declared.Reply.{Reply}
 use Rattle.book_steps.specs.declared.Said.{Said}
-use Rattle.events.specs.Replies.{noEvent, eventOf, happened, named, replied, replyOf, left}
-use Rattle.book_steps.specs.Acts.{selfIn, queued, queuedIf, registerBytes, sendBytes, tellBytes}
+use Rattle.events.specs.Replies.{noEvent, eventOf, happened, named, replied, replyOf, verdictOf}
+use Rattle.book_steps.specs.Acts.{queued, queuedIf, registerBytes, sendBytes, tellBytes}
 use Rattle.book_steps.specs.Parts.{spoken, saidBytes}
 use Rattle.book_steps.proofs.Committed.{record-few, accepted-holds, stepped-verdict, stepped-few, refused-by, accepted-by, committed, room-for, register-room, send-room, tell-room}
 
 -- ---- what is said is what is queued
 
-module _ (h : Book) (b : List ℕ) where
+module _ (h : Record) (b : List ℕ) where
   pub said-registered : saidBytes (spoken h 3 0) b ≡ queuedIf (clientIsCarrier (bookOf h 0 0)) registered b
   unfolding saidBytes queuedIf queued pushed
   said-registered = refl
@@ -48,7 +49,7 @@ module _ (h : Book) (b : List ℕ) where
   said-told k = refl
 
 module _ (b : List ℕ) (p : Member) where
-  abbrev h : Book
+  abbrev h : Record
   h = recordIn b
 
   abbrev out : ℕ
@@ -96,14 +97,14 @@ module _ (b : List ℕ) (p : Member) where
 
 -- a message that is said where the rule found room has its place
 said-room : (b : List ℕ) (r : Result Done) → Holds (λ (d : Done). hasRoom (bookIn b) ≡ true) r → verdictOf r ≡ Accepted
-    → (h : Book) → h ≡ recordIn b → (m : Said) (k x : ℕ) → m ≡ spoken h k x → m .there ≡ true → getD b outgoingAt 0 < maxOutgoing
+    → (h : Record) → h ≡ recordIn b → (m : Said) (k x : ℕ) → m ≡ spoken h k x → m .there ≡ true → getD b outgoingAt 0 < maxOutgoing
 unfolding bookIn
 said-room b r o v h l m k x f t =
-    let c : clientIsCarrier (bookOf (recordIn b) 0 0) ≡ true = ap (λ (g : Book). clientIsCarrier (bookOf g 0 0)) (sym l) ∙ ap (λ (z : Said). z .there) (sym f) ∙ t in
+    let c : clientIsCarrier (bookOf (recordIn b) 0 0) ≡ true = ap (λ (g : Record). clientIsCarrier (bookOf g 0 0)) (sym l) ∙ ap (λ (z : Said). z .there) (sym f) ∙ t in
     let q = room-for (bookIn b) (accepted-holds r o v .1) c in
     omega (arith, q, length-entries b (outgoingAt + 1) (getD b outgoingAt 0))
 
-module _ (b : List ℕ) (h : Book) (loaded : h ≡ recordIn b) (s : Stepped) where
+module _ (b : List ℕ) (h : Record) (loaded : h ≡ recordIn b) (s : Stepped) where
   abbrev p : Member
   p = selfIn b
 
@@ -116,7 +117,7 @@ module _ (b : List ℕ) (h : Book) (loaded : h ≡ recordIn b) (s : Stepped) whe
     register-turned : s ≡ stepped (verdictOf (registers p (bookIn b))) (registeredNow (recordIn b)) (recordIn b)
     unfolding registerTurn
     register-turned =
-        e ∙ ap (λ (z : Book). registerTurn z (getD b outgoingAt 0)) loaded
+        e ∙ ap (λ (z : Record). registerTurn z (getD b outgoingAt 0)) loaded
         ∙ ap (λ (v : Verdict). stepped v (registeredNow (recordIn b)) (recordIn b)) (register-rule b p)
 
     pub register-few : s .book .opens .count ≤ maxOpen
@@ -132,10 +133,10 @@ module _ (b : List ℕ) (h : Book) (loaded : h ≡ recordIn b) (s : Stepped) whe
         → (x ≡ replyOf (registers p (bookIn b))) × (y ≡ left (verdictOf (registers p (bookIn b))) (registerBytes b) b)
     unfolding registerBytes bookIn
     register-done m f ev g =
-        committed b h loaded (registers p (bookIn b)) registeredNow (λ (z : Book). happened 7 p (named (idOf (z .client .view))) 0 0) (saidBytes m b) (registerBytes b)
+        committed b h loaded (registers p (bookIn b)) registeredNow (λ (z : Record). happened 7 p (named (idOf (z .client .view))) 0 0) (saidBytes m b) (registerBytes b)
         s register-turned ev g (register-event b p)
         (ap (λ (z : List ℕ). storeRecord z (registeredNow (recordIn b)))
-        (ap (λ (z : Said). saidBytes z b) (f ∙ ap (λ (z : Book). spoken z 3 0) loaded) ∙ said-registered (recordIn b) b))
+        (ap (λ (z : Said). saidBytes z b) (f ∙ ap (λ (z : Record). spoken z 3 0) loaded) ∙ said-registered (recordIn b) b))
 
   -- ---- tell
 
@@ -143,7 +144,7 @@ module _ (b : List ℕ) (h : Book) (loaded : h ≡ recordIn b) (s : Stepped) whe
     tell-turned : s ≡ stepped (verdictOf (tells p (bookIn b))) (toldNow (recordIn b)) (recordIn b)
     unfolding tellTurn
     tell-turned =
-        e ∙ ap (λ (z : Book). tellTurn z (getD b outgoingAt 0)) loaded
+        e ∙ ap (λ (z : Record). tellTurn z (getD b outgoingAt 0)) loaded
         ∙ ap (λ (v : Verdict). stepped v (toldNow (recordIn b)) (recordIn b)) (tell-rule b p)
 
     pub tell-few : s .book .opens .count ≤ maxOpen
@@ -159,10 +160,10 @@ module _ (b : List ℕ) (h : Book) (loaded : h ≡ recordIn b) (s : Stepped) whe
         → (x ≡ replyOf (tells p (bookIn b))) × (y ≡ left (verdictOf (tells p (bookIn b))) (tellBytes b) b)
     unfolding tellBytes bookIn
     tell-done m f ev g =
-        committed b h loaded (tells p (bookIn b)) toldNow (λ (z : Book). noEvent) (saidBytes m b) (tellBytes b)
+        committed b h loaded (tells p (bookIn b)) toldNow (λ (z : Record). noEvent) (saidBytes m b) (tellBytes b)
         s tell-turned ev g (tell-event b p)
         (ap (λ (z : List ℕ). storeRecord z (toldNow (recordIn b)))
-        (ap (λ (z : Said). saidBytes z b) (f ∙ ap (λ (z : Book). spoken z 4 (z .handed .0)) loaded) ∙ said-told (recordIn b) b (recordIn b .handed .0)))
+        (ap (λ (z : Said). saidBytes z b) (f ∙ ap (λ (z : Record). spoken z 4 (z .handed .0)) loaded) ∙ said-told (recordIn b) b (recordIn b .handed .0)))
 
   -- ---- send: the record stays
 
@@ -170,7 +171,7 @@ module _ (b : List ℕ) (h : Book) (loaded : h ≡ recordIn b) (s : Stepped) whe
     send-ruled : s .verdict ≡ verdictOf (sends p x (bookIn b))
     unfolding sendTurn
     send-ruled =
-        ap (λ (z : Stepped). z .verdict) (e ∙ ap (λ (z : Book). sendTurn z (getD b outgoingAt 0)) loaded)
+        ap (λ (z : Stepped). z .verdict) (e ∙ ap (λ (z : Record). sendTurn z (getD b outgoingAt 0)) loaded)
         ∙ stepped-verdict (verdictOf (sends 0 0 (bookOf (recordIn b) (getD b outgoingAt 0) 0))) _ _ ∙ send-rule b p x
 
     pub send-fits : (m : Said) → m ≡ spoken h 1 x → s .verdict ≡ Accepted → m .there ≡ true → getD b outgoingAt 0 < maxOutgoing
@@ -186,5 +187,5 @@ module _ (b : List ℕ) (h : Book) (loaded : h ≡ recordIn b) (s : Stepped) whe
     unfolding sendBytes bookIn
     send-accepted v m f ev g y k =
         accepted-by (sends p x (bookIn b)) (sendBytes x b) b ev y (sym send-ruled ∙ v)
-        (rw (g ∙ ap (λ (z : Book). happened 8 p (named (idOf (z .client .view))) 0 x) loaded) (send-event b p x))
-        (k ∙ ap (λ (z : Said). saidBytes z b) (f ∙ ap (λ (z : Book). spoken z 1 x) loaded) ∙ said-client (recordIn b) b x)
+        (rw (g ∙ ap (λ (z : Record). happened 8 p (named (idOf (z .client .view))) 0 x) loaded) (send-event b p x))
+        (k ∙ ap (λ (z : Said). saidBytes z b) (f ∙ ap (λ (z : Record). spoken z 1 x) loaded) ∙ said-client (recordIn b) b x)

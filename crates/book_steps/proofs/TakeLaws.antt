@@ -14,7 +14,7 @@ use Rattle.views.specs.declared.refusal.Refusal.{Refusal}
 use Rattle.views.specs.declared.refusal.Refusal.the-variants.{TooManyOpen}
 use Rattle.views.specs.declared.refusal.Verdict.the-variants.{Accepted, Refused}
 use Rattle.views.specs.Limits.{maxViews, maxOpen}
-use Rattle.views.specs.Refusals.{need}
+use Rattle.views.specs.Refusals.{require, left}
 use Rattle.views.specs.Lists.{noView, listOf, placed}
 use Rattle.views.proofs.SetLaws.{known}
 use Rattle.views.proofs.PlaceLaws.{list-placed}
@@ -22,16 +22,16 @@ use Rattle.wire.specs.declared.Message.{Message as Carried}
 use Rattle.wire.specs.declared.Message.the-variants.{Client, Info, Registered, Told}
 use Rattle.wire.proofs.ReaderLaws.{list-viewsIn}
 use Rattle.rules.specs.Data.{Member, Message, client, Held, Book as Ruled, accepted, need as needed, after}
-use Rattle.rules.specs.Member.{Done, clientIsCarrier, took}
+use Rattle.rules.specs.Member.{Done, clientIsCarrier, delivered}
 use Rattle.rules.specs.Alone.{messageOf}
 use Rattle.rules.proofs.Holding.{Holds, gives, need-holds}
-use Rattle.book_bytes.specs.declared.Book.{Book}
+use Rattle.book_bytes.specs.declared.Record.{Record}
 use Rattle.book_bytes.specs.Places.{opensAt}
 use Rattle.book_bytes.specs.Records.{recordIn, storeRecord}
 use Rattle.book_bytes.specs.Books.{bookIn}
-use Rattle.record_steps.specs.Turns.{verdictOf, clientTurn, infoTurn, registeredTurn, toldTurn}
+use Rattle.record_steps.specs.Turns.{clientTurn, infoTurn, registeredTurn, toldTurn}
 use Rattle.events.specs.declared.Reply.{Reply}
-use Rattle.events.specs.Replies.{noEvent, eventOf, replied, replyOf, left}
+use Rattle.events.specs.Replies.{noEvent, eventOf, replied, replyOf, verdictOf}
 use Rattle.book_steps.specs.Acts.{fewOpen, taking, takeBytes}
 use Rattle.book_steps.specs.ArrivalParts.{turned, openVerdict, gainingOf, gainedBy}
 use Rattle.book_steps.proofs.Answers.{quiet-by}
@@ -39,7 +39,7 @@ use Rattle.book_steps.proofs.RoomLaws.{gaining-in}
 
 -- ---- the record after an info: the settled view and the open views are taken from its list
 
-pub info-turned : (q : Member) (m : Carried) (l : List View) (h : Book) (x : View) (o : Views) (r : Book) → m ≡ Info → x ≡ getD l 0 noView → o ≡ placed (drop 1 l)
+pub info-turned : (q : Member) (m : Carried) (l : List View) (h : Record) (x : View) (o : Views) (r : Record) → m ≡ Info → x ≡ getD l 0 noView → o ≡ placed (drop 1 l)
     → r ≡ infoTurn q x o h → r ≡ turned q m l h
 unfolding turned
 info-turned q m l h x o r e f g k = rw (e, ← f, ← g) k
@@ -59,14 +59,14 @@ held-in : (b : List ℕ) → length (bookIn b .held .opens) ≡ recordIn b .open
 unfolding bookIn
 held-in b = opens-counted b
 
-client-held : (q x : ℕ) (b : Ruled) → took q (client x) b .held ≡ b .held
-unfolding took
+client-held : (q x : ℕ) (b : Ruled) → delivered q (client x) b .held ≡ b .held
+unfolding delivered
 client-held q x b =
     ⊎-elim (λ (t : clientIsCarrier b ≡ true). rw t) (λ (t : clientIsCarrier b ≡ false). rw t) (known (clientIsCarrier b))
 
 taken-opens : (q : Member) (m : Carried) (l : List View) (b : List ℕ) → length l ≤ maxViews
-    → turned q m l (recordIn b) .opens .count ≡ length (took q (messageOf m l) (bookIn b) .held .opens)
-unfolding turned clientTurn infoTurn registeredTurn toldTurn took bookIn
+    → turned q m l (recordIn b) .opens .count ≡ length (delivered q (messageOf m l) (bookIn b) .held .opens)
+unfolding turned clientTurn infoTurn registeredTurn toldTurn delivered bookIn
 taken-opens q (Client x) l b h = sym (ap (λ (z : Held). length (z .opens)) (client-held q x (bookIn b)) ∙ held-in b)
 taken-opens q Info [] b h = refl
 taken-opens q Info (v ∷ l) b h = rw (list-placed l (omega arith))
@@ -75,21 +75,21 @@ taken-opens q (Told k) l b h = sym (held-in b)
 
 -- ---- the verdict: 43, or the message is taken
 
-pub open-refused : (h : Book) → maxOpen < h .opens .count → openVerdict h ≡ Refused TooManyOpen
-unfolding openVerdict need
+pub open-refused : (h : Record) → maxOpen < h .opens .count → openVerdict h ≡ Refused TooManyOpen
+unfolding openVerdict require
 open-refused h k = rw (lt-leb _ _ k)
 
-pub open-accepted : (h : Book) → h .opens .count ≤ maxOpen → openVerdict h ≡ Accepted
-unfolding openVerdict need
+pub open-accepted : (h : Record) → h .opens .count ≤ maxOpen → openVerdict h ≡ Accepted
+unfolding openVerdict require
 open-accepted h k = rw (le-leb _ _ k)
 
-need-verdict : (t : Bool) (r : Refusal) (d : Done) → need t r Accepted ≡ verdictOf (needed t r (accepted d))
-unfolding need needed
+need-verdict : (t : Bool) (r : Refusal) (d : Done) → require t r Accepted ≡ verdictOf (needed t r (accepted d))
+unfolding require needed
 need-verdict true r d = refl
 need-verdict false r d = refl
 
 module _ (q : Member) (m : Message) (b : Ruled) where
-  take-verdict : need (leb (length (took q m b .held .opens)) maxOpen) TooManyOpen Accepted ≡ verdictOf (taking q m b)
+  take-verdict : require (leb (length (delivered q m b .held .opens)) maxOpen) TooManyOpen Accepted ≡ verdictOf (taking q m b)
   unfolding fewOpen after
   take-verdict = need-verdict _ _ _
 
@@ -110,14 +110,14 @@ taken-bytes q (Told k) l b = refl
 
 -- ---- what the code has at hand
 
-module _ (b : List ℕ) (h : Book) (loaded : h ≡ recordIn b) (q : Member) (m : Carried) (l : List View) (short : length l ≤ maxViews) (next : Book) (e : next ≡ turned q m l h) where
+module _ (b : List ℕ) (h : Record) (loaded : h ≡ recordIn b) (q : Member) (m : Carried) (l : List View) (short : length l ≤ maxViews) (next : Record) (e : next ≡ turned q m l h) where
   take-turned : next ≡ turned q m l (recordIn b)
   take-turned = e ∙ ap (turned q m l) loaded
 
   take-ruled : openVerdict next ≡ verdictOf (taking q (messageOf m l) (bookIn b))
   unfolding openVerdict
   take-ruled =
-      ap (λ (k : ℕ). need (leb k maxOpen) TooManyOpen Accepted) (ap (λ (z : Book). z .opens .count) take-turned ∙ taken-opens q m l b short)
+      ap (λ (k : ℕ). require (leb k maxOpen) TooManyOpen Accepted) (ap (λ (z : Record). z .opens .count) take-turned ∙ taken-opens q m l b short)
       ∙ take-verdict q (messageOf m l) (bookIn b)
 
   take-stored : storeRecord (gainedBy m (gainingOf h) q b) next ≡ takeBytes q (messageOf m l) b

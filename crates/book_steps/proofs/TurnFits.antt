@@ -22,7 +22,7 @@ use Rattle.views.proofs.PlaceLaws.{list-placed}
 use Rattle.wire.proofs.TripViews.{ViewFits, EachFits}
 use Rattle.rules.specs.Data.{Held}
 use Rattle.rules.specs.Member.{ownOr, settledBy, learned}
-use Rattle.book_bytes.specs.declared.Book.{Book}
+use Rattle.book_bytes.specs.declared.Record.{Record}
 use Rattle.book_bytes.proofs.Fits.{OpensFit, Fits, opens-list}
 use Rattle.record_steps.specs.Turns.{bookOf, joinedTo, withMember, takenIn, clientTurn, infoTurn, registeredTurn, toldTurn, openedTo, attemptedAt, marked, settledAs}
 
@@ -72,7 +72,7 @@ with-fits q s h f = or-lt maxMembers s (2 ^ q) f (pow-lt h)
 
 -- ---- records
 
-module _ (h : Book) (fits : Fits h) where
+module _ (h : Record) (fits : Fits h) where
   pub opens-few : length (listOf (h .opens)) ≤ maxOpen
   opens-few = rw (opens-list (h .opens) (fits .opens)) (fits .opens .few)
 

@@ -10,20 +10,14 @@ use Rattle.views.specs.Limits.{maxOpen}
 use Rattle.views.specs.Lists.{listOf, placed}
 use Rattle.rules.specs.Data as R
 use Rattle.rules.specs.Data.{Member, Message, client, info, registered, told, ok, Result, accepted, need, after}
-use Rattle.rules.specs.Member.{Done, does, clientIsCarrier, took}
+use Rattle.rules.specs.Member.{Done, does, clientIsCarrier, delivered}
 use Rattle.slots.specs.Changes.{storeMessage, pushed, popped, gained}
-use Rattle.book_bytes.specs.declared.Book.{Book}
-use Rattle.book_bytes.specs.Places.{membersAt, selfAt, sideAt, outgoingAt, inwardAt}
+use Rattle.book_bytes.specs.declared.Record.{Record}
+use Rattle.book_bytes.specs.Places.{sideAt, outgoingAt, inwardAt}
 use Rattle.book_bytes.specs.Records.{recordIn, storeRecord}
 use Rattle.book_bytes.specs.Books.{bookIn}
 use Rattle.record_steps.specs.Turns.{marked, joinedTo, attemptedAt, settledAs, clientTurn, infoTurn, registeredTurn, toldTurn}
-
--- the number of members, and the member's own number
-abbrev pub membersIn : List ℕ → ℕ
-membersIn b = getD b membersAt 0
-
-abbrev pub selfIn : List ℕ → Member
-selfIn b = getD b selfAt 0
+use Rattle.book_bytes.specs.Books.{selfIn}
 
 -- ---- 43: an attempt, or a message taken, that would leave more than 31 views open
 
@@ -32,7 +26,7 @@ fewOpen r = after r (λ d. need (leb (length (d .book .held .opens)) maxOpen) To
 
 -- the message of q is taken
 abbrev pub taking : Member → Message → R.Book → Result Done
-taking q m b = fewOpen (does ok (took q m b))
+taking q m b = fewOpen (does ok (delivered q m b))
 
 -- ---- a message at the end of outgoing
 

@@ -16,17 +16,17 @@ use Rattle.rules.specs.Data.{Member}
 use Rattle.rules.specs.Member.{clientIsCarrier}
 use Rattle.slots.specs.Slots.{slotSize, itemSize, itemNumber}
 use Rattle.slots.specs.Changes.{storeShort}
-use Rattle.book_bytes.specs.declared.Book.{Book}
+use Rattle.book_bytes.specs.declared.Record.{Record}
 use Rattle.book_bytes.specs.Places.{outgoingAt}
 use Rattle.record_steps.specs.declared.Stepped.{Stepped}
 use Rattle.record_steps.specs.Turns.{bookOf, stepped}
 use Rattle.events.specs.declared.Event.{Event}
 use Rattle.book_steps.specs.declared.Said.{Said}
 use Rattle.events.specs.Replies.{happened, noEvent, named}
-use Rattle.book_steps.specs.Acts.{selfIn}
+use Rattle.book_bytes.specs.Books.{selfIn}
 
 -- a message without views, in numbers, where the client view is the carrier view
-abbrev pub spoken : Book → ℕ → ℕ → Said
+abbrev pub spoken : Record → ℕ → ℕ → Said
 spoken h kind x = record { there = clientIsCarrier (bookOf h 0 0); kind = kind; number = x }
 
 -- it goes to the end of outgoing
@@ -36,18 +36,18 @@ saidBytes m b =
     cond (m .there) (set (storeShort b (outgoingAt + 1 + slotSize * n) (selfIn b) (m .kind) (m .number)) outgoingAt (n + 1)) b
 
 -- the event of item k of the inward list with its count at c, in the client view; no event past its end
-unfoldable pub itemEvent : List ℕ → ℕ → ℕ → ℕ → Book → Event
+unfoldable pub itemEvent : List ℕ → ℕ → ℕ → ℕ → Record → Event
 itemEvent b c k kind h =
     let i = c + 1 + itemSize * k in
     cond (leb (getD b c 0) k) noEvent (happened kind (selfIn b) (named (idOf (h .client .view))) (getD b i 0) (get b (i + itemNumber) numberSize))
 
-unfoldable pub attemptEvent : Book → Member → Event
+unfoldable pub attemptEvent : Record → Member → Event
 attemptEvent h p = happened attemptKind p (h .carrier .view) 0 0
 
 -- 43, with the record h as it was
-unfoldable pub fewIf : Verdict → Stepped → Book → Stepped
+unfoldable pub fewIf : Verdict → Stepped → Record → Stepped
 fewIf Accepted s h = cond (leb (s .book .opens .count) maxOpen) s (stepped (Refused TooManyOpen) h h)
 fewIf (Refused r) s h = s
 
-abbrev pub fewStepped : Stepped → Book → Stepped
+abbrev pub fewStepped : Stepped → Record → Stepped
 fewStepped s h = fewIf (s .verdict) s h

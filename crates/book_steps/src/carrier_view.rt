@@ -1,5 +1,5 @@
 // The steps that change which views the member has, in a sound book's bytes: join, attempt, collect.
-use book_bytes::Book;
+use book_bytes::Record;
 use events::Event;
 use events::Reply;
 use events::kinds;
@@ -15,18 +15,18 @@ ghost use lib.ListN.{length, set};
 ghost use mathlib.Core.Bool.{true};
 ghost use Rattle.views.specs.Limits.{maxOpen};
 ghost use Rattle.views.specs.Sets.{one};
-ghost use Rattle.events.specs.Replies.{noEvent, replied, left, replyOf};
+ghost use Rattle.views.specs.Refusals.{left};
+ghost use Rattle.events.specs.Replies.{noEvent, replied, replyOf, verdictOf};
 ghost use Rattle.rules.specs.Member.{joins, attempts, collects};
 ghost use Rattle.book_bytes.specs.Places.{bookSize, inwardAt};
 ghost use Rattle.book_bytes.specs.Records.{storeRecord};
-ghost use Rattle.book_bytes.specs.Books.{bookIn, bytesSound};
-ghost use Rattle.record_steps.specs.Turns.{verdictOf};
+ghost use Rattle.book_bytes.specs.Books.{bookIn, bytesSound, selfIn, membersIn};
 ghost use Rattle.book_steps.specs.ArrivalParts.{announced};
-ghost use Rattle.book_steps.specs.Acts.{selfIn, joinBytes, membersIn, fewOpen, attemptBytes, collectBytes};
+ghost use Rattle.book_steps.specs.Acts.{joinBytes, fewOpen, attemptBytes, collectBytes};
 ghost use Rattle.book_steps.specs.Parts.{fewStepped, attemptEvent};
 
 // The inward list of a carrier view not attempted goes, and outgoing holds one info of the member p with what the record holds.
-fn announce(b: &mut [u8], p: Member, h: Book)
+fn announce(b: &mut [u8], p: Member, h: Record)
     requires { ⌜ (bookSize ≤ length (now b)) × (h .side ≤ 1) × (h .opens .count ≤ maxOpen) ⌝ }
     ensures { λ _. ⌜ now (b .exit) ≡ announced (p .0) h (now (b .entry)) ⌝ }
 {
@@ -39,7 +39,7 @@ fn announce(b: &mut [u8], p: Member, h: Book)
 }
 
 // What was held is announced and the record after the turn stored, where the turn is accepted.
-fn enter(b: &mut [u8], p: Member, h: Book, s: Stepped) -> Reply
+fn enter(b: &mut [u8], p: Member, h: Record, s: Stepped) -> Reply
     requires { ⌜ (bookSize ≤ length (now b)) × (h .side ≤ 1) × (h .opens .count ≤ maxOpen) × (s .book .opens .count ≤ maxOpen) ⌝ }
     ensures { λ r. ⌜ (r ≡ replied (s .verdict) noEvent)
         × (now (b .exit) ≡ left (s .verdict) (storeRecord (announced (p .0) h (now (b .entry))) (s .book)) (now (b .entry))) ⌝ }
@@ -72,7 +72,7 @@ pub fn join(b: &mut [u8], v: View) -> Reply
 }
 
 // More than 31 open views are refused, with the record as it was.
-pub fn few_open(s: Stepped, h: Book) -> Stepped
+pub fn few_open(s: Stepped, h: Record) -> Stepped
     ensures { λ r. ⌜ r ≡ fewStepped s h ⌝ }
 {
     let verdict = s.verdict;
@@ -88,7 +88,7 @@ pub fn few_open(s: Stepped, h: Book) -> Stepped
 }
 
 // The event of an attempt of the carrier view.
-fn attempted(h: Book, member: Member) -> Event
+fn attempted(h: Record, member: Member) -> Event
     ensures { λ r. ⌜ r ≡ attemptEvent h (member .0) ⌝ }
 {
     let view = h.carrier.view;

@@ -1,7 +1,7 @@
 // The steps in the client view, in a sound book's bytes: register, send and tell, which put a message at the end of outgoing; hand and safe, which
 // change the record alone.
 use crate::Said;
-use book_bytes::Book;
+use book_bytes::Record;
 use events::Event;
 use events::Reply;
 use events::kinds;
@@ -14,16 +14,16 @@ ghost use mathlib.Core.Path.{_≡_};
 ghost use mathlib.Core.Bool.{true};
 ghost use Prim.Native.Nat.{_+_, _*_, _≤_};
 ghost use lib.ListN.{length, getD};
-ghost use Rattle.events.specs.Replies.{happened, named, replyOf, left};
-ghost use Rattle.rules.specs.Member.{registers, sends, hands, tells, reports};
+ghost use Rattle.views.specs.Refusals.{left};
+ghost use Rattle.events.specs.Replies.{happened, named, replyOf, verdictOf};
+ghost use Rattle.rules.specs.Member.{registers, sends, hands, tells, safes};
 ghost use Rattle.slots.specs.Slots.{itemSize};
-ghost use Rattle.book_bytes.specs.Books.{bookIn, bytesSound};
-ghost use Rattle.record_steps.specs.Turns.{verdictOf};
+ghost use Rattle.book_bytes.specs.Books.{bookIn, bytesSound, selfIn, membersIn};
 ghost use Rattle.book_steps.specs.Parts.{spoken, itemEvent};
-ghost use Rattle.book_steps.specs.Acts.{selfIn, registerBytes, sendBytes, handBytes, tellBytes, membersIn, safeBytes};
+ghost use Rattle.book_steps.specs.Acts.{registerBytes, sendBytes, handBytes, tellBytes, safeBytes};
 
 // What the member says of a kind and a number: only where the client view is the carrier view.
-fn spoken(h: Book, kind: u8, number: u64) -> Said
+fn spoken(h: Record, kind: u8, number: u64) -> Said
     ensures { λ r. ⌜ r ≡ spoken h kind number ⌝ }
 {
     let client = h.client;
@@ -36,7 +36,7 @@ fn spoken(h: Book, kind: u8, number: u64) -> Said
 }
 
 // An event of the member p in its client view.
-fn in_client(h: Book, kind: u8, p: Member, entry: u64) -> Event
+fn in_client(h: Record, kind: u8, p: Member, entry: u64) -> Event
     ensures { λ r. ⌜ r ≡ happened kind (p .0) (named (h .client .view .id .0)) 0 entry ⌝ }
 {
     let id = h.client.view.id;
@@ -89,7 +89,7 @@ pub fn send(b: &mut [u8], entry: u64) -> Reply
 }
 
 // The event of item k of the inward list with its count at a place, if it has so many.
-fn of_item(b: &[u8], at: usize, k: u8, kind: u8, h: Book) -> Event
+fn of_item(b: &[u8], at: usize, k: u8, kind: u8, h: Record) -> Event
     requires { ⌜ (at + 1 + itemSize * getD (now b) at 0 ≤ length (now b)) × (2 ≤ length (now b)) ⌝ }
     ensures { λ r. ⌜ r ≡ itemEvent (now (b .entry)) at k kind h ⌝ }
 {
@@ -140,8 +140,8 @@ pub fn tell(b: &mut [u8]) -> Reply
 // The next handed message not yet reported is reported, once every member of the view told of it.
 pub fn safe(b: &mut [u8]) -> Reply
     requires { ⌜ bytesSound (now b) ≡ true ⌝ }
-    ensures { λ r. ⌜ (r ≡ replyOf (reports (membersIn (now (b .entry))) (selfIn (now (b .entry))) (bookIn (now (b .entry)))))
-        × (now (b .exit) ≡ left (verdictOf (reports (membersIn (now (b .entry))) (selfIn (now (b .entry))) (bookIn (now (b .entry))))) (safeBytes (now (b .entry))) (now (b .entry))) ⌝ }
+    ensures { λ r. ⌜ (r ≡ replyOf (safes (membersIn (now (b .entry))) (selfIn (now (b .entry))) (bookIn (now (b .entry)))))
+        × (now (b .exit) ≡ left (verdictOf (safes (membersIn (now (b .entry))) (selfIn (now (b .entry))) (bookIn (now (b .entry))))) (safeBytes (now (b .entry))) (now (b .entry))) ⌝ }
 {
     let h = book_bytes::load(b);
     let at = book_bytes::INWARD + book_bytes::APART * (h.side as usize);

@@ -1,5 +1,5 @@
 // Deliver, in a sound book's bytes: a message of the carrier view is taken.
-use book_bytes::Book;
+use book_bytes::Record;
 use events::Reply;
 use views::Member;
 use views::limits;
@@ -14,12 +14,12 @@ ghost use lib.ListN.{length, getD};
 ghost use mathlib.Core.Bool.{true};
 ghost use Rattle.views.specs.Limits.{maxMembers, maxOpen, maxOrdered};
 ghost use Rattle.views.specs.Lists.{listOf};
-ghost use Rattle.events.specs.Replies.{noEvent, replied, left, replyOf};
+ghost use Rattle.views.specs.Refusals.{left};
+ghost use Rattle.events.specs.Replies.{noEvent, replied, replyOf, verdictOf};
 ghost use Rattle.rules.specs.Alone.{messageOf};
 ghost use Rattle.book_bytes.specs.Places.{bookSize, carrierAt, takenAt};
 ghost use Rattle.book_bytes.specs.Records.{storeRecord};
 ghost use Rattle.book_bytes.specs.Books.{bookIn, bytesSound};
-ghost use Rattle.record_steps.specs.Turns.{verdictOf};
 ghost use Rattle.book_steps.specs.ArrivalParts.{turned, gainingOf, gainedBy, openVerdict};
 ghost use Rattle.book_steps.specs.Acts.{taking, takeBytes};
 
@@ -30,7 +30,7 @@ pub struct Entry {
 }
 
 // The record after an entry, with an info's views beside it. More than 31 views may be open then: that is for the caller to refuse.
-fn turned(e: Entry, list: Views, h: Book) -> Book
+fn turned(e: Entry, list: Views, h: Record) -> Record
     requires { ⌜ (e .sender .0 < maxMembers) × (h .taken .0 < 255) × (h .opens .count ≤ maxOpen) ⌝ }
     ensures { λ r. ⌜ r ≡ turned (e .sender .0) (e .message) (listOf list) h ⌝ }
 {
@@ -49,7 +49,7 @@ fn turned(e: Entry, list: Views, h: Book) -> Book
 }
 
 // The inward list of the carrier view: the client view's where they are one view, else the other.
-fn gaining(h: Book) -> usize
+fn gaining(h: Record) -> usize
     requires { ⌜ h .side ≤ 1 ⌝ }
     ensures { λ r. ⌜ r ≡ gainingOf h ⌝ }
 {
@@ -62,7 +62,7 @@ fn gaining(h: Book) -> usize
 }
 
 // A client message goes to the end of the carrier view's inward list.
-fn receive(b: &mut [u8], e: Entry, h: Book)
+fn receive(b: &mut [u8], e: Entry, h: Record)
     requires { ⌜ (bookSize ≤ length (now b)) × (h .side ≤ 1) × (getD (now b) (gainingOf h) 0 < maxOrdered) ⌝ }
     ensures { λ _. ⌜ now (b .exit) ≡ gainedBy (e .message) (gainingOf h) (e .sender .0) (now (b .entry)) ⌝ }
 {
@@ -75,7 +75,7 @@ fn receive(b: &mut [u8], e: Entry, h: Book)
 }
 
 // The entry goes where it belongs and the next record is stored, unless that has more than 31 views open.
-fn keep(b: &mut [u8], e: Entry, h: Book, next: Book) -> Reply
+fn keep(b: &mut [u8], e: Entry, h: Record, next: Record) -> Reply
     requires { ⌜ (bookSize ≤ length (now b)) × (h .side ≤ 1) × (getD (now b) (gainingOf h) 0 < maxOrdered) ⌝ }
     ensures { λ r. ⌜ (r ≡ replied (openVerdict next) noEvent)
         × (now (b .exit) ≡ left (openVerdict next) (storeRecord (gainedBy (e .message) (gainingOf h) (e .sender .0) (now (b .entry))) next) (now (b .entry))) ⌝ }
@@ -92,7 +92,7 @@ fn keep(b: &mut [u8], e: Entry, h: Book, next: Book) -> Reply
 }
 
 // The message of the sender q is taken; 43 where more than 31 views would be open then.
-pub fn take(b: &mut [u8], q: Member, f: Frame) -> Reply
+pub fn deliver(b: &mut [u8], q: Member, f: Frame) -> Reply
     requires { ⌜ (bytesSound (now b) ≡ true) × (q .0 < maxMembers) × (getD (now b) takenAt 0 < maxOrdered) × (getD (now b) carrierAt 0 ≡ 1) ⌝ }
     ensures { λ r. ⌜ (r ≡ replyOf (taking (q .0) (messageOf (f .message) (listOf (f .views))) (bookIn (now (b .entry)))))
         × (now (b .exit) ≡ left (verdictOf (taking (q .0) (messageOf (f .message) (listOf (f .views))) (bookIn (now (b .entry)))))

@@ -12,12 +12,11 @@ use Rattle.views.specs.declared.refusal.Refusal.{Refusal}
 use Rattle.views.specs.declared.refusal.Refusal.the-variants.{RecordsUnsound}
 use Rattle.views.specs.declared.refusal.Verdict.{Verdict}
 use Rattle.views.specs.declared.refusal.Verdict.the-variants.{Accepted, Refused}
-use Rattle.views.specs.Refusals.{numberOf, codeOf, need}
+use Rattle.views.specs.Refusals.{numberOf, codeOf, require, left}
 use Rattle.wire.specs.Format.{viewBytes}
 use Rattle.wire.specs.Writer.{overwritten, storeView}
 use Rattle.wire.proofs.SeamLaws.{byte-seam, number-seam, view-seam, length-viewBytes}
 use Rattle.events.specs.declared.Event.{Event}
-use Rattle.events.specs.Replies.{left}
 use Rattle.c_answers.specs.Answers.{eventSize, eventBytes, lengthSize, lengthBytes, sized, narrowed}
 
 -- bytes as long as the buffer leave nothing of it
@@ -70,11 +69,11 @@ gives-accepted v new b c e h = rw e (refl, h)
 -- ---- a range of another length
 
 pub sized-met : (l : List ℕ) (n : ℕ) (v : Verdict) → length l ≡ n → sized l n v ≡ v
-unfolding sized need
+unfolding sized require
 sized-met l n v e = rw (eq-eqb (length l) n e)
 
 pub sized-unmet : (l : List ℕ) (n : ℕ) (v : Verdict) → (length l ≡ n → ⊥) → sized l n v ≡ Refused RecordsUnsound
-unfolding sized need
+unfolding sized require
 sized-unmet l n v e = rw (ne-eqb (length l) n e)
 
 -- ---- a number in one byte

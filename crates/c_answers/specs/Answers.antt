@@ -9,7 +9,7 @@ use Rattle.numbers.specs.Number.{digits}
 use Rattle.views.specs.declared.refusal.Refusal.the-variants.{RecordsUnsound}
 use Rattle.views.specs.declared.refusal.Verdict.{Verdict}
 use Rattle.views.specs.Sizes.{viewSize, numberSize}
-use Rattle.views.specs.Refusals.{need}
+use Rattle.views.specs.Refusals.{require}
 use Rattle.wire.specs.Format.{viewBytes}
 use Rattle.events.specs.declared.Event.{Event}
 
@@ -43,7 +43,7 @@ lengthBytes n = digits lengthSize n
 
 -- 4, before anything else, for a range that is not of its length
 unfoldable pub sized : List ℕ → ℕ → Verdict → Verdict
-sized range n v = need (eqb (length range) n) RecordsUnsound v
+sized range n v = require (eqb (length range) n) RecordsUnsound v
 
 -- x if it fits into a byte, else another number in its place
 unfoldable pub narrowed : ℕ → ℕ → ℕ

@@ -8,8 +8,7 @@ use views::refusal::Verdict;
 use views::sizes;
 ghost use lib.ListN.{length};
 ghost use mathlib.Core.Path.{_≡_};
-ghost use Rattle.views.specs.Refusals.{codeOf, numberOf};
-ghost use Rattle.events.specs.Replies.{left};
+ghost use Rattle.views.specs.Refusals.{codeOf, numberOf, left};
 ghost use Rattle.c_answers.specs.Answers.{narrowed, eventSize, eventBytes, lengthSize, lengthBytes};
 
 // Where the parts of an event stand: its kind, the member, the view, the sender, the entry number.

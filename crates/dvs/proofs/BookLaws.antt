@@ -2,12 +2,11 @@
 use mathlib.Core.Path.{_≡_, refl, ap, _∙_}
 use mathlib.Core.List.{List}
 use Prim.Native.Nat.{ℕ}
-use Rattle.views.specs.Refusals.{codeOf}
+use Rattle.views.specs.Refusals.{codeOf, left}
 use Rattle.rules.specs.Data.{Book as Ruled, Result, refused, accepted}
 use Rattle.rules.specs.Member.{Done}
-use Rattle.record_steps.specs.Turns.{verdictOf}
 use Rattle.events.specs.declared.Reply.{Reply}
-use Rattle.events.specs.Replies.{replyOf, left}
+use Rattle.events.specs.Replies.{replyOf, verdictOf}
 use Rattle.member.specs.Calls.{Gave, startReply}
 use Rattle.dvs.specs.BookCalls.{Gives}
 

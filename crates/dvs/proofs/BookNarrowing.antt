@@ -11,15 +11,15 @@ use Rattle.views.specs.declared.View.{View}
 use Rattle.views.specs.Limits.{maxMembers}
 use Rattle.views.specs.Sets.{has}
 use Rattle.views.specs.Lists.{viewOf}
+use Rattle.views.specs.Refusals.{left}
 use Rattle.rules.specs.Data.{Result}
 use Rattle.rules.specs.Sound.{within, setFits}
 use Rattle.rules.specs.Group.{fits}
 use Rattle.rules.specs.Alone.{setFitsIf, bookSound, alone, startAlone, joinAlone, deliverAlone}
 use Rattle.rules.proofs.TestLaws.{within-says, conditions-say}
-use Rattle.book_bytes.specs.Books.{bookIn}
-use Rattle.record_steps.specs.Turns.{verdictOf}
-use Rattle.events.specs.Replies.{left}
-use Rattle.book_steps.specs.Acts.{membersIn, joinBytes}
+use Rattle.events.specs.Replies.{verdictOf}
+use Rattle.book_bytes.specs.Books.{bookIn, membersIn}
+use Rattle.book_steps.specs.Acts.{joinBytes}
 use Rattle.book_bytes.specs.Starts.{startBytes}
 use Rattle.member.specs.Calls.{startCall, joinCall, deliverCall, deliverBytes}
 use Rattle.c_answers.specs.Answers.{narrowed}

@@ -3,12 +3,11 @@ use mathlib.Core.Path.{_≡_, ap, _∙_}
 use mathlib.Core.List.{List}
 use Prim.Native.Nat.{ℕ}
 use lib.ListN.{length}
-use Rattle.views.specs.Refusals.{codeOf}
+use Rattle.views.specs.Refusals.{codeOf, left}
 use Rattle.rules.specs.Data.{Result}
 use Rattle.rules.specs.Member.{Done}
-use Rattle.record_steps.specs.Turns.{verdictOf}
 use Rattle.events.specs.declared.Reply.{Reply}
-use Rattle.events.specs.Replies.{replyOf, left}
+use Rattle.events.specs.Replies.{replyOf, verdictOf}
 use Rattle.member.specs.Calls.{Gave}
 use Rattle.c_answers.specs.Answers.{eventSize, eventBytes}
 use Rattle.c_answers.proofs.AnswerLaws.{sized-met, sized-unmet}

@@ -4,12 +4,11 @@ use mathlib.Core.List.{List}
 use Prim.Native.Nat.{ℕ}
 use lib.ListN.{length}
 use Rattle.views.specs.declared.refusal.Verdict.{Verdict}
-use Rattle.views.specs.Refusals.{codeOf}
+use Rattle.views.specs.Refusals.{codeOf, left}
 use Rattle.rules.specs.Data.{Step, Result, refused, accepted}
 use Rattle.rules.specs.Group.{Next}
-use Rattle.record_steps.specs.Turns.{verdictOf}
 use Rattle.events.specs.declared.Reply.{Reply}
-use Rattle.events.specs.Replies.{left}
+use Rattle.events.specs.Replies.{verdictOf}
 use Rattle.group_bytes.specs.Groups.{Ranges}
 use Rattle.group_bytes.specs.Answers.{nextReply}
 use Rattle.group_bytes.specs.Steps.{stepResult, moved, leftRanges, stepRanges, stepReply}

@@ -8,22 +8,21 @@ use Rattle.views.specs.declared.refusal.Refusal.{Refusal}
 use Rattle.views.specs.declared.refusal.Refusal.the-variants.{RecordsUnsound, UnknownKind}
 use Rattle.views.specs.declared.refusal.Verdict.{Verdict}
 use Rattle.views.specs.declared.refusal.Verdict.the-variants.{Accepted, Refused}
-use Rattle.views.specs.Refusals.{codeOf, need}
+use Rattle.views.specs.Refusals.{codeOf, require, left}
 use Rattle.wire.specs.declared.Reading.{Reading}
 use Rattle.wire.specs.declared.Written.{Written}
 use Rattle.wire.specs.Format.{isKnown}
 use Rattle.wire.specs.Reader.{readOf}
-use Rattle.wire.specs.Writer.{frameBytes, writeVerdict, writtenOf, leaves, Wrote}
+use Rattle.wire.specs.Writer.{frameBytes, writeVerdict, writtenOf, Wrote}
 use Rattle.rules.specs.Data.{Result, refused, accepted}
 use Rattle.rules.specs.Member.{Passing}
-use Rattle.record_steps.specs.Turns.{verdictOf}
-use Rattle.events.specs.Replies.{left}
 use Rattle.book_steps.specs.Acts.{passBytes}
 use Rattle.member.specs.declared.Passed.{Passed}
 use Rattle.member.specs.Calls.{GaveOut, passCall, passedOf, passBuffer}
 use Rattle.c_answers.specs.Answers.{lengthSize, lengthBytes}
 use Rattle.c_answers.proofs.AnswerLaws.{sized-met, sized-unmet}
 use Rattle.wire.specs.Records.{recordSize, recordBytes, frameOf}
+use Rattle.events.specs.Replies.{verdictOf}
 use Rattle.dvs.specs.MessageCalls.{Passes, reading, Reads, writing, Writes}
 
 -- ---- pass
@@ -84,8 +83,8 @@ unfolding writtenOf left
 written-said Accepted n x l l' h = h
 written-said (Refused r) n x l l' h = h
 
-leaves-left : (v : Verdict) (a b : List ℕ) → leaves v a b ≡ left v a b
-unfolding leaves left
+leaves-left : (v : Verdict) (a b : List ℕ) → left v a b ≡ left v a b
+unfolding left
 leaves-left Accepted a b = refl
 leaves-left (Refused r) a b = refl
 
@@ -103,12 +102,12 @@ module _ (m o l : List ℕ) where
 
     module _ (room : length l ≡ lengthSize) where
       pub writes-unknown : (x : ℕ) → isKnown (getD m 0 0) ≡ false → x ≡ 33 → Writes m o o l l x
-      unfolding need
+      unfolding require
       writes-unknown x h k = writes-refused UnknownKind x (sized-met m recordSize _ whole ∙ sized-met l lengthSize _ room ∙ rw h) k
 
       pub writes-call : (o' l' : List ℕ) (r : Written) (x : ℕ) → isKnown (getD m 0 0) ≡ true → Wrote (frameOf m) o o' r
           → (x ≡ codeOf (r .verdict)) × (l' ≡ left (r .verdict) (lengthBytes (r .length)) l) → Writes m o o' l l' x
-      unfolding need
+      unfolding require
       writes-call o' l' r x h w k =
           let v : writing m o l ≡ writeVerdict (frameOf m) (length o) = sized-met m recordSize _ whole ∙ sized-met l lengthSize _ room ∙ rw h in
           let n = length (frameBytes (frameOf m)) in

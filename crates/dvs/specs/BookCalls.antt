@@ -3,8 +3,7 @@ use mathlib.Core.Path.{_≡_}
 use mathlib.Core.List.{List}
 use Prim.Native.Nat.{ℕ}
 use Rattle.views.specs.declared.refusal.Verdict.{Verdict}
-use Rattle.views.specs.Refusals.{codeOf}
-use Rattle.events.specs.Replies.{left}
+use Rattle.views.specs.Refusals.{codeOf, left}
 
 -- a call with the verdict v; `new` is what it leaves if it is accepted
 pub record Gives (v : Verdict) (new b b' : List ℕ) (x : ℕ) : Type 0 where

@@ -3,11 +3,10 @@ use mathlib.Core.Path.{_≡_}
 use mathlib.Core.List.{List}
 use Prim.Native.Nat.{ℕ}
 use Rattle.views.specs.declared.refusal.Verdict.{Verdict}
-use Rattle.views.specs.Refusals.{codeOf}
+use Rattle.views.specs.Refusals.{codeOf, left}
 use Rattle.rules.specs.Data.{Result}
 use Rattle.rules.specs.Member.{Done}
-use Rattle.record_steps.specs.Turns.{verdictOf}
-use Rattle.events.specs.Replies.{replyOf, left}
+use Rattle.events.specs.Replies.{replyOf, verdictOf}
 use Rattle.c_answers.specs.Answers.{eventSize, eventBytes, sized}
 
 -- 4 for an event range of another length, then the call's own verdict

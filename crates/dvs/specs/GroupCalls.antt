@@ -3,10 +3,9 @@ use mathlib.Core.Path.{_≡_}
 use mathlib.Core.List.{List}
 use Prim.Native.Nat.{ℕ}
 use Rattle.views.specs.declared.refusal.Verdict.{Verdict}
-use Rattle.views.specs.Refusals.{codeOf}
+use Rattle.views.specs.Refusals.{codeOf, left}
 use Rattle.rules.specs.Data.{Step}
-use Rattle.record_steps.specs.Turns.{verdictOf}
-use Rattle.events.specs.Replies.{left}
+use Rattle.events.specs.Replies.{verdictOf}
 use Rattle.group_bytes.specs.Groups.{Ranges}
 use Rattle.group_bytes.specs.Starts.{startRanges}
 use Rattle.group_bytes.specs.Steps.{startResult, leftRanges, stepRanges, stepReply}

@@ -6,16 +6,15 @@ use Prim.Native.Nat.{ℕ}
 use lib.ListN.{length, getD}
 use Rattle.views.specs.declared.refusal.Refusal.the-variants.{UnknownKind}
 use Rattle.views.specs.declared.refusal.Verdict.{Verdict}
-use Rattle.views.specs.Refusals.{codeOf, need}
+use Rattle.views.specs.Refusals.{codeOf, require, left}
 use Rattle.wire.specs.Format.{isKnown}
 use Rattle.wire.specs.Reader.{readOf}
 use Rattle.wire.specs.Writer.{frameBytes, writeVerdict, overwritten}
-use Rattle.record_steps.specs.Turns.{verdictOf}
-use Rattle.events.specs.Replies.{left}
 use Rattle.book_steps.specs.Acts.{passBytes}
 use Rattle.member.specs.Calls.{passCall, passedOf, passBuffer}
 use Rattle.c_answers.specs.Answers.{lengthSize, lengthBytes, sized}
 use Rattle.wire.specs.Records.{recordSize, recordBytes, frameOf, recordKind}
+use Rattle.events.specs.Replies.{verdictOf}
 
 -- ---- pass: 4 for a length range of another length, then the member's refusals
 abbrev pub passing : List ℕ → List ℕ → List ℕ → Verdict
@@ -40,7 +39,7 @@ abbrev pub writing : List ℕ → List ℕ → List ℕ → Verdict
 writing m o l =
     sized m recordSize (
     sized l lengthSize (
-    need (isKnown (getD m recordKind 0)) UnknownKind (
+    require (isKnown (getD m recordKind 0)) UnknownKind (
     writeVerdict (frameOf m) (length o))))
 
 pub record Writes (m o o' l l' : List ℕ) (x : ℕ) : Type 0 where

@@ -1,7 +1,7 @@
 // A member by itself: join, attempt, collect.
 use views::refusal::Refusal;
 ghost use Rattle.views.specs.Lists.{viewOf};
-ghost use Rattle.record_steps.specs.Turns.{verdictOf};
+ghost use Rattle.events.specs.Replies.{verdictOf};
 ghost use Rattle.book_steps.specs.Acts.{joinBytes, attemptBytes, collectBytes};
 ghost use Rattle.member.specs.Calls.{joinCall, attemptCall, collectCall};
 ghost use Rattle.dvs.specs.BookCalls.{Gives};

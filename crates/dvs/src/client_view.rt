@@ -1,6 +1,6 @@
 // A member by itself, in its client view: register, send, hand, tell, safe.
 use views::refusal::Refusal;
-ghost use Rattle.record_steps.specs.Turns.{verdictOf};
+ghost use Rattle.events.specs.Replies.{verdictOf};
 ghost use Rattle.book_steps.specs.Acts.{registerBytes, sendBytes, handBytes, tellBytes, safeBytes};
 ghost use Rattle.member.specs.Calls.{registerCall, sendCall, handCall, tellCall, safeCall};
 ghost use Rattle.dvs.specs.EventCalls.{Shows};

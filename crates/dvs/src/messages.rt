@@ -2,7 +2,7 @@
 use views::refusal::Refusal;
 use views::refusal::Verdict;
 use wire::format;
-ghost use Rattle.record_steps.specs.Turns.{verdictOf};
+ghost use Rattle.events.specs.Replies.{verdictOf};
 ghost use Rattle.member.specs.Calls.{deliverCall, deliverBytes};
 ghost use Rattle.dvs.specs.MessageCalls.{Passes, Reads, Writes};
 ghost use Rattle.dvs.specs.BookCalls.{Gives};

@@ -1,8 +1,8 @@
 // A member by itself: the start of its book.
 ghost use Rattle.book_bytes.specs.Starts.{startBytes};
-ghost use Rattle.record_steps.specs.Turns.{verdictOf};
 ghost use Rattle.member.specs.Calls.{startCall};
 ghost use Rattle.dvs.specs.BookCalls.{Gives};
+ghost use Rattle.events.specs.Replies.{verdictOf};
 
 // The book of member `own` in a group of `members`, with the first view, identifier 0, of `first_set`.
 #[no_mangle]

@@ -1,5 +1,4 @@
 -- What a call gives, in numbers: the verdict, and the event of an accepted step that has one. What an event does not have is 0.
-use mathlib.Core.List.{List}
 use Prim.Native.Nat.{ℕ}
 use Rattle.views.specs.declared.View.{View}
 use Rattle.views.specs.declared.refusal.Verdict.{Verdict}
@@ -10,6 +9,12 @@ use Rattle.rules.specs.Data.{Identifier, Member, item, Event as Outward, attemp
 use Rattle.rules.specs.Member.{Done}
 use Rattle.events.specs.declared.Event.{Event}
 use Rattle.events.specs.declared.Reply.{Reply}
+
+-- ---- verdicts
+
+abbrev pub verdictOf : {A : Type 0} → Result A → Verdict
+verdictOf (refused r) = Refused r
+verdictOf (accepted x) = Accepted
 
 -- the step's kind, the member, the view, the sender and the entry number
 abbrev pub happened : ℕ → Member → View → Member → ℕ → Event
@@ -43,8 +48,3 @@ replied (Refused r) e = record { verdict = Refused r; event = noEvent }
 abbrev pub replyOf : Result Done → Reply
 replyOf (refused r) = record { verdict = Refused r; event = noEvent }
 replyOf (accepted d) = record { verdict = Accepted; event = eventOf (d .answer) }
-
--- the new bytes where a step was accepted, else those that were there
-unfoldable pub left : Verdict → List ℕ → List ℕ → List ℕ
-left Accepted new old = new
-left (Refused r) new old = old

@@ -16,8 +16,8 @@ use Rattle.views.specs.Sets.{both}
 use Rattle.rules.specs.Data.{need}
 use Rattle.rules.specs.Sound.{conditions, setFits}
 use Rattle.rules.specs.Group.{fits, start, firstView}
+use Rattle.events.specs.Replies.{verdictOf}
 use Rattle.book_bytes.specs.Places.{bookSize}
-use Rattle.record_steps.specs.Turns.{verdictOf}
 use Rattle.book_bytes.specs.Starts.{startBytes}
 use Rattle.group_bytes.specs.Places.{roomOf, booksSize, bookBytes, withBook, queuesSize}
 use Rattle.group_bytes.specs.Groups.{Ranges}

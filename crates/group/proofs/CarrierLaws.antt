@@ -10,13 +10,13 @@ use Rattle.views.specs.declared.refusal.Refusal.the-variants.{UnknownStep, Reco
 use Rattle.views.specs.declared.refusal.Verdict.{Verdict}
 use Rattle.views.specs.declared.refusal.Verdict.the-variants.{Accepted, Refused}
 use Rattle.views.specs.Sets.{one}
+use Rattle.views.specs.Refusals.{left}
 use Rattle.rules.specs.Data.{Step, ok, Result, refused, accepted, need}
 use Rattle.rules.specs.Group.{Next, creates, passStep, orderStep, pick, stepOf}
 use Rattle.rules.specs.Member.{Passing}
 use Rattle.rules.proofs.Holding.{Holds, refuses, gives, given, need-holds, first-holds, after-holds, listed-holds}
-use Rattle.record_steps.specs.Turns.{verdictOf}
 use Rattle.events.specs.declared.Reply.{Reply}
-use Rattle.events.specs.Replies.{noEvent, eventOf, replied, left}
+use Rattle.events.specs.Replies.{noEvent, eventOf, replied, verdictOf}
 use Rattle.group_bytes.specs.Groups.{Ranges, ranges, groupIn, rangesSound}
 use Rattle.group_bytes.specs.Moves.{viewAt, createRanges, joinRanges, passRanges, orderRanges, deliverRanges}
 use Rattle.group_bytes.specs.Answers.{nextReply}

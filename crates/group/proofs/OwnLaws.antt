@@ -9,15 +9,15 @@ use Rattle.views.specs.declared.refusal.Refusal.the-variants.{NoSuchMember}
 use Rattle.views.specs.declared.refusal.Verdict.{Verdict}
 use Rattle.views.specs.declared.refusal.Verdict.the-variants.{Accepted, Refused}
 use Rattle.views.specs.Sets.{one}
+use Rattle.views.specs.Refusals.{left}
 use Rattle.rules.specs.Data.{Book as Ruled, Member, Step, Result, need}
-use Rattle.rules.specs.Member.{Done, attempts, registers, sends, hands, tells, reports, collects}
+use Rattle.rules.specs.Member.{Done, attempts, registers, sends, hands, tells, safes, collects}
 use Rattle.rules.specs.Sound.{sound}
 use Rattle.rules.specs.Group.{own, pick, stepOf}
-use Rattle.book_bytes.specs.Books.{bookIn}
-use Rattle.record_steps.specs.Turns.{verdictOf}
+use Rattle.book_bytes.specs.Books.{bookIn, membersIn, selfIn}
 use Rattle.events.specs.declared.Reply.{Reply}
-use Rattle.events.specs.Replies.{replyOf, left}
-use Rattle.book_steps.specs.Acts.{membersIn, selfIn, fewOpen, attemptBytes, registerBytes, sendBytes, handBytes, tellBytes, safeBytes, collectBytes}
+use Rattle.events.specs.Replies.{replyOf, verdictOf}
+use Rattle.book_steps.specs.Acts.{fewOpen, attemptBytes, registerBytes, sendBytes, handBytes, tellBytes, safeBytes, collectBytes}
 use Rattle.group_bytes.specs.Places.{bookBytes, withBook}
 use Rattle.group_bytes.specs.Groups.{Ranges, ranges, membersOf, groupIn, rangesSound}
 use Rattle.group_bytes.specs.Moves.{rebooked}
@@ -28,7 +28,7 @@ use Rattle.group_bytes.proofs.BookSounds.{members-in, self-in, book-is, sound-b
 use Rattle.group_bytes.proofs.BookSteps.{attempt-opens-few}
 use Rattle.group_bytes.proofs.AnswerLaws.{own-reply, own-verdict}
 use Rattle.group_steps.proofs.Rows.{ranged, group-sound}
-use Rattle.group_steps.specs.OwnParts.{Desk, ofMember, Sat}
+use Rattle.group_steps.specs.OwnParts.{HasBook, ofMember, OwnStep}
 use Rattle.group.specs.StepCalls.{asked, Went}
 
 -- ---- a result of the member's rule, and the group's
@@ -45,7 +45,7 @@ left-same (Refused f) r p b = (refl, refl)
 
 module _ (r : Ranges) (s : rangesSound r ≡ true) where
   -- what the members' steps ask of the books
-  pub desk : (p : ℕ) → Desk (r .books) p
+  pub desk : (p : ℕ) → HasBook (r .books) p
   desk p = record { size = ranged r s .books; few = ranged r s .members .1; sound = λ h. sound-book r (ranged r s) p h (group-sound r s) }
 
   -- 4 is not given
@@ -57,7 +57,7 @@ module _ (r : Ranges) (s : rangesSound r ≡ true) where
       (step : stepOf one (groupIn r) c ≡ need (ltb p (membersOf r)) NoSuchMember (own (groupIn r) p rule))
       (moves : moved r c ≡ rebooked r p (new (bookBytes (r .books) p)))
       (same : p < membersOf r → onBook (bookBytes (r .books) p) ≡ rule)
-      (exit : List ℕ) (x : Reply) (sat : Sat p (ofMember (r .books) p onBook) new (r .books) exit x) where
+      (exit : List ℕ) (x : Reply) (sat : OwnStep p (ofMember (r .books) p onBook) new (r .books) exit x) where
     result-is : stepResult r c ≡ need (ltb p (membersOf r)) NoSuchMember (own (groupIn r) p rule)
     result-is = result-sound c ∙ step
 
@@ -86,32 +86,32 @@ module _ (r : Ranges) (s : rangesSound r ≡ true) where
     at-desk : {A : Type 0} (f : ℕ → ℕ → Ruled → A) → p < membersOf r → f (membersIn (bookBytes (r .books) p)) (selfIn (bookBytes (r .books) p)) (bookIn (bookBytes (r .books) p)) ≡ f (membersOf r) p (groupIn r .books p)
     at-desk f h = rw (members-in r (ranged r s) p h, self-in r (ranged r s) p h, book-is r (ranged r s) p h)
 
-    pub register-went : Sat p (ofMember (r .books) p (λ b. registers (selfIn b) (bookIn b))) registerBytes (r .books) exit x → Went r (asked 7 p second) (ranges (r .list) exit (r .queues)) x
+    pub register-went : OwnStep p (ofMember (r .books) p (λ b. registers (selfIn b) (bookIn b))) registerBytes (r .books) exit x → Went r (asked 7 p second) (ranges (r .list) exit (r .queues)) x
     unfolding stepOf pick moved pickRanges groupIn
     register-went = own-went (asked 7 p second) p (registers p (groupIn r .books p)) _ registerBytes refl refl (at-desk (λ _ q b. registers q b)) exit x
 
-    pub send-went : Sat p (ofMember (r .books) p (λ b. sends (selfIn b) second (bookIn b))) (sendBytes second) (r .books) exit x → Went r (asked 8 p second) (ranges (r .list) exit (r .queues)) x
+    pub send-went : OwnStep p (ofMember (r .books) p (λ b. sends (selfIn b) second (bookIn b))) (sendBytes second) (r .books) exit x → Went r (asked 8 p second) (ranges (r .list) exit (r .queues)) x
     unfolding stepOf pick moved pickRanges groupIn
     send-went = own-went (asked 8 p second) p (sends p second (groupIn r .books p)) _ (sendBytes second) refl refl (at-desk (λ _ q b. sends q second b)) exit x
 
-    pub hand-went : Sat p (ofMember (r .books) p (λ b. hands (selfIn b) (bookIn b))) handBytes (r .books) exit x → Went r (asked 9 p second) (ranges (r .list) exit (r .queues)) x
+    pub hand-went : OwnStep p (ofMember (r .books) p (λ b. hands (selfIn b) (bookIn b))) handBytes (r .books) exit x → Went r (asked 9 p second) (ranges (r .list) exit (r .queues)) x
     unfolding stepOf pick moved pickRanges groupIn
     hand-went = own-went (asked 9 p second) p (hands p (groupIn r .books p)) _ handBytes refl refl (at-desk (λ _ q b. hands q b)) exit x
 
-    pub tell-went : Sat p (ofMember (r .books) p (λ b. tells (selfIn b) (bookIn b))) tellBytes (r .books) exit x → Went r (asked 10 p second) (ranges (r .list) exit (r .queues)) x
+    pub tell-went : OwnStep p (ofMember (r .books) p (λ b. tells (selfIn b) (bookIn b))) tellBytes (r .books) exit x → Went r (asked 10 p second) (ranges (r .list) exit (r .queues)) x
     unfolding stepOf pick moved pickRanges groupIn
     tell-went = own-went (asked 10 p second) p (tells p (groupIn r .books p)) _ tellBytes refl refl (at-desk (λ _ q b. tells q b)) exit x
 
-    pub safe-went : Sat p (ofMember (r .books) p (λ b. reports (membersIn b) (selfIn b) (bookIn b))) safeBytes (r .books) exit x → Went r (asked 11 p second) (ranges (r .list) exit (r .queues)) x
+    pub safe-went : OwnStep p (ofMember (r .books) p (λ b. safes (membersIn b) (selfIn b) (bookIn b))) safeBytes (r .books) exit x → Went r (asked 11 p second) (ranges (r .list) exit (r .queues)) x
     unfolding stepOf pick moved pickRanges groupIn
-    safe-went = own-went (asked 11 p second) p (reports (membersOf r) p (groupIn r .books p)) _ safeBytes refl refl (at-desk (λ n q b. reports n q b)) exit x
+    safe-went = own-went (asked 11 p second) p (safes (membersOf r) p (groupIn r .books p)) _ safeBytes refl refl (at-desk (λ n q b. safes n q b)) exit x
 
-    pub collect-went : Sat p (ofMember (r .books) p (λ b. collects (membersIn b) (bookIn b))) collectBytes (r .books) exit x → Went r (asked 12 p second) (ranges (r .list) exit (r .queues)) x
+    pub collect-went : OwnStep p (ofMember (r .books) p (λ b. collects (membersIn b) (bookIn b))) collectBytes (r .books) exit x → Went r (asked 12 p second) (ranges (r .list) exit (r .queues)) x
     unfolding stepOf pick moved pickRanges groupIn
     collect-went = own-went (asked 12 p second) p (collects (membersOf r) (groupIn r .books p)) _ collectBytes refl refl (at-desk (λ n q b. collects n b)) exit x
 
     -- 43 does not show in a sound group
-    pub attempt-went : RangesBytes r → Sat p (ofMember (r .books) p (λ b. fewOpen (attempts one (membersIn b) (selfIn b) (bookIn b)))) attemptBytes (r .books) exit x
+    pub attempt-went : RangesBytes r → OwnStep p (ofMember (r .books) p (λ b. fewOpen (attempts one (membersIn b) (selfIn b) (bookIn b)))) attemptBytes (r .books) exit x
         → Went r (asked 6 p second) (ranges (r .list) exit (r .queues)) x
     unfolding stepOf pick moved pickRanges groupIn
     attempt-went bytes =

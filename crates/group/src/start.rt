@@ -11,7 +11,7 @@ ghost use Rattle.views.specs.Sizes.{viewSize};
 ghost use Rattle.views.specs.Limits.{maxMembers};
 ghost use Rattle.wire.specs.Writer.{storeView};
 ghost use Rattle.rules.specs.Group.{firstView};
-ghost use Rattle.record_steps.specs.Turns.{verdictOf};
+ghost use Rattle.events.specs.Replies.{verdictOf};
 ghost use Rattle.group_bytes.specs.Places.{madeAt, booksSize};
 ghost use Rattle.group_bytes.specs.Starts.{startBooks};
 ghost use Rattle.group_bytes.specs.Steps.{startResult};

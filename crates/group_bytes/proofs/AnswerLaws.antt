@@ -3,8 +3,7 @@ use mathlib.Core.Path.{_≡_, refl}
 use Rattle.rules.specs.Data.{Member, Group, Result, refused, accepted, after}
 use Rattle.rules.specs.Member.{Done}
 use Rattle.rules.specs.Group.{own}
-use Rattle.record_steps.specs.Turns.{verdictOf}
-use Rattle.events.specs.Replies.{replyOf}
+use Rattle.events.specs.Replies.{replyOf, verdictOf}
 use Rattle.group_bytes.specs.Answers.{nextReply}
 
 pub own-reply : (s : Group) (p : Member) (x : Result Done) → nextReply (own s p x) ≡ replyOf x

@@ -18,9 +18,8 @@ use Rattle.rules.proofs.TestLaws.{both-from, within-from, all-from, _and_, cond
 use Rattle.rules.proofs.SoundBooks.{BookSound, EntryTests, entry-tests, book-tests}
 use Rattle.rules.proofs.Soundness.{Listed, Sound, sound-says}
 use Rattle.rules.proofs.AloneSound.{Fits, byItself}
-use Rattle.book_bytes.specs.Books.{bookIn, bytesSound}
+use Rattle.book_bytes.specs.Books.{bookIn, bytesSound, membersIn, selfIn}
 use Rattle.book_bytes.proofs.LayoutLaws.{layout-from}
-use Rattle.book_steps.specs.Acts.{membersIn, selfIn}
 use Rattle.group_bytes.specs.Places.{bookBytes}
 use Rattle.group_bytes.specs.Groups.{Ranges, membersOf, bookOf, groupIn}
 use Rattle.group_bytes.proofs.RangesLaws.{Ranged}
@@ -90,10 +89,10 @@ module _ (s : Group) (h : Sound s) where
 
 module _ (r : Ranges) (fits : Ranged r) (p : ℕ) (member : p < membersOf r) where
   pub members-in : membersIn (bookBytes (r .books) p) ≡ membersOf r
-  members-in = fits .seats p member .members
+  members-in = fits .in-place p member .members
 
   pub self-in : selfIn (bookBytes (r .books) p) ≡ p
-  self-in = fits .seats p member .self
+  self-in = fits .in-place p member .self
 
   pub member-low : p < maxMembers
   member-low = omega (arith, fits .members .1)
@@ -108,6 +107,6 @@ module _ (r : Ranges) (fits : Ranged r) (p : ℕ) (member : p < membersOf r) whe
   sound-book h =
       let own : bookSound (membersOf r) (groupIn r .books p) ≡ true = book-alone (groupIn r) (sound-says (groupIn r) h) p member in
       conditions-from _ (
-      layout-from (bookBytes (r .books) p) (fits .seats p member .layout)
+      layout-from (bookBytes (r .books) p) (fits .in-place p member .layout)
       and rw (members-in, ← book-is) own
       and tt)

@@ -10,14 +10,14 @@ use Rattle.views.specs.Limits.{maxOpen}
 use Rattle.views.proofs.Members.{In, top, pop}
 use Rattle.wire.proofs.TripViews.{ViewFits, EachFits, AreBytes, views-fit}
 use Rattle.rules.specs.Data.{Member, Book, Group, Result, refused, accepted, need, after}
-use Rattle.rules.specs.Member.{Done, attempted, joins, attempts, registers, sends, hands, tells, reports, collects}
+use Rattle.rules.specs.Member.{Done, attempted, joins, attempts, registers, sends, hands, tells, safes, collects}
 use Rattle.rules.specs.Sound.{sound}
 use Rattle.rules.specs.Group.{booked}
 use Rattle.rules.proofs.Soundness.{Sound, sound-says}
 use Rattle.rules.proofs.Holding.{Holds, gives, given, need-holds, view-holds}
 use Rattle.rules.proofs.Peculiar.{attempt-short}
-use Rattle.book_bytes.specs.Books.{bookIn, bytesSound}
-use Rattle.book_steps.specs.Acts.{membersIn, selfIn, fewOpen, joinBytes, attemptBytes, registerBytes, sendBytes, handBytes, tellBytes, safeBytes, collectBytes}
+use Rattle.book_bytes.specs.Books.{bookIn, bytesSound, membersIn, selfIn}
+use Rattle.book_steps.specs.Acts.{fewOpen, joinBytes, attemptBytes, registerBytes, sendBytes, handBytes, tellBytes, safeBytes, collectBytes}
 use Rattle.book_steps.proofs.Means.{Means, gave}
 use Rattle.book_steps.proofs.MeansJoin.{join-means, attempt-means}
 use Rattle.book_steps.proofs.MeansMarks.{hand-means, safe-means, collect-means}
@@ -113,8 +113,8 @@ module _ (r : Ranges) (fits : Ranged r) (bytes : RangesBytes r) (sounds : sound 
     pub tell-group : (d : Done) → tells p B ≡ accepted d → MeansGroup (rebooked r p (tellBytes b)) (booked (groupIn r) p (d .book))
     tell-group d e = left (tellBytes b) (d .book) (tell-means b book-are book-sound d (in-book (λ _ q C. tells q C) d e))
 
-    pub safe-group : (d : Done) → reports (membersOf r) p B ≡ accepted d → MeansGroup (rebooked r p (safeBytes b)) (booked (groupIn r) p (d .book))
-    safe-group d e = left (safeBytes b) (d .book) (safe-means b book-are book-sound d (in-book (λ n q C. reports n q C) d e))
+    pub safe-group : (d : Done) → safes (membersOf r) p B ≡ accepted d → MeansGroup (rebooked r p (safeBytes b)) (booked (groupIn r) p (d .book))
+    safe-group d e = left (safeBytes b) (d .book) (safe-means b book-are book-sound d (in-book (λ n q C. safes n q C) d e))
 
     pub collect-group : (d : Done) → collects (membersOf r) B ≡ accepted d → MeansGroup (rebooked r p (collectBytes b)) (booked (groupIn r) p (d .book))
     collect-group d e = left (collectBytes b) (d .book) (collect-means b book-are book-sound d (in-book (λ n _ C. collects n C) d e))

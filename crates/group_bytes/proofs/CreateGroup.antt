@@ -167,7 +167,7 @@ module _ (r : Ranges) (fits : Ranged r) (g S : ℕ) where
       queues = rw (stored .long) (counts .long ∙ clears .long ∙ fits .queues);
       members = fits .members;
       made = rw (more, stored .long) (omega arith, omega (arith, c .room));
-      seats = fits .seats;
+      in-place = fits .in-place;
       tables = λ j h. tables-now j (rw more at h);
     }
 

@@ -17,7 +17,7 @@ use Rattle.views.proofs.SetLaws.{known}
 use Rattle.wire.proofs.ReaderLaws.{length-viewsIn}
 use Rattle.wire.proofs.TripViews.{EachFits, AreBytes, get-fits, views-fit}
 use Rattle.rules.specs.Data.{Member, Message, client, info, registered, told, Entry, entry, Book, Group, ok, accepted}
-use Rattle.rules.specs.Member.{does, clientIsCarrier, took}
+use Rattle.rules.specs.Member.{does, clientIsCarrier, delivered}
 use Rattle.rules.specs.Sound.{sound}
 use Rattle.rules.specs.Alone.{viewsOf, infoOf}
 use Rattle.rules.specs.Group.{Next, booked, takeFrom, deliverStep}
@@ -79,8 +79,8 @@ module _ (s : Group) (h : Sound s) where
   told-byte q registered e = omega arith
   told-byte q (told k) e = omega (arith, told-sound e .1)
 
-  took-few : (p : Member) → p < s .members → (q : Member) (m : Message) → EntrySound s (entry q m) → length (took q m (s .books p) .held .opens) ≤ maxOpen
-  unfolding took
+  took-few : (p : Member) → p < s .members → (q : Member) (m : Message) → EntrySound s (entry q m) → length (delivered q m (s .books p) .held .opens) ≤ maxOpen
+  unfolding delivered
   took-few p i q (client x) e =
       ⊎-elim (λ (t : clientIsCarrier (s .books p) ≡ true). rw t (h .book p i .opens-short))
       (λ (t : clientIsCarrier (s .books p) ≡ false). rw t (h .book p i .opens-short))
@@ -122,10 +122,10 @@ pub record Takes (r : Ranges) (p : Member) (q : Member) (m : Message) : Type 0 w
   pub count : toldOf m < 256
   pub there : getD (bookBytes (r .books) p) carrierAt 0 ≡ 1
   pub room : getD (bookBytes (r .books) p) takenAt 0 < maxOrdered
-  pub few : length (took q m (groupIn r .books p) .held .opens) ≤ maxOpen
+  pub few : length (delivered q m (groupIn r .books p) .held .opens) ≤ maxOpen
 
-pub takes-accepted : (r : Ranges) (p q : Member) (m : Message) → Takes r p q m → taking q m (groupIn r .books p) ≡ does ok (took q m (groupIn r .books p))
-takes-accepted r p q m t = few-given (does ok (took q m (groupIn r .books p))) (gives (t .few))
+pub takes-accepted : (r : Ranges) (p q : Member) (m : Message) → Takes r p q m → taking q m (groupIn r .books p) ≡ does ok (delivered q m (groupIn r .books p))
+takes-accepted r p q m t = few-given (does ok (delivered q m (groupIn r .books p))) (gives (t .few))
 
 means-group-as : {r : Ranges} {s t : Group} → s ≡ t → MeansGroup r s → MeansGroup r t
 means-group-as e m = record { group = m .group ∙ e; fits = m .fits; bytes = m .bytes }
@@ -180,21 +180,21 @@ module _ (r : Ranges) (fits : Ranged r) (bytes : RangesBytes r) (sounds : sound 
         few = took-few (groupIn r) h p i q m y;
       }
 
-  delivered : Takes r p q m → MeansGroup (deliverRanges r p) (booked (groupIn r) p (took q m B))
+  deliver-means : Takes r p q m → MeansGroup (deliverRanges r p) (booked (groupIn r) p (delivered q m B))
   unfolding deliverRanges
-  delivered t =
-      let few : length (took q m (bookIn b) .held .opens) ≤ maxOpen = rw (← book-is r fits p member) (t .few) in
+  deliver-means t =
+      let few : length (delivered q m (bookIn b) .held .opens) ≤ maxOpen = rw (← book-is r fits p member) (t .few) in
       let means = take-means b (book-bytes (r .books) p (bytes .books)) (sound-book r fits p member sounds) q m
       (omega (arith, t .sender, fits .members .1)) (t .widths .message) (t .widths .sets) (t .count) (t .there) (t .room) few in
-      means-group-as (ap (λ (C : Book). booked (groupIn r) p (took q m C)) (sym (book-is r fits p member)))
-      (rebook r fits bytes p member (takeBytes q m b) (took q m (bookIn b)) means)
+      means-group-as (ap (λ (C : Book). booked (groupIn r) p (delivered q m C)) (sym (book-is r fits p member)))
+      (rebook r fits bytes p member (takeBytes q m b) (delivered q m (bookIn b)) means)
 
   delivers : Holds (λ (x : Next). Takes r p q m × MeansGroup (deliverRanges r p) (x .state)) (deliverStep (groupIn r) p)
   unfolding deliverStep
   delivers =
       view-holds _ _ _ (λ v c. first-holds _ _ _ (λ e rest d.
       let t = next-takes v e rest c d in
-      gives (t, means-group-as (ap (λ (x : Entry). booked (groupIn r) p (takeFrom x B)) (sym (next-entry v e rest c d))) (delivered t))))
+      gives (t, means-group-as (ap (λ (x : Entry). booked (groupIn r) p (takeFrom x B)) (sym (next-entry v e rest c d))) (deliver-means t))))
 
   -- an accepted deliver takes the next entry
   pub deliver-takes : (x : Next) → deliverStep (groupIn r) p ≡ accepted x → Takes r p (getD (r .queues) (nextAt r p) 0) (messageIn (r .queues) (nextAt r p))

@@ -86,7 +86,7 @@ module _ (r : Ranges) (fits : Ranged r) (p : Member) (member : p < membersOf r) 
   after = rewaited (booked (groupIn r) p lighter) p g (waitingIn r p g ++ (entryIn b (outgoingAt + 1) ∷ []))
 
   layout : Layout b
-  layout = fits .seats p member .layout
+  layout = fits .in-place p member .layout
 
   book-at : bookOf r p ≡ bookIn b
   unfolding bookOf

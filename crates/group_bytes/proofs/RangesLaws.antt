@@ -54,20 +54,20 @@ table-from q n i t = both-from _ _ (queue-from q maxOrdered (orderAt i) (t .orde
 
 -- ---- the book of p, of n members
 
-pub record Seated (books : List ℕ) (n p : ℕ) : Type 0 where
+pub record InPlace (books : List ℕ) (n p : ℕ) : Type 0 where
   pub layout : Layout (bookBytes books p)
   pub members : getD (bookBytes books p) membersAt 0 ≡ n
   pub self : getD (bookBytes books p) selfAt 0 ≡ p
 
-pub seat-says : (books : List ℕ) (n p : ℕ) → seatFits books n p ≡ true → Seated books n p
+pub place-says : (books : List ℕ) (n p : ℕ) → seatFits books n p ≡ true → InPlace books n p
 unfolding seatFits
-seat-says books n p h =
+place-says books n p h =
     let (layout, (members, (self, _))) = conditions-say _ h in
     record { layout = layout-says _ layout; members = eqb-true _ _ members; self = eqb-true _ _ self }
 
-pub seat-from : (books : List ℕ) (n p : ℕ) → Seated books n p → seatFits books n p ≡ true
+pub place-from : (books : List ℕ) (n p : ℕ) → InPlace books n p → seatFits books n p ≡ true
 unfolding seatFits
-seat-from books n p s = conditions-from _ (layout-from _ (s .layout) and eq-eqb _ _ (s .members) and eq-eqb _ _ (s .self) and tt)
+place-from books n p s = conditions-from _ (layout-from _ (s .layout) and eq-eqb _ _ (s .members) and eq-eqb _ _ (s .self) and tt)
 
 -- ---- the ranges
 
@@ -78,13 +78,13 @@ pub record Ranged (r : Ranges) : Type 0 where
   pub queues : length (r .queues) ≡ queuesSize (roomOf (r .list))
   pub members : (1 ≤ membersOf r) × (membersOf r ≤ maxMembers)
   pub made : (1 ≤ madeOf r) × (madeOf r ≤ roomOf (r .list))
-  pub seats : (p : ℕ) → p < membersOf r → Seated (r .books) (membersOf r) p
+  pub in-place : (p : ℕ) → p < membersOf r → InPlace (r .books) (membersOf r) p
   pub tables : (i : ℕ) → i < madeOf r → Tabled (r .queues) (membersOf r) i
 
 pub ranges-says : (r : Ranges) → rangesFit r ≡ true → Ranged r
 unfolding rangesFit
 ranges-says r h =
-    let (whole, (room, (books, (queues, (members, (made, (seats, (tables, _)))))))) = conditions-say _ h in
+    let (whole, (room, (books, (queues, (members, (made, (in-place, (tables, _)))))))) = conditions-say _ h in
     record {
       whole = eqb-true _ _ whole;
       room = within-says _ _ _ room;
@@ -92,7 +92,7 @@ ranges-says r h =
       queues = eqb-true _ _ queues;
       members = within-says _ _ _ members;
       made = within-says _ _ _ made;
-      seats = λ p k. seat-says (r .books) (membersOf r) p (every-at (membersOf r) _ seats p k);
+      in-place = λ p k. place-says (r .books) (membersOf r) p (every-at (membersOf r) _ in-place p k);
       tables = λ i k. table-says (r .queues) (membersOf r) i (every-at (madeOf r) _ tables i k);
     }
 
@@ -106,7 +106,7 @@ ranges-from r s =
     and eq-eqb _ _ (s .queues)
     and within-from _ _ _ (s .members .0) (s .members .1)
     and within-from _ _ _ (s .made .0) (s .made .1)
-    and every-from (membersOf r) _ (λ p k. seat-from (r .books) (membersOf r) p (s .seats p k))
+    and every-from (membersOf r) _ (λ p k. place-from (r .books) (membersOf r) p (s .in-place p k))
     and every-from (madeOf r) _ (λ i k. table-from (r .queues) (membersOf r) i (s .tables i k))
     and tt
     )

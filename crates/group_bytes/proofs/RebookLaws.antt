@@ -20,7 +20,7 @@ use Rattle.book_steps.proofs.Means.{Means}
 use Rattle.group_bytes.specs.Places.{bookBytes, withBook}
 use Rattle.group_bytes.specs.Groups.{Ranges, membersOf, bookOf, waitingIn, orderIn, groupIn}
 use Rattle.group_bytes.specs.Moves.{rebooked}
-use Rattle.group_bytes.proofs.RangesLaws.{RangesBytes, Seated, Ranged, MeansGroup}
+use Rattle.group_bytes.proofs.RangesLaws.{RangesBytes, InPlace, Ranged, MeansGroup}
 use Rattle.group_bytes.proofs.BookBytes.{first-members, with-bytes, with-size, with-own, with-other}
 use Rattle.group_bytes.proofs.BookSounds.{members-in, self-in, member-low}
 
@@ -49,7 +49,7 @@ module _ (r : Ranges) (fits : Ranged r) (bytes : RangesBytes r) (p : ℕ) (membe
         | no n ↦ rw (other 0 (omega arith) n) (sym (first-members (r .books)))
       ]
 
-  seat : (q : ℕ) → q < membersOf r → Seated books (membersOf r) q
+  seat : (q : ℕ) → q < membersOf r → InPlace books (membersOf r) q
   seat q h =
       elim (ℕ-discrete q p) [
         | yes e ↦ rw e (record {
@@ -58,7 +58,7 @@ module _ (r : Ranges) (fits : Ranged r) (bytes : RangesBytes r) (p : ℕ) (membe
           self = rw own (means .self ∙ self-in r fits p member);
         })
         | no n ↦
-            let old = fits .seats q h in
+            let old = fits .in-place q h in
             let same = other q (member-low r fits q h) n in
             record { layout = rw same (old .layout); members = rw same (old .members); self = rw same (old .self) }
       ]
@@ -71,7 +71,7 @@ module _ (r : Ranges) (fits : Ranged r) (bytes : RangesBytes r) (p : ℕ) (membe
     queues = fits .queues;
     members = rw members-kept (fits .members);
     made = fits .made;
-    seats = rw members-kept seat;
+    in-place = rw members-kept seat;
     tables = rw members-kept (fits .tables);
   }
 

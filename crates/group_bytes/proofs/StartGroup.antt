@@ -30,7 +30,7 @@ use Rattle.book_bytes.proofs.StartBook.{fits-byte, start-size, start-layout, st
 use Rattle.group_bytes.specs.Places.{roomOf, booksSize, bookBytes, madeAt, orderAt, waitingAt, queuesSize}
 use Rattle.group_bytes.specs.Groups.{Ranges, membersOf, madeOf, viewsMade, placeOf, bookOf, waitingIn, orderIn, groupIn}
 use Rattle.group_bytes.specs.Starts.{startBooks, startRanges}
-use Rattle.group_bytes.proofs.RangesLaws.{RangesBytes, Queued, Tabled, Seated, Ranged, MeansGroup}
+use Rattle.group_bytes.proofs.RangesLaws.{RangesBytes, Queued, Tabled, InPlace, Ranged, MeansGroup}
 use Rattle.group_bytes.proofs.BookBytes.{first-members, book-size, with-bytes, with-size, with-own, with-other}
 
 -- what start asks: 4 for ranges not of their lengths, then 1, 2, 3
@@ -176,8 +176,8 @@ module _ (n S : ℕ) (r : Ranges) (asks : Startable n S r) where
   none-queued : (limit c : ℕ) → 1 ≤ c → Queued (after .queues) limit c
   none-queued limit c h = let z = queues-zero c h in record { few = omega (arith, z); slots = no-slots (after .queues) (c + 1) _ z }
 
-  seat-is : (p : ℕ) → p < n → Seated (after .books) n p
-  seat-is p h =
+  place-is : (p : ℕ) → p < n → InPlace (after .books) n p
+  place-is p h =
       let b = bookBytes (r .books) p in
       record {
         layout = rw (book-at p h) (start-layout n S p b (size-at p h) byte);
@@ -200,7 +200,7 @@ module _ (n S : ℕ) (r : Ranges) (asks : Startable n S r) where
     queues = rw list-size (queues-size ∙ asks .queues);
     members = rw members-are (asks .members);
     made = rw (made-one, list-size) (omega arith, asks .room .0);
-    seats = rw members-are seat-is;
+    in-place = rw members-are place-is;
     tables = rw members-are (λ (i : ℕ) (h : i < madeOf after). table-is i);
   }
 

@@ -15,7 +15,7 @@ use Rattle.rules.specs.Member.{Done}
 use Rattle.rules.specs.Sound.{sound}
 use Rattle.rules.specs.Group.{Next, own, booked, joinStep, pick, stepOf, settles, step}
 use Rattle.rules.proofs.Holding.{Holds, refuses, gives, given, need-holds, listed-holds}
-use Rattle.record_steps.specs.Turns.{verdictOf}
+use Rattle.events.specs.Replies.{verdictOf}
 use Rattle.group_bytes.specs.Groups.{Ranges, membersOf, viewsMade, groupIn, rangesFit, rangesSound}
 use Rattle.group_bytes.specs.Moves.{viewAt, joinRanges}
 use Rattle.group_bytes.specs.Steps.{stepResult, pickRanges, moved, leftRanges, stepRanges}

@@ -9,9 +9,9 @@ use borrow.Author.Tests.{lt-ltb, le-ltb}
 use lib.ListN.{length, getD}
 use Rattle.views.specs.Limits.{maxMembers, maxWaiting, maxOrdered}
 use Rattle.views.specs.Points.{at, at2}
+use Rattle.views.proofs.PointLaws.{upd-ind, upd2-ind}
 use Rattle.wire.specs.Reader.{viewsIn}
 use Rattle.wire.proofs.TripViews.{AreBytes}
-use Rattle.membership.proofs.Updates.{upd-ind, upd2-ind}
 use Rattle.rules.specs.Data.{Identifier, Member, Entry, Group}
 use Rattle.slots.specs.Slots.{queueIn}
 use Rattle.slots.proofs.Outside.{Changed, Apart}
@@ -109,7 +109,7 @@ module _ (r : Ranges) (fits : Ranged r) (bytes : RangesBytes r) (d : List ℕ) w
           queues = size ∙ fits .queues;
           members = fits .members;
           made = rw made (fits .made);
-          seats = fits .seats;
+          in-place = fits .in-place;
           tables = λ j h. tables j (rw made at h);
         };
         bytes = record { list = bytes .list; books = bytes .books; queues = y };

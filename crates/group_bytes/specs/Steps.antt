@@ -13,8 +13,8 @@ use Rattle.views.specs.Sets.{one}
 use Rattle.rules.specs.Data.{Step, Group, Result, need}
 use Rattle.rules.specs.Sound.{within, conditions}
 use Rattle.rules.specs.Group.{Next, start, stepOf}
-use Rattle.record_steps.specs.Turns.{verdictOf}
 use Rattle.events.specs.declared.Reply.{Reply}
+use Rattle.events.specs.Replies.{verdictOf}
 use Rattle.book_steps.specs.Acts.{attemptBytes, registerBytes, sendBytes, handBytes, tellBytes, safeBytes, collectBytes}
 use Rattle.group_bytes.specs.Places.{roomOf, booksSize, bookBytes, queuesSize}
 use Rattle.group_bytes.specs.Groups.{Ranges, groupIn, rangesSound}

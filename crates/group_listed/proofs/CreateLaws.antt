@@ -22,7 +22,7 @@ use Rattle.views.proofs.PlaceLaws.{drop-used, length-places, list-placed}
 use Rattle.rules.specs.Data.{need}
 use Rattle.rules.specs.Member.{all}
 use Rattle.rules.specs.Group.{fits, creates}
-use Rattle.record_steps.specs.Turns.{verdictOf}
+use Rattle.events.specs.Replies.{verdictOf}
 use Rattle.group_steps.specs.CarrierParts.{allBelow}
 use Rattle.group_listed.specs.declared.list.Creation.{Creation}
 use Rattle.group_listed.specs.Creates.{madeIn, roomIn, creating, atOf, leftViews, CreatedBy, Created}

@@ -23,8 +23,8 @@ use Rattle.rules.specs.Group.{Next, creates, pick, stepOf}
 use Rattle.slots.proofs.BytesKept.{sets-fit, storeView-bytes, storeViews-bytes}
 use Rattle.slots.proofs.Outside.{storeView-changed}
 use Rattle.wire.specs.Writer.{storeViews}
-use Rattle.record_steps.specs.Turns.{verdictOf}
 use Rattle.events.specs.declared.Reply.{Reply}
+use Rattle.events.specs.Replies.{verdictOf}
 use Rattle.book_steps.proofs.Means.{gave}
 use Rattle.group_bytes.specs.Groups.{Ranges, madeOf, groupIn, rangesFit, rangesSound}
 use Rattle.group_bytes.specs.Starts.{startRanges}

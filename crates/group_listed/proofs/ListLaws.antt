@@ -21,7 +21,7 @@ use Rattle.wire.proofs.TripViews.{ViewFits, EachFits, views-back}
 use Rattle.rules.specs.Data.{Step}
 use Rattle.slots.proofs.Outside.{Changed, Apart, changed-none, storeView-changed, view-apart}
 use Rattle.wire.specs.Writer.{storeView}
-use Rattle.record_steps.specs.Turns.{verdictOf}
+use Rattle.events.specs.Replies.{verdictOf}
 use Rattle.group_bytes.specs.Places.{roomOf}
 use Rattle.group_bytes.specs.Groups.{Ranges, madeOf}
 use Rattle.group_bytes.specs.Moves.{createRanges, joinRanges, passRanges, orderRanges, deliverRanges}

@@ -32,7 +32,7 @@ use Rattle.rules.specs.Group.{firstView, fits, start}
 use Rattle.slots.proofs.Outside.{storeView-changed, view-apart}
 use Rattle.slots.proofs.Stored.{view-stored}
 use Rattle.wire.specs.Writer.{storeView}
-use Rattle.record_steps.specs.Turns.{verdictOf}
+use Rattle.events.specs.Replies.{verdictOf}
 use Rattle.group_bytes.specs.Places.{roomOf, booksSize}
 use Rattle.group_bytes.specs.Groups.{Ranges, ranges}
 use Rattle.group_bytes.specs.Starts.{startRanges}

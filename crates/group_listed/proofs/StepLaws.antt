@@ -26,9 +26,8 @@ use Rattle.wire.proofs.SeamLaws.{length-viewsBytes}
 use Rattle.wire.proofs.TripViews.{ViewFits, EachFits}
 use Rattle.rules.specs.Data.{Step, Result, refused, accepted}
 use Rattle.rules.specs.Group.{Next, firstView}
-use Rattle.record_steps.specs.Turns.{verdictOf}
 use Rattle.events.specs.declared.Reply.{Reply}
-use Rattle.events.specs.Replies.{noEvent}
+use Rattle.events.specs.Replies.{noEvent, verdictOf}
 use Rattle.group_bytes.specs.Places.{roomOf}
 use Rattle.group_bytes.specs.Groups.{Ranges, ranges, madeOf, rangesFit}
 use Rattle.group_bytes.specs.Answers.{nextReply}

@@ -8,8 +8,8 @@ use Rattle.views.specs.declared.refusal.Verdict.{Verdict}
 use Rattle.wire.specs.Format.{viewsBytes}
 use Rattle.wire.specs.Reader.{viewsIn}
 use Rattle.rules.specs.Data.{Step}
-use Rattle.record_steps.specs.Turns.{verdictOf}
 use Rattle.events.specs.declared.Reply.{Reply}
+use Rattle.events.specs.Replies.{verdictOf}
 use Rattle.group_bytes.specs.Groups.{Ranges, ranges}
 use Rattle.group_bytes.specs.Starts.{startRanges}
 use Rattle.group_bytes.specs.Steps.{startResult, leftRanges, stepRanges, stepReply}

@@ -11,7 +11,7 @@ use Rattle.views.specs.Limits.{maxViews}
 use Rattle.views.specs.Lists.{viewOf, listOf}
 use Rattle.rules.specs.Data.{Identifier, Group, Result}
 use Rattle.rules.specs.Group.{Next, fresh, creates}
-use Rattle.record_steps.specs.Turns.{verdictOf}
+use Rattle.events.specs.Replies.{verdictOf}
 use Rattle.group_listed.specs.declared.list.Creation.{Creation}
 
 -- the views made: so many of the list's first records

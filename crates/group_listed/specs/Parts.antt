@@ -16,7 +16,7 @@ use Rattle.wire.specs.Format.{viewsBytes}
 use Rattle.wire.specs.Reader.{viewIn}
 use Rattle.rules.specs.Data.{Step}
 use Rattle.rules.specs.Group.{firstView}
-use Rattle.record_steps.specs.Turns.{verdictOf}
+use Rattle.events.specs.Replies.{verdictOf}
 use Rattle.group_bytes.specs.Places.{roomOf, madeAt}
 use Rattle.group_bytes.specs.Groups.{Ranges, ranges}
 use Rattle.group_bytes.specs.Starts.{startRanges}

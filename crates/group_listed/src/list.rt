@@ -10,8 +10,8 @@ use views::refusal::Verdict;
 ghost use mathlib.Core.Path.{_≡_};
 ghost use lib.ListN.{take};
 ghost use Rattle.views.specs.Lists.{listOf, findOf};
+ghost use Rattle.events.specs.Replies.{verdictOf};
 ghost use Rattle.group_listed.specs.Creates.{madeIn, creating, atOf, CreatedBy, Created};
-ghost use Rattle.record_steps.specs.Turns.{verdictOf};
 ghost use Rattle.group_steps.specs.CarrierParts.{allBelow};
 
 // What a create gives, and the place of the list at which it puts a view.

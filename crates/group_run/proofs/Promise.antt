@@ -11,13 +11,12 @@ use Rattle.views.specs.declared.refusal.Refusal.{Refusal}
 use Rattle.views.specs.declared.refusal.Refusal.the-variants.{RecordsUnsound}
 use Rattle.views.specs.declared.refusal.Verdict.{Verdict}
 use Rattle.views.specs.declared.refusal.Verdict.the-variants.{Accepted, Refused}
-use Rattle.views.specs.Refusals.{need}
+use Rattle.views.specs.Refusals.{require, left}
 use Rattle.views.specs.Sets.{both}
 use Rattle.rules.specs.Data.{Group, Result, refused, accepted}
 use Rattle.rules.specs.Sound.{conditions}
 use Rattle.rules.proofs.TestLaws.{conditions-say}
-use Rattle.record_steps.specs.Turns.{verdictOf}
-use Rattle.events.specs.Replies.{left}
+use Rattle.events.specs.Replies.{verdictOf}
 use Rattle.group_bytes.specs.Groups.{Ranges}
 use Rattle.group_bytes.specs.Starts.{startRanges}
 use Rattle.group_bytes.specs.Steps.{startResult, lastRanges, repliesOf}
@@ -72,19 +71,19 @@ module _ (n S : ℕ) (r : Ranges) (steps a : List ℕ) where
   refused-ran x e = record { verdict = sym e; list = rw e; books = rw e; queues = rw e; answers = rw e; promise = λ k. absurd (never x k); sound = λ k. absurd (never x k) }
 
   pub unpaired-ran : paired (length steps) (length a) ≡ false → Ran n S r steps a r a (Refused RecordsUnsound)
-  unfolding runVerdict need
+  unfolding runVerdict require
   unpaired-ran e = refused-ran RecordsUnsound (rw e)
 
   module _ (pair : paired (length steps) (length a) ≡ true) (b : Ranges) (v : Verdict) (began : Began r n S b v) where
     pub unstarted-ran : (x : Refusal) → v ≡ Refused x → Ran n S r steps a b a (Refused x)
-    unfolding runVerdict need left
+    unfolding runVerdict require left
     unstarted-ran x e =
         let vo : verdictOf (startResult n S r) ≡ Refused x = sym (began .verdict) ∙ e in
         let same : b ≡ r = same-ranges b r (rw vo at (began .list)) (rw vo at (began .books)) (rw vo at (began .queues)) in
         rw same (refused-ran x (rw (pair, vo)))
 
     pub all-ran : v ≡ Accepted → (d : Ranges) (e : List ℕ) → Turns b steps d e → Ran n S r steps a d e Accepted
-    unfolding runVerdict need left
+    unfolding runVerdict require left
     all-ran w d e turns =
         let vo : verdictOf (startResult n S r) ≡ Accepted = sym (began .verdict) ∙ w in
         let same : b ≡ startRanges n S r = same-ranges b (startRanges n S r) (rw vo at (began .list)) (rw vo at (began .books)) (rw vo at (began .queues)) in

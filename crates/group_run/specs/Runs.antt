@@ -8,12 +8,11 @@ use lib.ListN.{length}
 use Rattle.views.specs.declared.refusal.Refusal.the-variants.{RecordsUnsound}
 use Rattle.views.specs.declared.refusal.Verdict.{Verdict}
 use Rattle.views.specs.declared.refusal.Verdict.the-variants.{Accepted}
-use Rattle.views.specs.Refusals.{need}
+use Rattle.views.specs.Refusals.{require, left}
 use Rattle.views.specs.Sets.{one}
 use Rattle.rules.specs.Sound.{conditions}
 use Rattle.rules.specs.Promise.{Promised}
-use Rattle.record_steps.specs.Turns.{verdictOf}
-use Rattle.events.specs.Replies.{left}
+use Rattle.events.specs.Replies.{verdictOf}
 use Rattle.group_bytes.specs.Groups.{Ranges, rangesSound}
 use Rattle.group_bytes.specs.Starts.{startRanges}
 use Rattle.group_bytes.specs.Steps.{startResult, leftRanges, lastRanges, repliesOf}
@@ -29,7 +28,7 @@ paired steps answers = conditions (
 
 -- 4 for records that do not pair, then the start's refusals; what a step is refused by stands in its answer
 unfoldable pub runVerdict : ℕ → ℕ → Ranges → List ℕ → List ℕ → Verdict
-runVerdict n S r steps answers = need (paired (length steps) (length answers)) RecordsUnsound (verdictOf (startResult n S r))
+runVerdict n S r steps answers = require (paired (length steps) (length answers)) RecordsUnsound (verdictOf (startResult n S r))
 
 -- a run of these steps, by n members with the first set S, in the ranges r, gave the verdict v; it left the ranges d, and made the answers a into e
 pub record Ran (n S : ℕ) (r : Ranges) (steps a : List ℕ) (d : Ranges) (e : List ℕ) (v : Verdict) : Type 0 where

@@ -18,7 +18,7 @@ use Rattle.rules.specs.Member.{all}
 use Rattle.rules.specs.Sound.{conditions, listed, listedIf}
 use Rattle.rules.proofs.TestLaws.{within-says, conditions-say, listed-in}
 use Rattle.book_bytes.specs.declared.Seat.{Seat}
-use Rattle.book_bytes.specs.declared.Book.{Book}
+use Rattle.book_bytes.specs.declared.Record.{Record}
 use Rattle.book_bytes.specs.Places.{bookSize, settledAt, carrierAt, clientAt, opensAt}
 use Rattle.book_bytes.specs.Records.{seated, seatIn, recordIn}
 use Rattle.book_bytes.specs.Books.{layoutFits, bytesSound}
@@ -26,7 +26,7 @@ use Rattle.rules.proofs.Truth.{both-unit}
 use Rattle.book_sound.proofs.Tests.{opens-in}
 use Rattle.group_bytes.specs.Places.{roomOf, booksSize, bookBytes, orderAt, queuesSize}
 use Rattle.group_bytes.specs.Groups.{Ranges, membersOf, madeOf, viewsMade, placeOf}
-use Rattle.group_sound.specs.Parts.{sizesFit, numbersFit, recordListed, orderedIn, seatSound}
+use Rattle.group_sound.specs.Parts.{sizesFit, numbersFit, recordListed, orderedIn, memberSound}
 use Rattle.group_sound.proofs.PlaceLaws.{place-within}
 
 sizes-order : (z a b c d : Bool) → conditions (z ∷ both a b ∷ c ∷ d ∷ []) ≡ both z (both a (both b (both c d)))
@@ -57,7 +57,7 @@ pub numbers-are : (n made room : ℕ) → numbersFit n made room ≡ both (leb 1
 unfolding numbersFit
 numbers-are n made room = numbers-order (leb 1 n) (leb n maxMembers) (leb 1 made) (leb made room)
 
-record-are : (views : List View) (h : Book) → recordListed views h
+record-are : (views : List View) (h : Record) → recordListed views h
     ≡ both (listed views (h .settled)) (both (all (listed views) (listOf (h .opens))) (both (listedIf views (seated (h .carrier))) (listedIf views (seated (h .client)))))
 unfolding recordListed all
 record-are views h =
@@ -97,7 +97,7 @@ module _ (r : Ranges) (sizes : sizesFit (length (r .list)) (length (r .books)) (
     queues-hold = omega (arith, queues-long, made-few)
 
 -- the carrier view of a record whose views are listed
-pub record-carrier : (views : List View) (h : Book) → recordListed views h ≡ true → listedIf views (seated (h .carrier)) ≡ true
+pub record-carrier : (views : List View) (h : Record) → recordListed views h ≡ true → listedIf views (seated (h .carrier)) ≡ true
 unfolding recordListed
 record-carrier views h t = let (_, (x, _)) = conditions-say _ t in x
 
@@ -121,6 +121,6 @@ ordered-there views q s e = rw e
 -- ---- the part of the books that is the book of p
 
 pub part-answer : (views : List View) (q books : List ℕ) (n p : ℕ)
-    → seatSound views q n p (bookBytes books p) ≡ seatSound views q n p (take (bookSize * p + bookSize - bookSize * p) (drop (bookSize * p) books))
+    → memberSound views q n p (bookBytes books p) ≡ memberSound views q n p (take (bookSize * p + bookSize - bookSize * p) (drop (bookSize * p) books))
 unfolding bookBytes
 part-answer views q books n p = let e : bookSize * p + bookSize - bookSize * p ≡ bookSize = omega arith in rw e

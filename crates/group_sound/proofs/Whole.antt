@@ -31,7 +31,7 @@ use Rattle.rules.proofs.Truth.{alike}
 use Rattle.group_bytes.specs.Places.{roomOf, bookBytes, orderAt, waitingAt}
 use Rattle.group_bytes.specs.Groups.{Ranges, membersOf, madeOf, viewsMade, placeOf, waitingIn, orderIn, bookOf, groupIn, rangesFit, rangesSound}
 use Rattle.group_bytes.proofs.RangesLaws.{Queued, Ranged, ranges-says, ranges-from}
-use Rattle.group_sound.specs.Parts.{sizesFit, numbersFit, recordListed, orderedIn, bookKnown, seatSound, queueSound, waitingSound, tableSound, recordsSound, partsSound}
+use Rattle.group_sound.specs.Parts.{sizesFit, numbersFit, recordListed, orderedIn, bookKnown, memberSound, queueSound, waitingSound, tableSound, recordsSound, partsSound}
 use Rattle.group_sound.proofs.PlaceLaws.{in-at, place-within, place-at}
 use Rattle.group_sound.proofs.GroupParts.{entries-listed, queue-in, queue-out, book-in, outgoing-in, book-listed, book-out}
 
@@ -113,10 +113,10 @@ module _ (r : Ranges) where
           and entries-listed views n (outgoingIn (bytes p)) (seated-outgoing .entries)
           and tt)
 
-      seat-part : seatSound views (r .queues) n p (bytes p) ≡ true
-      unfolding seatSound bytesSound
-      seat-part =
-          let t = f .seats p h in
+      place-part : memberSound views (r .queues) n p (bytes p) ≡ true
+      unfolding memberSound bytesSound
+      place-part =
+          let t = f .in-place p h in
           conditions-from _ (
           conditions-from _ (layout-from _ (t .layout) and rw (t .members) alone and tt)
           and eq-eqb _ _ (t .members)
@@ -162,7 +162,7 @@ module _ (r : Ranges) where
         and conditions-from _ (within-from 1 _ _ (f .members .0) (f .members .1) and within-from 1 _ _ (f .made .0) (f .made .1) and tt)
         and conditions-from _ (
         both-from _ _ (all-from (setFits n) views sets-fit) rising
-        and every-from n _ seat-part
+        and every-from n _ place-part
         and every-from (length views) _ (λ i h. table-part i (omega (arith, made)))
         and tt)
         and tt)
@@ -186,30 +186,30 @@ module _ (r : Ranges) where
     unfolding recordsSound
     list-says = let (x, _) = conditions-say _ records in both-true _ _ x
 
-    seats : (p : ℕ) → p < n → seatSound views (r .queues) n p (bytes p) ≡ true
+    in-place : (p : ℕ) → p < n → memberSound views (r .queues) n p (bytes p) ≡ true
     unfolding recordsSound
-    seats p k = let (_, (x, _)) = conditions-say _ records in every-at n _ x p k
+    in-place p k = let (_, (x, _)) = conditions-say _ records in every-at n _ x p k
 
     tables : (i : ℕ) → i < madeOf r → tableSound views n (r .queues) i ≡ true
     unfolding recordsSound
     tables i k = let (_, (_, (x, _))) = conditions-say _ records in every-at (length views) _ x i (omega (arith, made))
 
     module _ (p : ℕ) (k : p < n) where
-      seat-says : (bytesSound (bytes p) ≡ true) × (getD (bytes p) membersAt 0 ≡ n) × (getD (bytes p) selfAt 0 ≡ p) × (bookKnown views (r .queues) (bytes p) ≡ true)
-      unfolding seatSound
-      seat-says = let (sound, (members, (self, (known, _)))) = conditions-say _ (seats p k) in (sound, eqb-true _ _ members, eqb-true _ _ self, known)
+      member-says : (bytesSound (bytes p) ≡ true) × (getD (bytes p) membersAt 0 ≡ n) × (getD (bytes p) selfAt 0 ≡ p) × (bookKnown views (r .queues) (bytes p) ≡ true)
+      unfolding memberSound
+      member-says = let (sound, (members, (self, (known, _)))) = conditions-say _ (in-place p k) in (sound, eqb-true _ _ members, eqb-true _ _ self, known)
 
       layout : layoutFits (bytes p) ≡ true
       unfolding bytesSound
-      layout = let (x, _) = conditions-say _ (seat-says .0) in x
+      layout = let (x, _) = conditions-say _ (member-says .0) in x
 
       by-itself : bookSound n (bookIn (bytes p)) ≡ true
       unfolding bytesSound
-      by-itself = let (_, (x, _)) = conditions-say _ (seat-says .0) in rw (seat-says .1) at x
+      by-itself = let (_, (x, _)) = conditions-say _ (member-says .0) in rw (member-says .1) at x
 
       listed-book : bookListed views (bookIn (bytes p)) ≡ true
       unfolding bookKnown
-      listed-book = let (x, _) = conditions-say _ (seat-says .3) in record-listed (bytes p) ∙ x
+      listed-book = let (x, _) = conditions-say _ (member-says .3) in record-listed (bytes p) ∙ x
 
       carrier-in : (v : View) → seated (recordIn (bytes p) .carrier) ≡ some v → In v views
       unfolding bookListed bookIn
@@ -218,7 +218,7 @@ module _ (r : Ranges) where
       taken-within : bookIn (bytes p) .carrier .taken ≤ length (S.orderAt (groupIn r) (bookIn (bytes p) .carrier .view))
       unfolding bookKnown bookIn
       taken-within =
-          let (_, (x, _)) = conditions-say _ (seat-says .3) in
+          let (_, (x, _)) = conditions-say _ (member-says .3) in
           rw (ordered-of (seated (recordIn (bytes p) .carrier)) carrier-in) (leb-true _ _ x)
 
       book-sound : BookSound (inGroup (groupIn r)) (bookOf r p)
@@ -228,7 +228,7 @@ module _ (r : Ranges) where
       outgoing-sound : QueueSound (groupIn r) maxOutgoing (bookOf r p .outgoing)
       unfolding groupIn bookKnown bookIn
       outgoing-sound =
-          let (_, (_, (x, _))) = conditions-say _ (seat-says .3) in
+          let (_, (_, (x, _))) = conditions-say _ (member-says .3) in
           rw (book-of p k) (outgoing-in (groupIn r) (bookIn (bytes p)) by-itself x)
 
     module _ (i : ℕ) (k : i < madeOf r) where
@@ -255,7 +255,7 @@ module _ (r : Ranges) where
           queues = eqb-true _ _ queues;
           members = within-says _ _ _ members;
           made = within-says _ _ _ count;
-          seats = λ p k. record { layout = layout-says _ (layout p k); members = seat-says p k .1; self = seat-says p k .2 };
+          in-place = λ p k. record { layout = layout-says _ (layout p k); members = member-says p k .1; self = member-says p k .2 };
           tables = λ i k. record { order = order-says i k .0; waiting = λ p m. waiting-says i k p m .0 };
         }
 

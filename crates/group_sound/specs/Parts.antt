@@ -14,7 +14,7 @@ use Rattle.views.specs.Lists.{idOf, isRising, listOf}
 use Rattle.rules.specs.Member.{every, all}
 use Rattle.rules.specs.Sound.{within, conditions, setFits, listed, listedIf, infoListed}
 use Rattle.slots.specs.Slots.{slotSize, entryIn, queueIn, slotFits, slotsFit}
-use Rattle.book_bytes.specs.declared.Book.{Book}
+use Rattle.book_bytes.specs.declared.Record.{Record}
 use Rattle.book_bytes.specs.Places.{membersAt, selfAt}
 use Rattle.book_bytes.specs.Records.{seated, recordIn}
 use Rattle.book_bytes.specs.Books.{outgoingIn, bytesSound}
@@ -36,7 +36,7 @@ unfoldable pub numbersFit : ℕ → ℕ → ℕ → Bool
 numbersFit n made room = conditions (within 1 n maxMembers ∷ within 1 made room ∷ [])
 
 -- the views of a book's record are listed
-unfoldable pub recordListed : List View → Book → Bool
+unfoldable pub recordListed : List View → Record → Bool
 recordListed views h = conditions (
     all (listed views) (h .settled ∷ listOf (h .opens))
     ∷ listedIf views (seated (h .carrier))
@@ -57,8 +57,8 @@ bookKnown views q b = conditions (
     ∷ [])
 
 -- the book of p
-unfoldable pub seatSound : List View → List ℕ → ℕ → ℕ → List ℕ → Bool
-seatSound views q n p b = conditions (
+unfoldable pub memberSound : List View → List ℕ → ℕ → ℕ → List ℕ → Bool
+memberSound views q n p b = conditions (
     bytesSound b
     ∷ eqb (getD b membersAt 0) n
     ∷ eqb (getD b selfAt 0) p
@@ -94,7 +94,7 @@ tableSound views n q i = both (queueSound views n q maxOrdered (orderAt i)) (wai
 unfoldable pub recordsSound : List View → ℕ → List ℕ → List ℕ → Bool
 recordsSound views n books q = conditions (
     both (all (setFits n) views) (isRising views)
-    ∷ every n (λ p. seatSound views q n p (bookBytes books p))
+    ∷ every n (λ p. memberSound views q n p (bookBytes books p))
     ∷ every (length views) (tableSound views n q)
     ∷ [])
 

@@ -1,6 +1,6 @@
 // Whether three ranges are a sound group: refusal 4 of the group. Only what is used is looked at, where it lies.
 mod listed;
-mod seats;
+mod members;
 mod tables;
 
 use views::limits;
@@ -58,7 +58,7 @@ fn records_sound(list: &[u8], books: &[u8], queues: &[u8], made: u8, n: u8) -> b
     if !book_sound::views_at::sound(list, 0, made as usize, n) {
         return false;
     }
-    if !crate::seats::seats_sound(list, books, queues, made, n) {
+    if !crate::members::members_sound(list, books, queues, made, n) {
         return false;
     }
     crate::tables::tables_sound(list, queues, made, n)

@@ -16,13 +16,13 @@ use Rattle.views.specs.Limits.{maxMembers}
 use Rattle.views.specs.Sizes.{viewSize}
 use Rattle.views.specs.Sets.{isEmpty, isBeyond}
 use Rattle.views.specs.Lists.{viewOf}
+use Rattle.views.specs.Refusals.{left}
 use Rattle.wire.specs.Reader.{viewsIn}
 use Rattle.wire.specs.Writer.{storeView}
 use Rattle.rules.specs.Data.{ok, accepted, need}
 use Rattle.rules.specs.Member.{all}
 use Rattle.rules.specs.Group.{fits, creates}
-use Rattle.record_steps.specs.Turns.{verdictOf}
-use Rattle.events.specs.Replies.{left}
+use Rattle.events.specs.Replies.{verdictOf}
 use Rattle.group_bytes.specs.Places.{roomOf, madeAt, orderAt, waitingAt}
 use Rattle.group_bytes.specs.Groups.{Ranges, membersOf, madeOf, viewsMade, groupIn}
 use Rattle.group_bytes.specs.Moves.{waitingCleared, tableCleared, createRanges}

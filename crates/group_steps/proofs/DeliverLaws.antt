@@ -12,9 +12,10 @@ use Rattle.views.specs.declared.refusal.Refusal.the-variants.{NoSuchMember, NoC
 use Rattle.views.specs.declared.refusal.Verdict.the-variants.{Refused}
 use Rattle.views.specs.Limits.{maxViews, maxMembers, maxOrdered}
 use Rattle.views.specs.Lists.{idOf, listOf}
+use Rattle.views.specs.Refusals.{left}
 use Rattle.wire.specs.declared.Frame.{Frame}
 use Rattle.rules.specs.Data.{Member, Message, client, info, registered, told, Entry, Book, ok, accepted, need, withView, withFirst}
-use Rattle.rules.specs.Member.{does, took}
+use Rattle.rules.specs.Member.{does, delivered}
 use Rattle.rules.specs.Alone.{viewsOf, carriedOf, messageOf}
 use Rattle.rules.specs.Group.{booked, takeFrom, deliverStep}
 use Rattle.rules.proofs.Soundness.{sound-says}
@@ -26,9 +27,8 @@ use Rattle.slots.proofs.Frames.{EntryOk, frame-carried, frame-views}
 use Rattle.book_bytes.specs.Places.{membersAt, carrierAt, takenAt, bookSize}
 use Rattle.book_bytes.specs.Records.{seatIn, recordIn}
 use Rattle.book_bytes.specs.Books.{bookIn, bytesSound}
-use Rattle.record_steps.specs.Turns.{verdictOf}
 use Rattle.events.specs.declared.Reply.{Reply}
-use Rattle.events.specs.Replies.{noEvent, replied, replyOf, left}
+use Rattle.events.specs.Replies.{noEvent, replied, replyOf, verdictOf}
 use Rattle.book_steps.specs.Acts.{taking, takeBytes}
 use Rattle.book_steps.proofs.MeansTake.{toldOf}
 use Rattle.group_bytes.specs.Places.{bookBytes, orderAt}
@@ -40,7 +40,7 @@ use Rattle.group_bytes.proofs.BookSounds.{book-is}
 use Rattle.group_bytes.proofs.Inside.{order-inside}
 use Rattle.group_bytes.proofs.Tables.{order-at}
 use Rattle.group_bytes.proofs.DeliverGroup.{Takes, takes-accepted, deliver-takes}
-use Rattle.group_steps.specs.OwnParts.{Desk, ofMember, Sat}
+use Rattle.group_steps.specs.OwnParts.{HasBook, ofMember, OwnStep}
 use Rattle.group_steps.proofs.OwnStepLaws.{desk-done}
 use Rattle.group_steps.proofs.Rows.{ranged, group-sound}
 use Rattle.group_steps.specs.VisitParts.{delivering, Delivered}
@@ -67,7 +67,7 @@ module _ (books : List ℕ) (p : Member) (there : p < getD books membersAt 0) (m
   abbrev part : List ℕ
   part = take m (drop (bookSize * p) books)
 
-  pub part-asks : Desk books p → (q : Member) → q < maxMembers → getD (bookBytes books p) takenAt 0 < maxOrdered → getD (bookBytes books p) carrierAt 0 ≡ 1
+  pub part-asks : HasBook books p → (q : Member) → q < maxMembers → getD (bookBytes books p) takenAt 0 < maxOrdered → getD (bookBytes books p) carrierAt 0 ≡ 1
       → (bytesSound part ≡ true) × (q < maxMembers) × (getD part takenAt 0 < maxOrdered) × (getD part carrierAt 0 ≡ 1)
   unfolding bookBytes
   part-asks desk q from room carrier = rw size (desk .sound there, from, room, carrier)
@@ -76,7 +76,7 @@ module _ (books : List ℕ) (p : Member) (there : p < getD books membersAt 0) (m
       → (x ≡ replyOf (taking q (messageOf (f .message) (listOf (f .views))) (bookIn part)))
       × (c ≡ left (verdictOf (taking q (messageOf (f .message) (listOf (f .views))) (bookIn part))) (takeBytes q (messageOf (f .message) (listOf (f .views))) part) part)
       → exit ≡ take (bookSize * p) books ++ (c ++ drop m (drop (bookSize * p) books))
-      → Sat p (ofMember books p (λ b. taking q (messageOf (h .message) (listOf (h .views))) (bookIn b))) (takeBytes q (messageOf (h .message) (listOf (h .views)))) books exit x
+      → OwnStep p (ofMember books p (λ b. taking q (messageOf (h .message) (listOf (h .views))) (bookIn b))) (takeBytes q (messageOf (h .message) (listOf (h .views)))) books exit x
   part-taken q f h e x c exit y z =
       let n = messageOf (f .message) (listOf (f .views)) in
       rw (← e) (desk-done books p (λ b. taking q n (bookIn b)) (takeBytes q n) x there m size c exit y z)
@@ -159,7 +159,7 @@ module _ (r : Ranges) (p : Member) where
         abbrev m : Message
         m = messageIn (r .queues) here
 
-        by-next : delivering r p ≡ accepted (record { state = booked (groupIn r) p (took q m B); answer = ok })
+        by-next : delivering r p ≡ accepted (record { state = booked (groupIn r) p (delivered q m B); answer = ok })
         unfolding withFirst
         by-next = by-first ∙ rw (entries-next (r .queues) (orderAt i + 1) (getD (r .queues) (orderAt i) 0) (getD b takenAt 0) more)
 
@@ -175,7 +175,7 @@ module _ (r : Ranges) (p : Member) where
 
         -- what the code asks of the entry
         pub take-asks : (at : ℕ) → at ≡ here
-            → Desk (r .books) p × (p < membersOf r) × (at + slotSize ≤ length (r .queues)) × (framed (r .queues) at ≤ maxViews) × (getD (r .queues) at 0 < maxMembers)
+            → HasBook (r .books) p × (p < membersOf r) × (at + slotSize ≤ length (r .queues)) × (framed (r .queues) at ≤ maxViews) × (getD (r .queues) at 0 < maxMembers)
             × (getD b takenAt 0 < maxOrdered) × (getD b carrierAt 0 ≡ 1)
         take-asks at e =
             let fits = ranged r s in
@@ -189,19 +189,19 @@ module _ (r : Ranges) (p : Member) where
               takes .there,
             )
 
-        in-book : (n : Message) → n ≡ m → ofMember (r .books) p (λ c. taking q n (bookIn c)) ≡ does ok (took q m B)
+        in-book : (n : Message) → n ≡ m → ofMember (r .books) p (λ c. taking q n (bookIn c)) ≡ does ok (delivered q m B)
         in-book n e =
             of-member (r .books) p _ member ∙ rw (e, ← book-is r (ranged r s) p member) (takes-accepted r p q m takes)
 
         done : (n : Message) → n ≡ m → (exit : List ℕ) (x : Reply)
-            → Sat p (ofMember (r .books) p (λ c. taking q n (bookIn c))) (takeBytes q n) (r .books) exit x → Delivered r p exit x
+            → OwnStep p (ofMember (r .books) p (λ c. taking q n (bookIn c))) (takeBytes q n) (r .books) exit x → Delivered r p exit x
         unfolding deliverRanges recordIn left
         done n e exit x y =
             let k = in-book n e in
             record { reply = rw by-next (y .reply ∙ ap replyOf k); taken = rw by-next (y .books ∙ rw (k, e)) }
 
         pub deliver-done : (at g : ℕ) → at ≡ here → (exit : List ℕ) (x : Reply)
-            → Sat p (ofMember (r .books) p (λ c. taking (getD (r .queues) at 0) (messageOf (frameAt (r .queues) at g .message) (listOf (frameAt (r .queues) at g .views))) (bookIn c)))
+            → OwnStep p (ofMember (r .books) p (λ c. taking (getD (r .queues) at 0) (messageOf (frameAt (r .queues) at g .message) (listOf (frameAt (r .queues) at g .views))) (bookIn c)))
             (takeBytes (getD (r .queues) at 0) (messageOf (frameAt (r .queues) at g .message) (listOf (frameAt (r .queues) at g .views)))) (r .books) exit x
             → Delivered r p exit x
         deliver-done at g e exit x y = done _ (frame-message (r .queues) here g entry-ok) exit x (rw e at y)

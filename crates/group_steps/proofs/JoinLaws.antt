@@ -13,16 +13,16 @@ use Rattle.views.specs.declared.refusal.Refusal.the-variants.{NoSuchMember, NoS
 use Rattle.views.specs.declared.refusal.Verdict.the-variants.{Refused}
 use Rattle.views.specs.Sizes.{viewSize}
 use Rattle.views.specs.Lists.{noView, findOf}
+use Rattle.views.specs.Refusals.{left}
 use Rattle.wire.specs.Reader.{viewIn, viewsIn}
 use Rattle.rules.specs.Data.{Member, Result, need}
 use Rattle.rules.specs.Member.{Done, joins}
 use Rattle.rules.specs.Group.{own, withListed, joinStep}
 use Rattle.book_bytes.specs.Places.{membersAt, bookSize}
-use Rattle.book_bytes.specs.Books.{bookIn}
-use Rattle.record_steps.specs.Turns.{verdictOf}
+use Rattle.book_bytes.specs.Books.{bookIn, selfIn}
 use Rattle.events.specs.declared.Reply.{Reply}
-use Rattle.events.specs.Replies.{noEvent, replied, replyOf, left}
-use Rattle.book_steps.specs.Acts.{selfIn, joinBytes}
+use Rattle.events.specs.Replies.{noEvent, replied, replyOf, verdictOf}
+use Rattle.book_steps.specs.Acts.{joinBytes}
 use Rattle.group_bytes.specs.Places.{bookBytes, withBook}
 use Rattle.group_bytes.specs.Groups.{Ranges, membersOf, madeOf, viewsMade, placeOf, groupIn, rangesSound}
 use Rattle.group_bytes.specs.Moves.{viewAt, joinRanges}
@@ -30,7 +30,7 @@ use Rattle.group_bytes.specs.Answers.{nextReply}
 use Rattle.group_bytes.proofs.AnswerLaws.{own-reply, own-verdict}
 use Rattle.group_bytes.proofs.PlaceLaws.{place-found}
 use Rattle.group_bytes.proofs.BookSounds.{self-in, book-is, sound-book}
-use Rattle.group_steps.specs.OwnParts.{Desk, ofMember, Sat}
+use Rattle.group_steps.specs.OwnParts.{HasBook, ofMember, OwnStep}
 use Rattle.group_steps.proofs.OwnStepLaws.{desk-done}
 use Rattle.group_steps.proofs.Found.{found-at, missing-at}
 use Rattle.group_steps.proofs.Rows.{ranged, group-sound}
@@ -39,7 +39,7 @@ use Rattle.group_steps.specs.VisitParts.{joining, Joined}
 -- ---- a member's step in the group
 
 -- what is asked of the books of a sound group
-pub desk-of : (r : Ranges) → rangesSound r ≡ true → (p : Member) → Desk (r .books) p
+pub desk-of : (r : Ranges) → rangesSound r ≡ true → (p : Member) → HasBook (r .books) p
 desk-of r s p =
     let fits = ranged r s in
     record { size = fits .books; few = fits .members .1; sound = λ i. sound-book r fits p i (group-sound r s) }
@@ -55,7 +55,7 @@ pub enter-done : (books : List ℕ) (p : Member) → p < getD books membersAt 0 
     → let b = take m (drop (bookSize * p) books) in
     (x ≡ replyOf (joins (selfIn b) v (bookIn b))) × (c ≡ left (verdictOf (joins (selfIn b) v (bookIn b))) (joinBytes v b) b)
     → exit ≡ take (bookSize * p) books ++ (c ++ drop m (drop (bookSize * p) books))
-    → Sat p (ofMember books p (λ b. joins (selfIn b) w (bookIn b))) (joinBytes w) books exit x
+    → OwnStep p (ofMember books p (λ b. joins (selfIn b) w (bookIn b))) (joinBytes w) books exit x
 enter-done books p there v w e m size x c exit f g =
     rw (← e) (desk-done books p (λ b. joins (selfIn b) v (bookIn b)) (joinBytes v) x there m size c exit f g)
 
@@ -109,7 +109,7 @@ module _ (r : Ranges) (p : Member) (g : ℕ) where
           of-member (r .books) p _ member ∙ rw (here, self-in r fits p member, book-is r fits p member)
 
       pub join-done : (exit : List ℕ) (x : Reply)
-          → Sat p (ofMember (r .books) p (λ b. joins (selfIn b) (viewIn (r .list) (viewSize * i)) (bookIn b))) (joinBytes (viewIn (r .list) (viewSize * i))) (r .books) exit x
+          → OwnStep p (ofMember (r .books) p (λ b. joins (selfIn b) (viewIn (r .list) (viewSize * i)) (bookIn b))) (joinBytes (viewIn (r .list) (viewSize * i))) (r .books) exit x
           → Joined r p g exit x
       unfolding joinRanges
       join-done exit x y = record {

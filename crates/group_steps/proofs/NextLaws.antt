@@ -25,7 +25,7 @@ use Rattle.group_bytes.specs.Groups.{Ranges, membersOf, viewsMade, placeOf, ran
 use Rattle.group_bytes.proofs.RangesLaws.{RangesBytes}
 use Rattle.group_bytes.proofs.BookBytes.{book-byte}
 use Rattle.group_bytes.proofs.Inside.{order-inside}
-use Rattle.group_steps.specs.OwnParts.{Desk, ofMember, Sat}
+use Rattle.group_steps.specs.OwnParts.{HasBook, ofMember, OwnStep}
 use Rattle.group_steps.proofs.Rows.{ranged}
 use Rattle.group_steps.specs.VisitParts.{Delivered}
 use Rattle.group_steps.proofs.DeliverLaws.{carrier-made, deliver-none, take-asks, deliver-done}
@@ -62,12 +62,12 @@ module _ (r : Ranges) (p : Member) (s : rangesSound r ≡ true) (member : p < me
     ahead : getD (bookBytes (r .books) p) takenAt 0 < getD (r .queues) (orderAt i) 0
     ahead = omega (arith, at-count, at-taken)
 
-    pub next-asks : Desk (r .books) p × (p < membersOf r) × (at + slotSize ≤ length (r .queues)) × (framed (r .queues) at ≤ maxViews) × (getD (r .queues) at 0 < maxMembers)
+    pub next-asks : HasBook (r .books) p × (p < membersOf r) × (at + slotSize ≤ length (r .queues)) × (framed (r .queues) at ≤ maxViews) × (getD (r .queues) at 0 < maxMembers)
         × (getD (bookBytes (r .books) p) takenAt 0 < maxOrdered) × (getD (bookBytes (r .books) p) carrierAt 0 ≡ 1)
     next-asks = take-asks r p s member there bytes ahead at (omega (arith, at-order, at-taken))
 
     pub next-done : (exit : List ℕ) (x : Reply)
-        → Sat p (ofMember (r .books) p (λ b. taking (getD (r .queues) at 0) (messageOf (frameAt (r .queues) at (g .0) .message) (listOf (frameAt (r .queues) at (g .0) .views))) (bookIn b)))
+        → OwnStep p (ofMember (r .books) p (λ b. taking (getD (r .queues) at 0) (messageOf (frameAt (r .queues) at (g .0) .message) (listOf (frameAt (r .queues) at (g .0) .views))) (bookIn b)))
         (takeBytes (getD (r .queues) at 0) (messageOf (frameAt (r .queues) at (g .0) .message) (listOf (frameAt (r .queues) at (g .0) .views)))) (r .books) exit x
         → Delivered r p exit x
     next-done exit x y = deliver-done r p s member there bytes ahead at (g .0) (omega (arith, at-order, at-taken)) exit x y

@@ -10,13 +10,13 @@ use Rattle.views.specs.declared.refusal.Refusal.{Refusal}
 use Rattle.views.specs.declared.refusal.Refusal.the-variants.{NoSuchView, NoneWaiting, OrderFull}
 use Rattle.views.specs.declared.refusal.Verdict.the-variants.{Accepted, Refused}
 use Rattle.views.specs.Limits.{maxOrdered}
+use Rattle.views.specs.Refusals.{left}
 use Rattle.rules.specs.Data.{need, withFirst}
 use Rattle.rules.specs.Group.{withListed, orderStep}
 use Rattle.slots.specs.Slots.{slotSize}
 use Rattle.slots.specs.Changes.{popped}
 use Rattle.slots.proofs.Lists.{length-entries}
-use Rattle.record_steps.specs.Turns.{verdictOf}
-use Rattle.events.specs.Replies.{left}
+use Rattle.events.specs.Replies.{verdictOf}
 use Rattle.group_bytes.specs.Places.{orderAt, waitingAt}
 use Rattle.group_bytes.specs.Groups.{Ranges, membersOf, madeOf, viewsMade, placeOf, waitingIn, orderIn, groupIn}
 use Rattle.group_bytes.specs.Moves.{slotAdded, orderRanges}

@@ -8,15 +8,15 @@ use lib.ListN.{getD, take, drop, take-append-drop}
 use Rattle.views.specs.declared.refusal.Refusal.the-variants.{NoSuchMember}
 use Rattle.views.specs.declared.refusal.Verdict.{Verdict}
 use Rattle.views.specs.declared.refusal.Verdict.the-variants.{Accepted, Refused}
+use Rattle.views.specs.Refusals.{left}
 use Rattle.rules.specs.Data.{Result, need}
 use Rattle.rules.specs.Member.{Done}
 use Rattle.book_bytes.specs.Places.{membersAt, bookSize}
 use Rattle.book_bytes.specs.Books.{bytesSound}
-use Rattle.record_steps.specs.Turns.{verdictOf}
 use Rattle.events.specs.declared.Reply.{Reply}
-use Rattle.events.specs.Replies.{noEvent, replied, replyOf, left}
+use Rattle.events.specs.Replies.{noEvent, replied, replyOf, verdictOf}
 use Rattle.group_bytes.specs.Places.{bookBytes, withBook}
-use Rattle.group_steps.specs.OwnParts.{Desk, ofMember, Sat}
+use Rattle.group_steps.specs.OwnParts.{HasBook, ofMember, OwnStep}
 
 -- ---- the part
 
@@ -31,13 +31,13 @@ unfolding left
 left-book Accepted books p b = refl
 left-book (Refused r) books p b = same-book books p
 
-pub desk-sound : (books : List ℕ) (p : ℕ) → Desk books p → p < getD books membersAt 0 → (m : ℕ) → m ≡ bookSize → bytesSound (take m (drop (bookSize * p) books)) ≡ true
+pub desk-sound : (books : List ℕ) (p : ℕ) → HasBook books p → p < getD books membersAt 0 → (m : ℕ) → m ≡ bookSize → bytesSound (take m (drop (bookSize * p) books)) ≡ true
 unfolding bookBytes
 desk-sound books p desk there m size = rw size (desk .sound there)
 
 module _ (books : List ℕ) (p : ℕ) (rule : List ℕ → Result Done) (new : List ℕ → List ℕ) (r : Reply) where
   -- no member
-  pub desk-refused : getD books membersAt 0 ≤ p → r ≡ replied (Refused NoSuchMember) noEvent → Sat p (ofMember books p rule) new books books r
+  pub desk-refused : getD books membersAt 0 ≤ p → r ≡ replied (Refused NoSuchMember) noEvent → OwnStep p (ofMember books p rule) new books books r
   unfolding ofMember need replied left
   desk-refused h e = let t = le-ltb _ _ h in record { reply = rw t e; books = rw t }
 
@@ -45,7 +45,7 @@ module _ (books : List ℕ) (p : ℕ) (rule : List ℕ → Result Done) (new : L
   module _ (there : p < getD books membersAt 0) (m : ℕ) (size : m ≡ bookSize) where
     pub desk-done : (c exit : List ℕ)
         → (r ≡ replyOf (rule (take m (drop (bookSize * p) books)))) × (c ≡ left (verdictOf (rule (take m (drop (bookSize * p) books)))) (new (take m (drop (bookSize * p) books))) (take m (drop (bookSize * p) books)))
-        → exit ≡ take (bookSize * p) books ++ (c ++ drop m (drop (bookSize * p) books)) → Sat p (ofMember books p rule) new books exit r
+        → exit ≡ take (bookSize * p) books ++ (c ++ drop m (drop (bookSize * p) books)) → OwnStep p (ofMember books p rule) new books exit r
     unfolding ofMember need bookBytes withBook
     desk-done c exit (f, g) h =
         let t = lt-ltb _ _ there in

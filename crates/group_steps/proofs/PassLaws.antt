@@ -14,19 +14,19 @@ use Rattle.views.specs.declared.refusal.Refusal.the-variants.{NoCarrierView, No
 use Rattle.views.specs.declared.refusal.Verdict.the-variants.{Accepted, Refused}
 use Rattle.views.specs.Limits.{maxOutgoing, maxWaiting}
 use Rattle.views.specs.Lists.{idOf}
+use Rattle.views.specs.Refusals.{left}
 use Rattle.rules.specs.Data.{Book, need, withView, withFirst, after}
 use Rattle.rules.specs.Member.{passing as passes}
 use Rattle.rules.specs.Group.{passStep}
 use Rattle.rules.proofs.Soundness.{sound-says}
 use Rattle.slots.specs.Slots.{slotSize}
 use Rattle.slots.proofs.Lists.{length-entries}
+use Rattle.events.specs.Replies.{verdictOf}
 use Rattle.book_bytes.specs.declared.Seat.{Seat}
 use Rattle.book_bytes.specs.Places.{bookSize, carrierAt, outgoingAt}
 use Rattle.book_bytes.specs.Records.{seatIn, recordIn}
 use Rattle.book_bytes.specs.Books.{bookIn}
-use Rattle.record_steps.specs.Turns.{verdictOf}
 use Rattle.book_steps.specs.Acts.{passBytes}
-use Rattle.events.specs.Replies.{left}
 use Rattle.group_bytes.specs.Places.{bookBytes, withBook, waitingAt}
 use Rattle.group_bytes.specs.Groups.{Ranges, membersOf, madeOf, viewsMade, placeOf, groupIn, rangesSound}
 use Rattle.group_bytes.specs.Moves.{slotAdded, passRanges}
@@ -53,9 +53,9 @@ module _ (books : List ℕ) (p m : ℕ) (size : m ≡ bookSize) where
   unfolding bookBytes
   part-is = rw size
 
-  pub seat-is : (s : Seat) → s ≡ seatIn (take m (drop (bookSize * p) books)) carrierAt → s ≡ recordIn (bookBytes books p) .carrier
+  pub place-is : (s : Seat) → s ≡ seatIn (take m (drop (bookSize * p) books)) carrierAt → s ≡ recordIn (bookBytes books p) .carrier
   unfolding recordIn
-  seat-is s e = e ∙ ap (λ (b : List ℕ). seatIn b carrierAt) part-is
+  place-is s e = e ∙ ap (λ (b : List ℕ). seatIn b carrierAt) part-is
 
   pub put-back : (b : List ℕ) → take (bookSize * p) books ++ (b ++ drop m (drop (bookSize * p) books)) ≡ withBook books p b
   unfolding withBook
@@ -128,5 +128,5 @@ module _ (r : Ranges) (p : ℕ) where
           pub forward-asks : (length b ≡ bookSize) × (0 < getD b outgoingAt 0) × (getD b outgoingAt 0 ≤ maxOutgoing) × (getD (r .queues) w 0 < 255)
               × (w + 1 + slotSize * (getD (r .queues) w 0 + 1) ≤ length (r .queues))
           forward-asks =
-              let l = ranged r s .seats p member .layout in
+              let l = ranged r s .in-place p member .layout in
               (l .size, some, l .outgoing, omega arith, omega (arith, waiting-inside r (ranged r s) i carried-made p member))

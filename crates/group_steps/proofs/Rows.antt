@@ -12,7 +12,7 @@ use Rattle.rules.specs.Data.{Entry, Result, need}
 use Rattle.rules.specs.Sound.{sound}
 use Rattle.rules.specs.Group.{Next}
 use Rattle.slots.specs.Slots.{entriesIn}
-use Rattle.record_steps.specs.Turns.{verdictOf}
+use Rattle.events.specs.Replies.{verdictOf}
 use Rattle.group_bytes.specs.Groups.{Ranges, membersOf, rangesFit, groupIn, rangesSound}
 use Rattle.group_bytes.proofs.RangesLaws.{Ranged, ranges-says}
 use Rattle.group_steps.specs.CarrierParts.{byMember}

@@ -8,11 +8,11 @@ use Rattle.views.specs.declared.View.{View}
 use Rattle.views.specs.declared.refusal.Refusal.the-variants.{NoSuchMember}
 use Rattle.views.specs.declared.refusal.Verdict.{Verdict}
 use Rattle.views.specs.Lists.{idOf}
+use Rattle.views.specs.Refusals.{left}
 use Rattle.rules.specs.Data.{Identifier, Member, Result, need}
 use Rattle.rules.specs.Member.{all}
 use Rattle.rules.specs.Group.{Next, creates, passStep, orderStep}
-use Rattle.record_steps.specs.Turns.{verdictOf}
-use Rattle.events.specs.Replies.{left}
+use Rattle.events.specs.Replies.{verdictOf}
 use Rattle.group_bytes.specs.Groups.{Ranges, membersOf, groupIn}
 use Rattle.group_bytes.specs.Moves.{createRanges, passRanges, orderRanges}
 

@@ -7,17 +7,17 @@ use lib.Dec.{ltb}
 use lib.ListN.{length, getD}
 use Rattle.views.specs.declared.refusal.Refusal.the-variants.{NoSuchMember}
 use Rattle.views.specs.Limits.{maxMembers}
+use Rattle.views.specs.Refusals.{left}
 use Rattle.rules.specs.Data.{Member, Result, need}
 use Rattle.rules.specs.Member.{Done}
 use Rattle.book_bytes.specs.Places.{membersAt}
 use Rattle.book_bytes.specs.Books.{bytesSound}
-use Rattle.record_steps.specs.Turns.{verdictOf}
 use Rattle.events.specs.declared.Reply.{Reply}
-use Rattle.events.specs.Replies.{replyOf, left}
+use Rattle.events.specs.Replies.{replyOf, verdictOf}
 use Rattle.group_bytes.specs.Places.{booksSize, bookBytes, withBook}
 
 -- what is asked of the books: eight, of at most eight members, and the book of p is sound if p is a member
-pub record Desk (books : List ℕ) (p : ℕ) : Type 0 where
+pub record HasBook (books : List ℕ) (p : ℕ) : Type 0 where
   pub size : length books ≡ booksSize
   pub few : getD books membersAt 0 ≤ maxMembers
   pub sound : p < getD books membersAt 0 → bytesSound (bookBytes books p) ≡ true
@@ -27,6 +27,6 @@ unfoldable pub ofMember : List ℕ → Member → (List ℕ → Result Done) →
 ofMember books p rule = need (ltb p (getD books membersAt 0)) NoSuchMember (rule (bookBytes books p))
 
 -- the reply and the books at exit, where `new` is what an accepted step leaves of p's book
-pub record Sat (p : Member) (result : Result Done) (new : List ℕ → List ℕ) (entry exit : List ℕ) (r : Reply) : Type 0 where
+pub record OwnStep (p : Member) (result : Result Done) (new : List ℕ → List ℕ) (entry exit : List ℕ) (r : Reply) : Type 0 where
   pub reply : r ≡ replyOf result
   pub books : exit ≡ left (verdictOf result) (withBook entry p (new (bookBytes entry p))) entry

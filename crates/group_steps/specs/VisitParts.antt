@@ -4,11 +4,11 @@ use mathlib.Core.List.{List}
 use Prim.Native.Nat.{ℕ}
 use lib.Dec.{ltb}
 use Rattle.views.specs.declared.refusal.Refusal.the-variants.{NoSuchMember}
+use Rattle.views.specs.Refusals.{left}
 use Rattle.rules.specs.Data.{Identifier, Member, Result, need}
 use Rattle.rules.specs.Group.{Next, joinStep, deliverStep}
-use Rattle.record_steps.specs.Turns.{verdictOf}
 use Rattle.events.specs.declared.Reply.{Reply}
-use Rattle.events.specs.Replies.{left}
+use Rattle.events.specs.Replies.{verdictOf}
 use Rattle.group_bytes.specs.Groups.{Ranges, membersOf, groupIn}
 use Rattle.group_bytes.specs.Moves.{viewAt, joinRanges, deliverRanges}
 use Rattle.group_bytes.specs.Answers.{nextReply}

@@ -13,16 +13,16 @@ ghost use Rattle.views.specs.Sets.{one};
 ghost use Rattle.wire.specs.Reader.{viewIn};
 ghost use Rattle.rules.specs.Member.{joins, attempts, collects};
 ghost use Rattle.book_bytes.specs.Places.{membersAt};
-ghost use Rattle.book_bytes.specs.Books.{bookIn};
-ghost use Rattle.book_steps.specs.Acts.{selfIn, joinBytes, membersIn, fewOpen, attemptBytes, collectBytes};
+ghost use Rattle.book_bytes.specs.Books.{bookIn, selfIn, membersIn};
+ghost use Rattle.book_steps.specs.Acts.{joinBytes, fewOpen, attemptBytes, collectBytes};
 ghost use Rattle.group_bytes.specs.Groups.{rangesSound};
-ghost use Rattle.group_steps.specs.OwnParts.{Desk, ofMember, Sat};
+ghost use Rattle.group_steps.specs.OwnParts.{HasBook, ofMember, OwnStep};
 ghost use Rattle.group_steps.specs.VisitParts.{Joined};
 
 // The view at a place of the list becomes the carrier view of the member p.
 fn enter(list: &[u8], all: &mut [u8], p: u32, i: u8) -> Reply
-    requires { ⌜ Desk (now all) p × (p < getD (now all) membersAt 0) × (viewSize * i + viewSize ≤ length (now list)) ⌝ }
-    ensures { λ r. ⌜ Sat p (ofMember (now (all .entry)) p (λ b. joins (selfIn b) (viewIn (now (list .entry)) (viewSize * i)) (bookIn b)))
+    requires { ⌜ HasBook (now all) p × (p < getD (now all) membersAt 0) × (viewSize * i + viewSize ≤ length (now list)) ⌝ }
+    ensures { λ r. ⌜ OwnStep p (ofMember (now (all .entry)) p (λ b. joins (selfIn b) (viewIn (now (list .entry)) (viewSize * i)) (bookIn b)))
         (joinBytes (viewIn (now (list .entry)) (viewSize * i))) (now (all .entry)) (now (all .exit)) r ⌝ }
 {
     let v = wire::reader::load_view(list, group_bytes::VIEW * (i as usize));
@@ -49,8 +49,8 @@ pub fn join(list: &[u8], all: &mut [u8], queues: &[u8], p: u32, id: u64) -> Repl
 
 // The carrier view becomes open and becomes the client view.
 pub fn attempt(all: &mut [u8], p: u32) -> Reply
-    requires { ⌜ Desk (now all) p ⌝ }
-    ensures { λ r. ⌜ Sat p (ofMember (now (all .entry)) p (λ b. fewOpen (attempts one (membersIn b) (selfIn b) (bookIn b)))) attemptBytes (now (all .entry)) (now (all .exit)) r ⌝ }
+    requires { ⌜ HasBook (now all) p ⌝ }
+    ensures { λ r. ⌜ OwnStep p (ofMember (now (all .entry)) p (λ b. fewOpen (attempts one (membersIn b) (selfIn b) (bookIn b)))) attemptBytes (now (all .entry)) (now (all .exit)) r ⌝ }
 {
     if all[book_bytes::MEMBERS] as u32 <= p {
         return events::refuse(Refusal::NoSuchMember);
@@ -62,8 +62,8 @@ pub fn attempt(all: &mut [u8], p: u32) -> Reply
 
 // The carrier view becomes settled; only open views above it remain.
 pub fn collect(all: &mut [u8], p: u32) -> Reply
-    requires { ⌜ Desk (now all) p ⌝ }
-    ensures { λ r. ⌜ Sat p (ofMember (now (all .entry)) p (λ b. collects (membersIn b) (bookIn b))) collectBytes (now (all .entry)) (now (all .exit)) r ⌝ }
+    requires { ⌜ HasBook (now all) p ⌝ }
+    ensures { λ r. ⌜ OwnStep p (ofMember (now (all .entry)) p (λ b. collects (membersIn b) (bookIn b))) collectBytes (now (all .entry)) (now (all .exit)) r ⌝ }
 {
     if all[book_bytes::MEMBERS] as u32 <= p {
         return events::refuse(Refusal::NoSuchMember);

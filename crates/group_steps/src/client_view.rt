@@ -1,15 +1,15 @@
 // The steps in a member's client view, on its book among the eight: 6, then the step.
 use events::Reply;
 use views::refusal::Refusal;
-ghost use Rattle.rules.specs.Member.{registers, sends, hands, tells, reports};
-ghost use Rattle.book_bytes.specs.Books.{bookIn};
-ghost use Rattle.book_steps.specs.Acts.{selfIn, registerBytes, sendBytes, handBytes, tellBytes, membersIn, safeBytes};
-ghost use Rattle.group_steps.specs.OwnParts.{Desk, ofMember, Sat};
+ghost use Rattle.rules.specs.Member.{registers, sends, hands, tells, safes};
+ghost use Rattle.book_bytes.specs.Books.{bookIn, selfIn, membersIn};
+ghost use Rattle.book_steps.specs.Acts.{registerBytes, sendBytes, handBytes, tellBytes, safeBytes};
+ghost use Rattle.group_steps.specs.OwnParts.{HasBook, ofMember, OwnStep};
 
 // Noted for the client view; outgoing gains a registered message.
 pub fn register(all: &mut [u8], p: u32) -> Reply
-    requires { ⌜ Desk (now all) p ⌝ }
-    ensures { λ r. ⌜ Sat p (ofMember (now (all .entry)) p (λ b. registers (selfIn b) (bookIn b))) registerBytes (now (all .entry)) (now (all .exit)) r ⌝ }
+    requires { ⌜ HasBook (now all) p ⌝ }
+    ensures { λ r. ⌜ OwnStep p (ofMember (now (all .entry)) p (λ b. registers (selfIn b) (bookIn b))) registerBytes (now (all .entry)) (now (all .exit)) r ⌝ }
 {
     if all[book_bytes::MEMBERS] as u32 <= p {
         return events::refuse(Refusal::NoSuchMember);
@@ -21,8 +21,8 @@ pub fn register(all: &mut [u8], p: u32) -> Reply
 
 // Outgoing gains a client message.
 pub fn send(all: &mut [u8], p: u32, entry: u64) -> Reply
-    requires { ⌜ Desk (now all) p ⌝ }
-    ensures { λ r. ⌜ Sat p (ofMember (now (all .entry)) p (λ b. sends (selfIn b) entry (bookIn b))) (sendBytes entry) (now (all .entry)) (now (all .exit)) r ⌝ }
+    requires { ⌜ HasBook (now all) p ⌝ }
+    ensures { λ r. ⌜ OwnStep p (ofMember (now (all .entry)) p (λ b. sends (selfIn b) entry (bookIn b))) (sendBytes entry) (now (all .entry)) (now (all .exit)) r ⌝ }
 {
     if all[book_bytes::MEMBERS] as u32 <= p {
         return events::refuse(Refusal::NoSuchMember);
@@ -34,8 +34,8 @@ pub fn send(all: &mut [u8], p: u32, entry: u64) -> Reply
 
 // The next of the client view's inward list is given out.
 pub fn hand(all: &mut [u8], p: u32) -> Reply
-    requires { ⌜ Desk (now all) p ⌝ }
-    ensures { λ r. ⌜ Sat p (ofMember (now (all .entry)) p (λ b. hands (selfIn b) (bookIn b))) handBytes (now (all .entry)) (now (all .exit)) r ⌝ }
+    requires { ⌜ HasBook (now all) p ⌝ }
+    ensures { λ r. ⌜ OwnStep p (ofMember (now (all .entry)) p (λ b. hands (selfIn b) (bookIn b))) handBytes (now (all .entry)) (now (all .exit)) r ⌝ }
 {
     if all[book_bytes::MEMBERS] as u32 <= p {
         return events::refuse(Refusal::NoSuchMember);
@@ -47,8 +47,8 @@ pub fn hand(all: &mut [u8], p: u32) -> Reply
 
 // Outgoing gains told, with the number handed out in the client view.
 pub fn tell(all: &mut [u8], p: u32) -> Reply
-    requires { ⌜ Desk (now all) p ⌝ }
-    ensures { λ r. ⌜ Sat p (ofMember (now (all .entry)) p (λ b. tells (selfIn b) (bookIn b))) tellBytes (now (all .entry)) (now (all .exit)) r ⌝ }
+    requires { ⌜ HasBook (now all) p ⌝ }
+    ensures { λ r. ⌜ OwnStep p (ofMember (now (all .entry)) p (λ b. tells (selfIn b) (bookIn b))) tellBytes (now (all .entry)) (now (all .exit)) r ⌝ }
 {
     if all[book_bytes::MEMBERS] as u32 <= p {
         return events::refuse(Refusal::NoSuchMember);
@@ -60,8 +60,8 @@ pub fn tell(all: &mut [u8], p: u32) -> Reply
 
 // The next handed message not yet reported is reported.
 pub fn safe(all: &mut [u8], p: u32) -> Reply
-    requires { ⌜ Desk (now all) p ⌝ }
-    ensures { λ r. ⌜ Sat p (ofMember (now (all .entry)) p (λ b. reports (membersIn b) (selfIn b) (bookIn b))) safeBytes (now (all .entry)) (now (all .exit)) r ⌝ }
+    requires { ⌜ HasBook (now all) p ⌝ }
+    ensures { λ r. ⌜ OwnStep p (ofMember (now (all .entry)) p (λ b. safes (membersIn b) (selfIn b) (bookIn b))) safeBytes (now (all .entry)) (now (all .exit)) r ⌝ }
 {
     if all[book_bytes::MEMBERS] as u32 <= p {
         return events::refuse(Refusal::NoSuchMember);

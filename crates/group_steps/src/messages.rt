@@ -23,7 +23,7 @@ ghost use Rattle.book_bytes.specs.Records.{seatIn};
 ghost use Rattle.book_steps.specs.Acts.{taking, takeBytes};
 ghost use Rattle.group_bytes.specs.Places.{madeAt, orderAt, bookBytes};
 ghost use Rattle.group_bytes.specs.Groups.{placeOf, rangesSound};
-ghost use Rattle.group_steps.specs.OwnParts.{Desk, ofMember, Sat};
+ghost use Rattle.group_steps.specs.OwnParts.{HasBook, ofMember, OwnStep};
 ghost use Rattle.group_steps.specs.VisitParts.{Delivered};
 
 // Where the order of the view with the identifier stands.
@@ -37,9 +37,9 @@ fn order_of(list: &[u8], queues: &[u8], g: ViewId) -> usize
 
 // The member p takes the entry in the slot at a place, sent in the view g.
 fn take_at(all: &mut [u8], queues: &[u8], p: u32, at: usize, g: ViewId) -> Reply
-    requires { ⌜ Desk (now all) p × (p < getD (now all) membersAt 0) × (at + slotSize ≤ length (now queues)) × (framed (now queues) at ≤ maxViews)
+    requires { ⌜ HasBook (now all) p × (p < getD (now all) membersAt 0) × (at + slotSize ≤ length (now queues)) × (framed (now queues) at ≤ maxViews)
         × (getD (now queues) at 0 < maxMembers) × (getD (bookBytes (now all) p) takenAt 0 < maxOrdered) × (getD (bookBytes (now all) p) carrierAt 0 ≡ 1) ⌝ }
-    ensures { λ r. ⌜ Sat p (ofMember (now (all .entry)) p (λ b. taking (getD (now (queues .entry)) at 0)
+    ensures { λ r. ⌜ OwnStep p (ofMember (now (all .entry)) p (λ b. taking (getD (now (queues .entry)) at 0)
         (messageOf (frameAt (now (queues .entry)) at (g .0) .message) (listOf (frameAt (now (queues .entry)) at (g .0) .views))) (bookIn b)))
         (takeBytes (getD (now (queues .entry)) at 0)
         (messageOf (frameAt (now (queues .entry)) at (g .0) .message) (listOf (frameAt (now (queues .entry)) at (g .0) .views))))
@@ -49,7 +49,7 @@ fn take_at(all: &mut [u8], queues: &[u8], p: u32, at: usize, g: ViewId) -> Reply
     let f = slots::load_frame(queues, at, g);
     let a = book_bytes::SIZE * (p as usize);
     let e = a + book_bytes::SIZE;
-    book_steps::messages::take(&mut all[a..e], q, f)
+    book_steps::messages::deliver(&mut all[a..e], q, f)
 }
 
 // The member p takes the next message of its carrier view, which has the identifier g.

@@ -15,7 +15,7 @@ use Rattle.views.specs.declared.refusal.Refusal.the-variants.{SetUnfit, OrderFu
 use Rattle.views.specs.declared.refusal.Verdict.{Verdict}
 use Rattle.views.specs.declared.refusal.Verdict.the-variants.{Accepted, Refused}
 use Rattle.views.specs.Limits.{maxMembers, maxOrdered}
-use Rattle.views.specs.Refusals.{need as asks}
+use Rattle.views.specs.Refusals.{require, left}
 use Rattle.views.specs.Sets.{has, isEmpty, isBeyond}
 use Rattle.views.specs.Lists.{idOf, listOf}
 use Rattle.views.proofs.SetLaws.{known, both-true, has-below}
@@ -29,11 +29,10 @@ use Rattle.rules.specs.Alone.{viewsOf, bookSound}
 use Rattle.rules.proofs.TestLaws.{conditions-say, within-says}
 use Rattle.book_bytes.specs.Places.{carrierAt, takenAt}
 use Rattle.book_bytes.specs.Records.{flagIn, recordIn}
-use Rattle.book_bytes.specs.Books.{bookIn, bytesSound}
-use Rattle.record_steps.specs.Turns.{verdictOf}
+use Rattle.book_bytes.specs.Books.{bookIn, bytesSound, membersIn, selfIn}
 use Rattle.events.specs.declared.Reply.{Reply}
-use Rattle.events.specs.Replies.{noEvent, replied, replyOf, left}
-use Rattle.book_steps.specs.Acts.{membersIn, selfIn, taking, joinBytes, takeBytes}
+use Rattle.events.specs.Replies.{noEvent, replied, replyOf, verdictOf}
+use Rattle.book_steps.specs.Acts.{taking, joinBytes, takeBytes}
 use Rattle.book_steps.proofs.Committed.{refused-by}
 use Rattle.member.specs.Parts.{joining, sentIn, arriving, frameAnswer}
 
@@ -63,32 +62,32 @@ module _ (b : List ℕ) (v : View) (t : Bool) (tested : t ≡ setFits (membersIn
 
 module _ (n : ℕ) (v : View) (taken q : ℕ) (f : Frame) (t : Bool) (tested : t ≡ all (setFits n) (listOf (f .views))) where
   pub answer-unfit : not t ≡ true → Refused SetUnfit ≡ frameAnswer n v taken q f
-  unfolding frameAnswer asks
+  unfolding frameAnswer require
   answer-unfit h = rw (← tested, not-true t h) refl
 
   module _ (fit : not t ≡ false) where
     pub answer-other : (f .view .0 ≡ idOf v → ⊥) → Refused AnotherView ≡ frameAnswer n v taken q f
-    unfolding frameAnswer asks
+    unfolding frameAnswer require
     answer-other h = rw (← tested, not-false t fit, ne-eqb (f .view .0) (idOf v) h) refl
 
     module _ (same : f .view .0 ≡ idOf v) (s : Bool) (asked : s ≡ has (v .set) q) where
       pub answer-stranger : not s ≡ true → Refused SenderNotInView ≡ frameAnswer n v taken q f
-      unfolding frameAnswer asks
+      unfolding frameAnswer require
       answer-stranger h = rw (← tested, not-false t fit, eq-eqb (f .view .0) (idOf v) same, ← asked, not-true s h) refl
 
       pub answer-full : not s ≡ false → maxOrdered ≤ taken → Refused OrderFull ≡ frameAnswer n v taken q f
-      unfolding frameAnswer asks
+      unfolding frameAnswer require
       answer-full h k = rw (← tested, not-false t fit, eq-eqb (f .view .0) (idOf v) same, ← asked, not-false s h, le-ltb taken maxOrdered k) refl
 
       pub answer-passes : not s ≡ false → taken < maxOrdered → Accepted ≡ frameAnswer n v taken q f
-      unfolding frameAnswer asks
+      unfolding frameAnswer require
       answer-passes h k = rw (← tested, not-false t fit, eq-eqb (f .view .0) (idOf v) same, ← asked, not-false s h, lt-ltb taken maxOrdered k) refl
 
 -- ---- the same in the rule
 
-chain-refused : (a b c d : Bool) (x : Refusal) (r : Result Done) → asks a SetUnfit (asks b AnotherView (asks c SenderNotInView (asks d OrderFull Accepted))) ≡ Refused x
+chain-refused : (a b c d : Bool) (x : Refusal) (r : Result Done) → require a SetUnfit (require b AnotherView (require c SenderNotInView (require d OrderFull Accepted))) ≡ Refused x
     → need a SetUnfit (need b AnotherView (need c SenderNotInView (need d OrderFull r))) ≡ refused x
-unfolding asks need
+unfolding require need
 chain-refused false b c d x r h = let e : SetUnfit ≡ x = cc in rw e refl
 chain-refused true false c d x r h = let e : AnotherView ≡ x = cc in rw e refl
 chain-refused true true false d x r h = let e : SenderNotInView ≡ x = cc in rw e refl
@@ -101,7 +100,7 @@ record Passed (a b c d : Bool) : Type 0 where
   sender : c ≡ true
   room : d ≡ true
 
-chain-passed : (a b c d : Bool) → asks a SetUnfit (asks b AnotherView (asks c SenderNotInView (asks d OrderFull Accepted))) ≡ Accepted → Passed a b c d
+chain-passed : (a b c d : Bool) → require a SetUnfit (require b AnotherView (require c SenderNotInView (require d OrderFull Accepted))) ≡ Accepted → Passed a b c d
 chain-passed a b c d h =
     let one = need-accepted a SetUnfit _ h in
     let two = need-accepted b AnotherView _ (one .1) in

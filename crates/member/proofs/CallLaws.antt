@@ -12,16 +12,15 @@ use Rattle.views.specs.declared.refusal.Refusal.the-variants.{RecordsUnsound, N
 use Rattle.views.specs.declared.refusal.Verdict.{Verdict}
 use Rattle.views.specs.declared.refusal.Verdict.the-variants.{Accepted, Refused}
 use Rattle.views.proofs.SetLaws.{known}
+use Rattle.views.specs.Refusals.{left}
 use Rattle.rules.specs.Data.{Result, refused, accepted, need}
 use Rattle.rules.specs.Member.{Done}
 use Rattle.rules.specs.Alone.{bookSound, alone}
 use Rattle.rules.specs.Sound.{conditions}
 use Rattle.rules.proofs.TestLaws.{conditions-say}
-use Rattle.book_bytes.specs.Books.{bookIn, layoutFits, bytesSound}
-use Rattle.record_steps.specs.Turns.{verdictOf}
+use Rattle.book_bytes.specs.Books.{bookIn, layoutFits, bytesSound, membersIn, selfIn}
 use Rattle.events.specs.declared.Reply.{Reply}
-use Rattle.events.specs.Replies.{noEvent, replied, replyOf, left}
-use Rattle.book_steps.specs.Acts.{membersIn, selfIn}
+use Rattle.events.specs.Replies.{noEvent, replied, replyOf, verdictOf}
 use Rattle.book_steps.proofs.Committed.{refused-by}
 use Rattle.member.specs.Calls.{onBook, Gave}
 use Rattle.member.specs.Parts.{admitted}

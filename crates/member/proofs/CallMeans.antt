@@ -12,10 +12,11 @@ use Rattle.views.specs.declared.View.{View}
 use Rattle.views.specs.declared.refusal.Refusal.{Refusal}
 use Rattle.views.specs.Limits.{maxOpen, maxOrdered}
 use Rattle.views.specs.Sets.{one, has}
+use Rattle.views.specs.Refusals.{left}
 use Rattle.wire.specs.Reader.{readOf}
 use Rattle.wire.proofs.TripViews.{ViewFits, AreBytes}
 use Rattle.rules.specs.Data.{Book as Ruled, Message, client, info, registered, told, entry, ok, Result, refused, accepted, withView, after}
-use Rattle.rules.specs.Member.{Done, Passing, passing, took, attempts}
+use Rattle.rules.specs.Member.{Done, Passing, passing, delivered, attempts}
 use Rattle.rules.specs.Sound.{countFits}
 use Rattle.rules.specs.Alone.{Sent, sentOf, alone, joinAlone, passAlone, deliverAlone, attemptAlone}
 use Rattle.rules.proofs.TestLaws.{within-says}
@@ -23,10 +24,9 @@ use Rattle.rules.proofs.Readable.{Carries, reading-readable, reading-fits}
 use Rattle.slots.proofs.Stored.{MessageFits}
 use Rattle.book_bytes.specs.Places.{takenAt}
 use Rattle.book_bytes.specs.Records.{recordIn}
-use Rattle.book_bytes.specs.Books.{bookIn}
+use Rattle.book_bytes.specs.Books.{bookIn, membersIn, selfIn}
 use Rattle.events.specs.declared.Reply.{Reply}
-use Rattle.events.specs.Replies.{left}
-use Rattle.book_steps.specs.Acts.{membersIn, selfIn, joinBytes, passBytes, takeBytes, attemptBytes, registerBytes, sendBytes, handBytes, tellBytes, safeBytes, collectBytes}
+use Rattle.book_steps.specs.Acts.{joinBytes, passBytes, takeBytes, attemptBytes, registerBytes, sendBytes, handBytes, tellBytes, safeBytes, collectBytes}
 use Rattle.book_steps.proofs.Means.{Means}
 use Rattle.book_steps.proofs.MeansSpeak.{register-means, send-means, tell-means}
 use Rattle.book_steps.proofs.MeansMarks.{hand-means, safe-means, collect-means}
@@ -49,9 +49,9 @@ after-gave (refused x) f y e = let z : _≡_ {A = ℕ} 0 1 = cc in absurd (omega
 after-gave (accepted x) f y e = (x, refl, e)
 
 -- a delivery that was accepted had a message to take
-pub delivered : (n p : ℕ) (read : Result Sent) (q : ℕ) (b : Ruled) (d : Done) → deliverAlone n p read q b ≡ accepted d → (x : Sent) × (read ≡ accepted x)
+pub delivers-read : (n p : ℕ) (read : Result Sent) (q : ℕ) (b : Ruled) (d : Done) → deliverAlone n p read q b ≡ accepted d → (x : Sent) × (read ≡ accepted x)
 unfolding deliverAlone alone
-delivered n p read q b d e =
+delivers-read n p read q b d e =
     let (_, e1) = need-gave _ _ _ _ e in
     let (_, e2) = need-gave _ _ _ _ e1 in
     let (v, _, e3) = view-gave (b .carrier .view) _ _ d e2 in
@@ -139,13 +139,13 @@ module _ (b : List ℕ) (bytes : AreBytes b) where
       let (sender, r5) = need-gave (has (v .set) q) _ _ _ r4 in
       let (room, r6) = need-gave (ltb (bookIn b .carrier .taken) maxOrdered) _ _ _ r5 in
       let roomy : bookIn b .carrier .taken < maxOrdered = ltb-true _ _ room in
-      let (few, r7) = need-gave (leb (length (took q (x .message) (bookIn b) .held .opens)) maxOpen) _ _ _ r6 in
-      let given : record { book = took q (x .message) (bookIn b); answer = ok } ≡ d = cc in
+      let (few, r7) = need-gave (leb (length (delivered q (x .message) (bookIn b) .held .opens)) maxOpen) _ _ _ r6 in
+      let given : record { book = delivered q (x .message) (bookIn b); answer = ok } ≡ d = cc in
       let f = reading-fits m x w read in
-      let means : Means b (takeBytes q (x .message) b) (took q (x .message) (bookIn b))
+      let means : Means b (takeBytes q (x .message) b) (delivered q (x .message) (bookIn b))
       = take-means b bytes (a .sound) q (x .message) (sender-small b v q (a .sound) carrier sender) (carried-fits (x .message) f) (f .sets)
       (told-byte (x .message) (reading-readable m x read .count)) (carrier-mark b v carrier) (rw taken-is at roomy) (leb-true _ _ few) in
-      taken-means b q (sentOf (readOf m)) x (took q (x .message) (bookIn b)) d read given means
+      taken-means b q (sentOf (readOf m)) x (delivered q (x .message) (bookIn b)) d read given means
 
 -- ---- by a call's contract: the bytes at its exit are the book that the rule gave
 

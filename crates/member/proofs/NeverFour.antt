@@ -7,6 +7,7 @@ use lib.ListN.{length}
 use Rattle.views.specs.declared.refusal.Refusal.the-variants.{RecordsUnsound}
 use Rattle.views.specs.Sets.{one}
 use Rattle.views.specs.Lists.{viewOf}
+use Rattle.views.specs.Refusals.{left}
 use Rattle.wire.specs.Reader.{readOf}
 use Rattle.wire.proofs.TripViews.{AreBytes}
 use Rattle.rules.specs.Data.{Book as Ruled, Result, refused, accepted}
@@ -16,18 +17,16 @@ use Rattle.rules.proofs.TestLaws.{_and_, conditions-from}
 use Rattle.rules.proofs.AloneKept.{KeptAlone, start-kept, join-kept, pass-kept, attempt-kept, register-kept, send-kept, hand-kept, tell-kept, safe-kept, collect-kept}
 use Rattle.rules.proofs.AloneTaken.{Readable, deliver-kept}
 use Rattle.rules.proofs.Readable.{reading-readable}
-use Rattle.book_bytes.specs.Books.{bookIn, layoutFits, bytesSound}
+use Rattle.events.specs.Replies.{verdictOf}
+use Rattle.book_bytes.specs.Books.{bookIn, layoutFits, bytesSound, membersIn, selfIn}
 use Rattle.book_bytes.proofs.LayoutLaws.{Layout, layout-from}
-use Rattle.record_steps.specs.Turns.{verdictOf}
-use Rattle.events.specs.Replies.{left}
-use Rattle.book_steps.specs.Acts.{membersIn, selfIn}
 use Rattle.book_steps.proofs.Means.{Means}
 use Rattle.book_bytes.specs.Starts.{startBytes}
 use Rattle.member.specs.Calls.{onBook, joinCall, passCall, deliverCall, attemptCall, registerCall, sendCall, handCall, tellCall, safeCall, collectCall, startCall}
 use Rattle.member.specs.Drives.{Call, after, lastOf, Within, AllWithin, NeverFour}
 use Rattle.member.proofs.CallLaws.{need-gave}
 use Rattle.member.proofs.StartMeans.{start-gave, start-means}
-use Rattle.member.proofs.CallMeans.{delivered, join-call, pass-call, deliver-call, attempt-call, register-call, send-call, hand-call, tell-call, safe-call, collect-call}
+use Rattle.member.proofs.CallMeans.{delivers-read, join-call, pass-call, deliver-call, attempt-call, register-call, send-call, hand-call, tell-call, safe-call, collect-call}
 
 -- what every call keeps of a member's bytes
 record Kept (b : List ℕ) : Type 0 where
@@ -77,7 +76,7 @@ module _ (b : List ℕ) (k : Kept b) where
   -- what the reader gave is taken; where it refused, nothing is
   taken-kept : (read : Result Sent) → ((x : Sent) → read ≡ accepted x → Readable (x .message)) → (q : ℕ) (d : Done)
       → deliverAlone n p read q (bookIn b) ≡ accepted d → KeptAlone n (d .book)
-  taken-kept read f q d e = let (x, is) = delivered n p read q (bookIn b) d e in deliver-kept n p x q (bookIn b) d (k .book) (f x is) (rw is at e)
+  taken-kept read f q d e = let (x, is) = delivers-read n p read q (bookIn b) d e in deliver-kept n p x q (bookIn b) d (k .book) (f x is) (rw is at e)
 
   after-kept : (c : Call) → Within c → Kept (after c b)
   unfolding after Within joinCall passCall deliverCall attemptCall registerCall sendCall handCall tellCall safeCall collectCall

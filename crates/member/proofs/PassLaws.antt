@@ -15,7 +15,7 @@ use Rattle.views.specs.declared.refusal.Refusal.the-variants.{NoCarrierView, No
 use Rattle.views.specs.declared.refusal.Verdict.{Verdict}
 use Rattle.views.specs.declared.refusal.Verdict.the-variants.{Accepted, Refused}
 use Rattle.views.specs.Limits.{maxViews, maxOrdered}
-use Rattle.views.specs.Refusals.{need as needs-it, andThen}
+use Rattle.views.specs.Refusals.{require, andThen, left}
 use Rattle.views.specs.Sets.{both, isEmpty, isBeyond}
 use Rattle.views.specs.Lists.{idOf, isRising, listOf}
 use Rattle.views.proofs.SetLaws.{known, both-true}
@@ -24,7 +24,7 @@ use Rattle.wire.specs.declared.Frame.{Frame}
 use Rattle.wire.specs.declared.Written.{Written}
 use Rattle.wire.specs.Format.{kindOf, isKnown, viewsAllowed, someEmpty, toldFits, contentOf}
 use Rattle.wire.specs.Reader.{viewIn}
-use Rattle.wire.specs.Writer.{numberOf, frameBytes, frameVerdict, writeVerdict, writtenOf, leaves, Wrote}
+use Rattle.wire.specs.Writer.{numberOf, frameBytes, frameVerdict, writeVerdict, writtenOf, Wrote}
 use Rattle.wire.proofs.ReaderLaws.{list-viewsIn}
 use Rattle.rules.specs.Data.{Book as Ruled, Message, client, info, registered, told, Entry, entry, Result, refused, accepted, need, withView, withFirst, after}
 use Rattle.rules.specs.Member.{Passing, passing, outgoes, all}
@@ -34,13 +34,12 @@ use Rattle.rules.proofs.TestLaws.{all-at, conditions-say, both-from, within-say
 use Rattle.slots.specs.Slots.{slotSize, kindIn, numberIn, countIn, messageIn, entryIn, entriesIn, slotFits, slotsFit}
 use Rattle.slots.specs.FrameParts.{framed, frameAt}
 use Rattle.slots.proofs.Frames.{EntryOk, frame-carried, frame-views, frame-message}
+use Rattle.events.specs.Replies.{verdictOf}
 use Rattle.book_bytes.specs.declared.Seat.{Seat}
 use Rattle.book_bytes.specs.Places.{carrierAt, outgoingAt}
 use Rattle.book_bytes.specs.Records.{flagIn, seatIn, recordIn}
-use Rattle.book_bytes.specs.Books.{outgoingIn, bookIn, bytesSound}
-use Rattle.record_steps.specs.Turns.{verdictOf}
-use Rattle.events.specs.Replies.{left}
-use Rattle.book_steps.specs.Acts.{membersIn, passBytes}
+use Rattle.book_bytes.specs.Books.{outgoingIn, bookIn, bytesSound, membersIn}
+use Rattle.book_steps.specs.Acts.{passBytes}
 use Rattle.book_steps.proofs.Committed.{sound-layout}
 use Rattle.member.specs.declared.Passed.{Passed}
 use Rattle.member.specs.Calls.{passCall, passedOf, passBuffer, GaveOut}
@@ -109,7 +108,7 @@ none-empty n (v ∷ l) h =
 
 message-content : (n q : ℕ) (m : Message) → countFits (entry q m) ≡ true → setsFit n (entry q m) ≡ true → opensRise (entry q m) ≡ true
     → (viewsAllowed (kindOf (carriedOf m)) (length (viewsOf m)) ≡ true) × (contentOf (kindOf (carriedOf m)) (viewsOf m) (numberOf (carriedOf m)) ≡ Accepted)
-unfolding viewsAllowed contentOf someEmpty isRising toldFits needs-it
+unfolding viewsAllowed contentOf someEmpty isRising toldFits require
 message-content n q (client x) c s o = (refl, refl)
 message-content n q (info v l) c s o =
     let few : length l + 1 ≤ maxViews = leb-true _ _ c in
@@ -121,7 +120,7 @@ message-content n q (told k) c s o = (refl, rw c refl)
 frame-accepted : (f : Frame) (m : Message) → f .message ≡ carriedOf m → listOf (f .views) ≡ viewsOf m → f .views .count ≡ length (viewsOf m)
     → viewsAllowed (kindOf (carriedOf m)) (length (viewsOf m)) ≡ true → contentOf (kindOf (carriedOf m)) (viewsOf m) (numberOf (carriedOf m)) ≡ Accepted
     → frameVerdict f ≡ Accepted
-unfolding frameVerdict needs-it
+unfolding frameVerdict require
 frame-accepted f m e l c a w = rw (e, l, c, a) w
 
 -- ---- the first of a queue
@@ -174,7 +173,7 @@ firstAt = outgoingAt + 1
 -- the frame of a seat's view, written and gone, is the rule's answer
 sent-as : (f : Frame) (x : Passing) (b d out end : List ℕ) (r : Passed) → frameVerdict f ≡ Accepted → frameBytes f ≡ passedBytes x → SentOut f b d out end r
     → GaveOut (need (leb (length (passedBytes x)) (length out)) BufferTooShort (accepted x)) (passBytes b) b d out end r
-unfolding writeVerdict andThen needs-it need passedWith left leaves
+unfolding writeVerdict andThen require need passedWith left
 sent-as f x b d out end r a e o =
     ⊎-elim (λ (t : leb (length (passedBytes x)) (length out) ≡ true).
     let v : writeVerdict f (length out) ≡ Accepted = rw (a, e, t) refl in

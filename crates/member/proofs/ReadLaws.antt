@@ -13,6 +13,7 @@ use Rattle.views.specs.declared.refusal.Refusal.{Refusal}
 use Rattle.views.specs.declared.refusal.Refusal.the-variants.{NoCarrierView}
 use Rattle.views.specs.declared.refusal.Verdict.the-variants.{Accepted, Refused}
 use Rattle.views.specs.Lists.{listOf}
+use Rattle.views.specs.Refusals.{left}
 use Rattle.wire.specs.declared.Reading.{Reading}
 use Rattle.wire.specs.Format.{viewsAllowed}
 use Rattle.wire.specs.Reader.{kindIn, viewCount, viewIn, viewsIn, numberIn, messageOf as carriedIn, readFront, readOf}
@@ -27,11 +28,10 @@ use Rattle.rules.specs.Alone.{Sent, messageOf, viewsOf, sentOf}
 use Rattle.book_bytes.specs.declared.Seat.{Seat}
 use Rattle.book_bytes.specs.Places.{carrierAt}
 use Rattle.book_bytes.specs.Records.{flagIn, seatIn, recordIn}
-use Rattle.book_bytes.specs.Books.{bookIn}
-use Rattle.record_steps.specs.Turns.{verdictOf}
+use Rattle.book_bytes.specs.Books.{bookIn, membersIn}
 use Rattle.events.specs.declared.Reply.{Reply}
-use Rattle.events.specs.Replies.{noEvent, replied, replyOf, left}
-use Rattle.book_steps.specs.Acts.{membersIn, takeBytes}
+use Rattle.events.specs.Replies.{noEvent, replied, replyOf, verdictOf}
+use Rattle.book_steps.specs.Acts.{takeBytes}
 use Rattle.member.specs.Calls.{takenBytes, deliverBytes}
 use Rattle.member.specs.Parts.{sentIn, arriving, delivering}
 use Rattle.member.proofs.ArriveLaws.{Answers, answers-refused}

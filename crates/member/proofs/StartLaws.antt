@@ -14,15 +14,15 @@ use Rattle.views.specs.declared.refusal.Verdict.{Verdict}
 use Rattle.views.specs.declared.refusal.Verdict.the-variants.{Accepted, Refused}
 use Rattle.views.specs.Limits.{maxMembers}
 use Rattle.views.proofs.SetLaws.{known}
+use Rattle.views.specs.Refusals.{left}
 use Rattle.rules.specs.Data.{Book as Ruled, Result, refused, accepted, need}
 use Rattle.rules.specs.Group.{fits}
 use Rattle.rules.specs.Alone.{startAlone}
 use Rattle.rules.proofs.TestLaws.{within-from}
 use Rattle.book_bytes.specs.Places.{bookSize}
-use Rattle.record_steps.specs.Turns.{verdictOf}
 use Rattle.events.specs.declared.Event.{Event}
 use Rattle.events.specs.declared.Reply.{Reply}
-use Rattle.events.specs.Replies.{noEvent, replied, left}
+use Rattle.events.specs.Replies.{noEvent, replied, verdictOf}
 use Rattle.book_bytes.specs.Starts.{startBytes}
 use Rattle.member.specs.Calls.{startCall, startReply}
 

@@ -12,9 +12,8 @@ use Rattle.rules.specs.Group.{fresh}
 use Rattle.rules.specs.Alone.{startAlone}
 use Rattle.rules.proofs.TestLaws.{within-says}
 use Rattle.book_bytes.specs.Places.{bookSize}
-use Rattle.book_bytes.specs.Books.{bookIn}
+use Rattle.book_bytes.specs.Books.{bookIn, membersIn, selfIn}
 use Rattle.book_bytes.proofs.LayoutLaws.{Layout}
-use Rattle.book_steps.specs.Acts.{membersIn, selfIn}
 use Rattle.book_bytes.specs.Starts.{startBytes}
 use Rattle.book_bytes.proofs.StartBook.{start-layout, start-members, start-self, start-book, start-bytes}
 use Rattle.member.specs.Calls.{startCall}

@@ -9,17 +9,17 @@ use Rattle.views.specs.declared.View.{View}
 use Rattle.views.specs.declared.refusal.Refusal.the-variants.{RecordsUnsound}
 use Rattle.views.specs.declared.refusal.Verdict.the-variants.{Accepted, Refused}
 use Rattle.views.specs.Sets.{one}
+use Rattle.views.specs.Refusals.{left}
 use Rattle.wire.specs.Reader.{readOf}
 use Rattle.wire.specs.Writer.{overwritten}
 use Rattle.rules.specs.Data.{Identifier, Member, Book as Ruled, Result, refused, accepted, need}
-use Rattle.rules.specs.Member.{Done, Passing, registers, sends, hands, tells, reports, collects}
+use Rattle.rules.specs.Member.{Done, Passing, registers, sends, hands, tells, safes, collects}
 use Rattle.rules.specs.Alone.{Sent, sentOf, alone, startAlone, joinAlone, passedBytes, passAlone, deliverAlone, attemptAlone}
 use Rattle.book_bytes.specs.Places.{bookSize}
-use Rattle.book_bytes.specs.Books.{bookIn, layoutFits}
-use Rattle.record_steps.specs.Turns.{verdictOf}
+use Rattle.book_bytes.specs.Books.{bookIn, layoutFits, membersIn, selfIn}
 use Rattle.events.specs.declared.Reply.{Reply}
-use Rattle.events.specs.Replies.{noEvent, replyOf, left}
-use Rattle.book_steps.specs.Acts.{membersIn, selfIn, takeBytes}
+use Rattle.events.specs.Replies.{noEvent, replyOf, verdictOf}
+use Rattle.book_steps.specs.Acts.{takeBytes}
 use Rattle.member.specs.declared.Passed.{Passed}
 
 -- ---- the results
@@ -59,7 +59,7 @@ unfoldable pub tellCall : List ℕ → Result Done
 tellCall b = call b (tells (selfIn b))
 
 unfoldable pub safeCall : List ℕ → Result Done
-safeCall b = call b (reports (membersIn b) (selfIn b))
+safeCall b = call b (safes (membersIn b) (selfIn b))
 
 unfoldable pub collectCall : List ℕ → Result Done
 collectCall b = call b (collects (membersIn b))

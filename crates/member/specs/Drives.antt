@@ -5,10 +5,10 @@ use mathlib.Core.List.{List, [], _∷_}
 use Prim.Native.Nat.{ℕ, _^_, _<_}
 use lib.ListN.{length, getD}
 use Rattle.views.specs.Lists.{viewOf}
+use Rattle.views.specs.Refusals.{left}
 use Rattle.rules.specs.Data.{Identifier, Member, Book, accepted}
+use Rattle.events.specs.Replies.{verdictOf}
 use Rattle.book_bytes.specs.Books.{bytesSound}
-use Rattle.record_steps.specs.Turns.{verdictOf}
-use Rattle.events.specs.Replies.{left}
 use Rattle.book_steps.specs.Acts.{joinBytes, passBytes, attemptBytes, registerBytes, sendBytes, handBytes, tellBytes, safeBytes, collectBytes}
 use Rattle.book_bytes.specs.Starts.{startBytes}
 use Rattle.member.specs.Calls.{joinCall, passCall, deliverCall, deliverBytes, attemptCall, registerCall, sendCall, handCall, tellCall, safeCall, collectCall, startCall}

@@ -10,19 +10,18 @@ use Rattle.views.specs.declared.refusal.Verdict.{Verdict}
 use Rattle.views.specs.declared.refusal.Verdict.the-variants.{Accepted, Refused}
 use Rattle.views.specs.declared.View.{View}
 use Rattle.views.specs.Limits.{maxOrdered}
-use Rattle.views.specs.Refusals.{need as asks}
+use Rattle.views.specs.Refusals.{require, left}
 use Rattle.views.specs.Sets.{has}
 use Rattle.views.specs.Lists.{idOf, listOf}
 use Rattle.wire.specs.declared.Frame.{Frame}
-use Rattle.wire.specs.Writer.{frameBytes, writeVerdict, leaves, overwritten}
+use Rattle.wire.specs.Writer.{frameBytes, writeVerdict, overwritten}
 use Rattle.rules.specs.Data.{Member, Book as Ruled, Result, accepted, need, withView, after}
 use Rattle.rules.specs.Member.{Done, all, joins, Passing, passing}
 use Rattle.rules.specs.Sound.{setFits}
 use Rattle.rules.specs.Group.{fits}
 use Rattle.rules.specs.Alone.{Sent, messageOf, viewsOf, passedBytes}
-use Rattle.book_bytes.specs.Books.{bytesSound}
-use Rattle.events.specs.Replies.{left}
-use Rattle.book_steps.specs.Acts.{membersIn, selfIn, taking, passBytes}
+use Rattle.book_bytes.specs.Books.{bytesSound, membersIn, selfIn}
+use Rattle.book_steps.specs.Acts.{taking, passBytes}
 use Rattle.member.specs.declared.Passed.{Passed}
 
 -- 4, then 6
@@ -48,7 +47,7 @@ passedWith (Refused r) n = record { verdict = Refused r; length = 0 }
 pub record SentOut (f : Frame) (entry exit before after : List ℕ) (r : Passed) : Type 0 where
   pub reply : r ≡ passedWith (writeVerdict f (length before)) (length (frameBytes f))
   pub book : exit ≡ left (writeVerdict f (length before)) (passBytes entry) entry
-  pub buffer : after ≡ leaves (writeVerdict f (length before)) (overwritten (frameBytes f) before) before
+  pub buffer : after ≡ left (writeVerdict f (length before)) (overwritten (frameBytes f) before) before
 
 -- ---- deliver
 
@@ -72,7 +71,7 @@ delivering n read q b = withView (b .carrier .view) NoCarrierView (λ v. after r
 -- 7, 41, 42, 16 of a frame
 unfoldable pub frameAnswer : ℕ → View → ℕ → Member → Frame → Verdict
 frameAnswer n v taken q f =
-    asks (all (setFits n) (listOf (f .views))) SetUnfit (
-    asks (eqb (f .view .0) (idOf v)) AnotherView (
-    asks (has (v .set) q) SenderNotInView (
-    asks (ltb taken maxOrdered) OrderFull Accepted)))
+    require (all (setFits n) (listOf (f .views))) SetUnfit (
+    require (eqb (f .view .0) (idOf v)) AnotherView (
+    require (has (v .set) q) SenderNotInView (
+    require (ltb taken maxOrdered) OrderFull Accepted)))

@@ -8,10 +8,10 @@ use views::refusal::Verdict;
 ghost use mathlib.Core.Bool.{true};
 ghost use mathlib.Core.Path.{_≡_};
 ghost use Rattle.views.specs.Lists.{viewOf};
-ghost use Rattle.events.specs.Replies.{replyOf, left};
-ghost use Rattle.book_bytes.specs.Books.{bookIn, bytesSound};
-ghost use Rattle.record_steps.specs.Turns.{verdictOf};
-ghost use Rattle.book_steps.specs.Acts.{membersIn, selfIn, joinBytes, attemptBytes, collectBytes};
+ghost use Rattle.views.specs.Refusals.{left};
+ghost use Rattle.events.specs.Replies.{replyOf, verdictOf};
+ghost use Rattle.book_bytes.specs.Books.{bookIn, bytesSound, membersIn, selfIn};
+ghost use Rattle.book_steps.specs.Acts.{joinBytes, attemptBytes, collectBytes};
 ghost use Rattle.member.specs.Parts.{joining};
 ghost use Rattle.member.specs.Calls.{Gave, joinCall, attemptCall, collectCall};
 

@@ -10,9 +10,9 @@ use views::limits;
 use views::refusal::Refusal;
 use views::refusal::Verdict;
 ghost use mathlib.Core.Path.{_≡_};
-ghost use Rattle.events.specs.Replies.{left};
+ghost use Rattle.views.specs.Refusals.{left};
+ghost use Rattle.events.specs.Replies.{verdictOf};
 ghost use Rattle.book_bytes.specs.Starts.{startBytes};
-ghost use Rattle.record_steps.specs.Turns.{verdictOf};
 ghost use Rattle.member.specs.Parts.{admitted};
 ghost use Rattle.member.specs.Calls.{startCall, startReply};
 

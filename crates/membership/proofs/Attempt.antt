@@ -4,8 +4,9 @@ use mathlib.Core.Path.{_≡_, subst}
 use mathlib.Core.Logic.{inl, inr}
 use Prim.Native.Nat.{ℕ, suc, _≤_, _<_}
 use native.Mathlib.Omega.{arith}
+use Rattle.views.proofs.PointLaws.{upd-ind, upd-here, upd-up}
 use Rattle.membership.proofs.Covering.{Cov, cov-self, cov-into, cov-sub}
-use Rattle.membership.proofs.Updates.{upd-ind, upd-here, upd-up, Plus2, plus2}
+use Rattle.membership.proofs.Updates.{Plus2, plus2}
 use Rattle.membership.proofs.Machine.{Env, State, settled-view, open-view, Use, Sent, Mem, Maj, TotReg, attemptS}
 use Rattle.membership.proofs.Statements.{Inv, ceiling, Won, RegisteredAttempted, ClientAttempted, AttemptedToClient, ClientToCarrier, HeldBelow, AttemptedToCarrier, AttemptedHeld, ReceivedHeld, AttemptedSent, AttemptedWon, AttemptedBase}
 

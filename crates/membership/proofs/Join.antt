@@ -3,8 +3,9 @@ use mathlib.Core.Path.{_≡_, refl, subst}
 use mathlib.Core.Logic.{inl, inr}
 use Prim.Native.Nat.{ℕ, zero, suc, _≤_, _<_}
 use native.Mathlib.Omega.{arith}
+use Rattle.views.proofs.PointLaws.{upd-ind, upd-here, upd-up}
 use Rattle.membership.proofs.Covering.{Cov, cov-sub}
-use Rattle.membership.proofs.Updates.{upd-ind, upd-here, upd-up, Plus3, plus3, Also}
+use Rattle.membership.proofs.Updates.{Plus3, plus3, Also}
 use Rattle.membership.proofs.Machine.{Env, State, settled-view, open-view, Use, Sent, Mem, TotReg, joinS}
 use Rattle.membership.proofs.Statements.{Inv, CarrierHasMember, FirstHasCarrier, ClientToCarrier, SettledSentToCarrier, OpenSentToCarrier, SentOnce, ReceivedSent, SentTotal, HeldBelow, SentBelow, AttemptedToCarrier, ReceivedHeld, AttemptedSent}
 

@@ -4,8 +4,9 @@ use mathlib.Core.Logic.{_≢_, _⊎_, inl, inr}
 use Prim.Native.Nat.{ℕ, suc, _≤_, _<_, max}
 use native.Mathlib.Omega.{arith, max-cases}
 use native.Mathlib.Decide.{decLe}
+use Rattle.views.proofs.PointLaws.{upd-ind, upd-here}
 use Rattle.membership.proofs.Covering.{Cov, cov-self, cov-into}
-use Rattle.membership.proofs.Updates.{upd-ind, upd-here, plus3, Put}
+use Rattle.membership.proofs.Updates.{plus3, Put}
 use Rattle.membership.proofs.Machine.{Env, State, Held, settled-view, open-view, Use, Sent, Mem, TotReg, settleS, infoS, collectS}
 use Rattle.membership.proofs.Statements.{Inv, ceiling, ReceivedSent, SettledTotal, HeldBelow, AttemptedHeld, ReceivedHeld}
 

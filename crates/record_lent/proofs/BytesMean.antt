@@ -12,26 +12,27 @@ use Rattle.views.specs.declared.refusal.Verdict.{Verdict}
 use Rattle.views.specs.declared.refusal.Verdict.the-variants.{Accepted, Refused}
 use Rattle.views.specs.Limits.{maxOpen}
 use Rattle.views.specs.Sets.{one}
+use Rattle.views.specs.Refusals.{left}
 use Rattle.rules.specs.Data.{Entry, Item, Member, need}
-use Rattle.rules.specs.Member.{joins, attempts, registers, sends, hands, tells, reports, collects}
+use Rattle.rules.specs.Member.{joins, attempts, registers, sends, hands, tells, safes, collects}
 use Rattle.rules.specs.Sound.{setFits}
 use Rattle.slots.proofs.Lists.{length-entries}
-use Rattle.book_bytes.specs.declared.Book.{Book}
+use Rattle.events.specs.Replies.{verdictOf}
+use Rattle.book_bytes.specs.declared.Record.{Record}
 use Rattle.book_bytes.specs.Places.{sideAt, outgoingAt}
 use Rattle.book_bytes.specs.Records.{recordIn, storeRecord}
-use Rattle.book_bytes.specs.Books.{outgoingIn, inwardIn, bookIn, bytesSound}
+use Rattle.book_bytes.specs.Books.{outgoingIn, inwardIn, bookIn, bytesSound, membersIn, selfIn}
 use Rattle.book_bytes.proofs.InwardBooks.{length-inward}
 use Rattle.record_steps.specs.declared.Stepped.{Stepped}
-use Rattle.record_steps.specs.Turns.{verdictOf, stepped, joinedTo, attemptedAt, settledAs}
+use Rattle.record_steps.specs.Turns.{stepped, joinedTo, attemptedAt, settledAs}
 use Rattle.record_steps.proofs.MeaningMarks.{registeredNow, handedNow, toldNow, reportedNow}
-use Rattle.events.specs.Replies.{left}
-use Rattle.book_steps.specs.Acts.{membersIn, selfIn, fewOpen, handBytes, safeBytes, collectBytes}
+use Rattle.book_steps.specs.Acts.{fewOpen, handBytes, safeBytes, collectBytes}
 use Rattle.book_steps.proofs.Committed.{sound-layout, record-few}
 use Rattle.book_steps.proofs.AttemptLaws.{attempt-turned}
 use Rattle.record_lent.specs.Loans.{withinLimits, turnBy, turnOf, stepIn, changeOf, changeBytes}
 use Rattle.record_lent.proofs.LoanMeans.{of-kind, join-means, register-means, send-means, hand-means, tell-means, safe-means, collect-means}
 
-kept : (w : Verdict) (new old : Book) (b : List ℕ) → left (stepped w new old .verdict) (storeRecord b (stepped w new old .book)) b ≡ left w (storeRecord b new) b
+kept : (w : Verdict) (new old : Record) (b : List ℕ) → left (stepped w new old .verdict) (storeRecord b (stepped w new old .book)) b ≡ left w (storeRecord b new) b
 unfolding stepped left
 kept Accepted new old b = refl
 kept (Refused r) new old b = refl
@@ -43,7 +44,7 @@ module _ (b : List ℕ) (sound : bytesSound b ≡ true) (v : View) where
   abbrev p : Member
   p = selfIn b
 
-  abbrev h : Book
+  abbrev h : Record
   h = recordIn b
 
   abbrev out : List Entry
@@ -100,7 +101,7 @@ module _ (b : List ℕ) (sound : bytesSound b ≡ true) (v : View) where
   unfolding stepIn bookIn
   tell-changed = turns 10 ∙ tell-means h (stepIn b 10 v) within out own new (outs 10) (owns 10) refl
 
-  pub safe-changed : changeOf b 11 v ≡ stepped (verdictOf (reports n p (bookIn b))) (reportedNow h) h
+  pub safe-changed : changeOf b 11 v ≡ stepped (verdictOf (safes n p (bookIn b))) (reportedNow h) h
   unfolding stepIn bookIn
   safe-changed = turns 11 ∙ safe-means h (stepIn b 11 v) within out own new (outs 11) (owns 11) refl
 
@@ -110,7 +111,7 @@ module _ (b : List ℕ) (sound : bytesSound b ≡ true) (v : View) where
 
   -- ---- the steps that change nothing but the record
 
-  leaves : (k : ℕ) (w : Verdict) (after : Book) → changeOf b k v ≡ stepped w after h → changeBytes b k v ≡ left w (storeRecord b after) b
+  leaves : (k : ℕ) (w : Verdict) (after : Record) → changeOf b k v ≡ stepped w after h → changeBytes b k v ≡ left w (storeRecord b after) b
   unfolding changeBytes
   leaves k w after e = ap (λ (s : Stepped). left (s .verdict) (storeRecord b (s .book)) b) e ∙ kept w after h b
 
@@ -118,7 +119,7 @@ module _ (b : List ℕ) (sound : bytesSound b ≡ true) (v : View) where
   unfolding handBytes
   hand-leaves = leaves 9 _ (handedNow h) hand-changed
 
-  pub safe-leaves : changeBytes b 11 v ≡ left (verdictOf (reports n p (bookIn b))) (safeBytes b) b
+  pub safe-leaves : changeBytes b 11 v ≡ left (verdictOf (safes n p (bookIn b))) (safeBytes b) b
   unfolding safeBytes
   safe-leaves = leaves 11 _ (reportedNow h) safe-changed
 

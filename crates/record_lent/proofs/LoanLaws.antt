@@ -16,15 +16,16 @@ use Rattle.views.specs.Limits.{maxOpen}
 use Rattle.views.specs.Lists.{idOf, listOf}
 use Rattle.views.proofs.SetLaws.{known}
 use Rattle.views.proofs.ListLaws.{length-above}
+use Rattle.views.specs.Refusals.{left}
 use Rattle.rules.specs.Sound.{setFits}
-use Rattle.book_bytes.specs.declared.Book.{Book}
+use Rattle.book_bytes.specs.declared.Record.{Record}
 use Rattle.book_bytes.specs.Records.{recordIn, storeRecord}
 use Rattle.book_bytes.specs.Books.{bytesSound}
 use Rattle.record_steps.specs.declared.Stepped.{Stepped}
 use Rattle.record_steps.specs.Turns.{stepped, joinedTo, settledAs, joinTurn, attemptTurn, registerTurn, sendTurn, handTurn, tellTurn, safeTurn, collectTurn}
 use Rattle.events.specs.declared.Event.{Event}
 use Rattle.events.specs.declared.Reply.{Reply}
-use Rattle.events.specs.Replies.{replied, left}
+use Rattle.events.specs.Replies.{replied}
 use Rattle.book_steps.specs.Parts.{fewIf, fewStepped}
 use Rattle.book_steps.proofs.Committed.{record-few, stepped-few}
 use Rattle.record_lent.specs.declared.Step.{Step}
@@ -32,7 +33,7 @@ use Rattle.record_lent.specs.Loans.{unturned, withinLimits, entering, tu
 
 -- ---- each case
 
-module _ (h : Book) (t : Step) where
+module _ (h : Record) (t : Step) where
   pub unfit : (f : Bool) → f ≡ setFits (t .members) (t .view) → not f ≡ true → (s : Stepped) → s ≡ unturned SetUnfit h → s ≡ entering h t
   unfolding entering
   unfit true e n s g = let z : _≡_ {A = ℕ} 0 1 = cc in absurd (omega arith)
@@ -75,7 +76,7 @@ few-either true x y p q = p
 few-either false x y p q = q
 
 -- 43 leaves the record as it was
-few-tested : (v : Verdict) (new h : Book) → h .opens .count ≤ maxOpen → Few (fewStepped (stepped v new h) h)
+few-tested : (v : Verdict) (new h : Record) → h .opens .count ≤ maxOpen → Few (fewStepped (stepped v new h) h)
 unfolding Few fewIf stepped
 few-tested (Refused r) new h f = f
 few-tested Accepted new h f =
@@ -84,8 +85,8 @@ few-tested Accepted new h f =
     (λ (e : leb (new .opens .count) maxOpen ≡ false). rw e f)
     (known (leb (new .opens .count) maxOpen))
 
-module _ (h : Book) (t : Step) (few : h .opens .count ≤ maxOpen) where
-  few-same : (v : Verdict) (new : Book) → new .opens .count ≤ maxOpen → Few (stepped v new h)
+module _ (h : Record) (t : Step) (few : h .opens .count ≤ maxOpen) where
+  few-same : (v : Verdict) (new : Record) → new .opens .count ≤ maxOpen → Few (stepped v new h)
   unfolding Few
   few-same v new f = stepped-few v new h f few
 
@@ -132,10 +133,10 @@ module _ (b : List ℕ) (kind : ℕ) (v : View) where
   sound-by true e n = sym e
   sound-by false e n = let z : _≡_ {A = ℕ} 0 1 = cc in absurd (omega arith)
 
-  module _ (sound : bytesSound b ≡ true) (h : Book) (loaded : h ≡ recordIn b) (t : Step) (read : t ≡ stepIn b kind v) (s : Stepped) (e : s ≡ turnOf h t) where
+  module _ (sound : bytesSound b ≡ true) (h : Record) (loaded : h ≡ recordIn b) (t : Step) (read : t ≡ stepIn b kind v) (s : Stepped) (e : s ≡ turnOf h t) where
     changed : s ≡ changeOf b kind v
     unfolding changeOf
-    changed = rw sound (e ∙ ap (λ (x : Book). turnOf x t) loaded ∙ ap (λ (x : Step). turnOf (recordIn b) x) read)
+    changed = rw sound (e ∙ ap (λ (x : Record). turnOf x t) loaded ∙ ap (λ (x : Step). turnOf (recordIn b) x) read)
 
     pub changed-few : s .book .opens .count ≤ maxOpen
     unfolding Few

@@ -9,11 +9,12 @@ use Rattle.views.specs.declared.refusal.Refusal.the-variants.{SetUnfit}
 use Rattle.views.specs.declared.refusal.Verdict.{Verdict}
 use Rattle.views.specs.Sets.{one}
 use Rattle.rules.specs.Data.{Entry, Item, Member, Book as Ruled, Result, need}
-use Rattle.rules.specs.Member.{Done, joins, attempts, registers, sends, hands, tells, reports, collects}
+use Rattle.rules.specs.Member.{Done, joins, attempts, registers, sends, hands, tells, safes, collects}
 use Rattle.rules.specs.Sound.{setFits}
-use Rattle.book_bytes.specs.declared.Book.{Book}
+use Rattle.events.specs.Replies.{verdictOf}
+use Rattle.book_bytes.specs.declared.Record.{Record}
 use Rattle.book_bytes.specs.Records.{meaning}
-use Rattle.record_steps.specs.Turns.{verdictOf, stepped, bookOf, joinedTo, attemptedAt, settledAs, joinTurn, attemptTurn, registerTurn, sendTurn, handTurn, tellTurn, safeTurn, collectTurn}
+use Rattle.record_steps.specs.Turns.{stepped, bookOf, joinedTo, attemptedAt, settledAs, joinTurn, attemptTurn, registerTurn, sendTurn, handTurn, tellTurn, safeTurn, collectTurn}
 use Rattle.record_steps.proofs.MeaningVerdicts.{join-verdict, attempt-verdict, register-verdict, send-verdict, hand-verdict, tell-verdict, safe-verdict, collect-verdict}
 use Rattle.record_steps.proofs.MeaningMarks.{registeredNow, handedNow, toldNow, reportedNow}
 use Rattle.book_steps.specs.Parts.{fewStepped}
@@ -21,17 +22,17 @@ use Rattle.record_lent.specs.declared.Step.{Step}
 use Rattle.record_lent.specs.Loans.{unturned, withinLimits, entering, turnBy, turnOf}
 
 -- 7 before the rule
-fit-first : (f : Bool) (r : Result Done) (new h : Book) → cond f (stepped (verdictOf r) new h) (unturned SetUnfit h) ≡ stepped (verdictOf (need f SetUnfit r)) new h
+fit-first : (f : Bool) (r : Result Done) (new h : Record) → cond f (stepped (verdictOf r) new h) (unturned SetUnfit h) ≡ stepped (verdictOf (need f SetUnfit r)) new h
 unfolding need stepped
 fit-first true r new h = refl
 fit-first false r new h = refl
 
-pub of-kind : (h : Book) (t : Step) → withinLimits h ≡ true → (k : ℕ) → t .kind ≡ k → turnOf h t ≡ turnBy k h t
+pub of-kind : (h : Record) (t : Step) → withinLimits h ≡ true → (k : ℕ) → t .kind ≡ k → turnOf h t ≡ turnBy k h t
 unfolding turnOf
 of-kind h t w k e = rw w (ap (λ (x : ℕ). turnBy x h t) e)
 
 -- each kind's step, on a record within its limits
-module _ (h : Book) (t : Step) (within : withinLimits h ≡ true) (out : List Entry) (own new : List (Item ℕ)) (outs : length out ≡ t .outgoing) (owns : length own ≡ t .inward) where
+module _ (h : Record) (t : Step) (within : withinLimits h ≡ true) (out : List Entry) (own new : List (Item ℕ)) (outs : length out ≡ t .outgoing) (owns : length own ≡ t .inward) where
   abbrev n : ℕ
   n = t .members
 
@@ -42,7 +43,7 @@ module _ (h : Book) (t : Step) (within : withinLimits h ≡ true) (out : List En
   b = meaning h out own new
 
   -- the verdict of the rule in place of the turn's own, which asks of the queues no more than their lengths
-  ruled : (f : ℕ → Verdict) {k l : ℕ} {w : Verdict} (after : Book) → l ≡ k → w ≡ f l → stepped (f k) after h ≡ stepped w after h
+  ruled : (f : ℕ → Verdict) {k l : ℕ} {w : Verdict} (after : Record) → l ≡ k → w ≡ f l → stepped (f k) after h ≡ stepped w after h
   ruled f after e g = ap (λ (x : ℕ). stepped (f x) after h) (sym e) ∙ ap (λ (x : Verdict). stepped x after h) (sym g)
 
   pub join-means : t .kind ≡ 2 → turnOf h t ≡ stepped (verdictOf (need (setFits n (t .view)) SetUnfit (joins p (t .view) b))) (joinedTo (t .view) h) h
@@ -76,9 +77,9 @@ module _ (h : Book) (t : Step) (within : withinLimits h ≡ true) (out : List En
   unfolding turnBy tellTurn
   tell-means e = of-kind h t within 10 e ∙ ruled (λ (k : ℕ). verdictOf (tells 0 (bookOf h k 0))) (toldNow h) outs (tell-verdict h out own new p)
 
-  pub safe-means : t .kind ≡ 11 → turnOf h t ≡ stepped (verdictOf (reports n p b)) (reportedNow h) h
+  pub safe-means : t .kind ≡ 11 → turnOf h t ≡ stepped (verdictOf (safes n p b)) (reportedNow h) h
   unfolding turnBy safeTurn
-  safe-means e = of-kind h t within 11 e ∙ ruled (λ (k : ℕ). verdictOf (reports n 0 (bookOf h 0 k))) (reportedNow h) owns (safe-verdict h out own new n p)
+  safe-means e = of-kind h t within 11 e ∙ ruled (λ (k : ℕ). verdictOf (safes n 0 (bookOf h 0 k))) (reportedNow h) owns (safe-verdict h out own new n p)
 
   pub collect-means : t .kind ≡ 12 → turnOf h t ≡ stepped (verdictOf (collects n b)) (settledAs (h .carrier .view) h) h
   unfolding turnBy collectTurn

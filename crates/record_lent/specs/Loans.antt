@@ -11,34 +11,33 @@ use Rattle.views.specs.declared.refusal.Verdict.the-variants.{Refused}
 use Rattle.views.specs.Limits.{maxOpen}
 use Rattle.events.specs.Kinds.{joinKind, attemptKind, registerKind, sendKind, handKind, tellKind, safeKind, collectKind}
 use Rattle.views.specs.Sets.{both}
+use Rattle.views.specs.Refusals.{left}
 use Rattle.rules.specs.Sound.{setFits}
-use Rattle.book_bytes.specs.declared.Book.{Book}
+use Rattle.book_bytes.specs.declared.Record.{Record}
 use Rattle.book_bytes.specs.Places.{sideAt, outgoingAt, inwardAt}
 use Rattle.book_bytes.specs.Records.{recordIn, storeRecord}
-use Rattle.book_bytes.specs.Books.{bytesSound}
+use Rattle.book_bytes.specs.Books.{bytesSound, membersIn, selfIn}
 use Rattle.record_steps.specs.declared.Stepped.{Stepped}
 use Rattle.record_steps.specs.Turns.{stepped, joinTurn, attemptTurn, registerTurn, sendTurn, handTurn, tellTurn, safeTurn, collectTurn}
-use Rattle.events.specs.Replies.{left}
-use Rattle.book_steps.specs.Acts.{membersIn, selfIn}
 use Rattle.book_steps.specs.Parts.{fewStepped}
 use Rattle.record_lent.specs.declared.Step.{Step}
 
 -- the refusal, with the record as it was
-abbrev pub unturned : Refusal → Book → Stepped
+abbrev pub unturned : Refusal → Record → Stepped
 unturned r h = stepped (Refused r) h h
 
 -- ---- on the record
 
 -- its side and the number of its open views are within their limits
-unfoldable pub withinLimits : Book → Bool
+unfoldable pub withinLimits : Record → Bool
 withinLimits h = both (leb (h .side) 1) (leb (h .opens .count) maxOpen)
 
 -- join: 7, then 11 and 12
-unfoldable pub entering : Book → Step → Stepped
+unfoldable pub entering : Record → Step → Stepped
 entering h t = cond (setFits (t .members) (t .view)) (joinTurn (t .member .0) (t .view) h) (unturned SetUnfit h)
 
 -- the step of a kind's number, 43 last in an attempt; 5 for any other number
-unfoldable pub turnBy : ℕ → Book → Step → Stepped
+unfoldable pub turnBy : ℕ → Record → Step → Stepped
 turnBy k h t =
     cond (eqb k joinKind) (entering h t) (
     cond (eqb k attemptKind) (fewStepped (attemptTurn (t .members) h) h) (
@@ -51,7 +50,7 @@ turnBy k h t =
     unturned UnknownStep h))))))))
 
 -- 4 before all of it
-unfoldable pub turnOf : Book → Step → Stepped
+unfoldable pub turnOf : Record → Step → Stepped
 turnOf h t = cond (withinLimits h) (turnBy (t .kind) h t) (unturned RecordsUnsound h)
 
 -- ---- on a book's bytes

@@ -1,7 +1,7 @@
 // A member's small record lent by the host: one step of a kind's number changes it in place.
 pub mod bytes;
 
-use book_bytes::Book;
+use book_bytes::Record;
 use events::kinds;
 use record_steps::Stepped;
 use views::Member;
@@ -29,7 +29,7 @@ pub struct Step {
 }
 
 // Join: 7, 11, 12.
-fn join(h: Book, t: Step) -> Stepped
+fn join(h: Record, t: Step) -> Stepped
     ensures { λ r. ⌜ r ≡ entering h t ⌝ }
 {
     let v = t.view;
@@ -41,7 +41,7 @@ fn join(h: Book, t: Step) -> Stepped
 }
 
 // Attempt, with 43 last.
-fn attempt(n: u8, h: Book) -> Stepped
+fn attempt(n: u8, h: Record) -> Stepped
     requires { ⌜ h .side ≤ 1 ⌝ }
     ensures { λ r. ⌜ r ≡ fewStepped (attemptTurn n h) h ⌝ }
 {
@@ -49,7 +49,7 @@ fn attempt(n: u8, h: Book) -> Stepped
 }
 
 // The step of a kind's number; 5 for any other number.
-fn by_kind(h: Book, t: Step) -> Stepped
+fn by_kind(h: Record, t: Step) -> Stepped
     requires { ⌜ h .side ≤ 1 ⌝ }
     ensures { λ r. ⌜ r ≡ turnBy (t .kind) h t ⌝ }
 {
@@ -68,7 +68,7 @@ fn by_kind(h: Book, t: Step) -> Stepped
 }
 
 // The step by value: 4 for a record outside its limits, then the step.
-pub fn turned(h: Book, t: Step) -> Stepped
+pub fn turned(h: Record, t: Step) -> Stepped
     ensures { λ r. ⌜ r ≡ turnOf h t ⌝ }
 {
     if 1 < h.side {
@@ -81,7 +81,7 @@ pub fn turned(h: Book, t: Step) -> Stepped
 }
 
 // The step on a record that is lent: the record after it, or as it was where the step is refused.
-pub fn turn(h: &mut Book, t: Step) -> Verdict
+pub fn turn(h: &mut Record, t: Step) -> Verdict
     ensures { λ r. ⌜ (r ≡ turnOf (now (h .entry)) t .verdict) × (now (h .exit) ≡ turnOf (now (h .entry)) t .book) ⌝ }
 {
     let s = turned(*h, t);
@@ -90,7 +90,7 @@ pub fn turn(h: &mut Book, t: Step) -> Verdict
 }
 
 // The record is lent for one step and taken back: who calls this holds no reference.
-pub fn lend(h: Book, t: Step) -> Stepped
+pub fn lend(h: Record, t: Step) -> Stepped
     ensures { λ s. ⌜ s ≡ turnOf h t ⌝ }
 {
     let mut book = h;

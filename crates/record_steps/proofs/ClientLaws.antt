@@ -8,14 +8,14 @@ use borrow.Author.Tests.{eq-eqb, ne-eqb}
 use Rattle.views.specs.Limits.{maxOutgoing}
 use Rattle.views.specs.Sets.{both}
 use Rattle.rules.specs.Data.{Entry, entry, registered}
-use Rattle.book_bytes.specs.declared.Book.{Book}
+use Rattle.book_bytes.specs.declared.Record.{Record}
 use Rattle.record_steps.proofs.AskLaws.{both-false}
 use Rattle.record_steps.specs.Turns.{roomFor}
 use Rattle.record_steps.proofs.RowLaws.{together}
 
 -- ---- room for a message
 
-module _ (h : Book) (out : ℕ) where
+module _ (h : Record) (out : ℕ) where
   pub room-asked : together h ≡ true → ltb out maxOutgoing ≡ roomFor h out
   unfolding roomFor
   room-asked e = rw (e, length-replicate {A = Entry} out (entry 0 registered))
@@ -26,10 +26,10 @@ module _ (h : Book) (out : ℕ) where
 
 -- ---- something new to tell
 
-abbrev telling : Book → Bool
+abbrev telling : Record → Bool
 telling h = both (not (eqb (h .handed .0) (h .told .0))) (not (eqb (h .handed .0) 0))
 
-module _ (h : Book) where
+module _ (h : Record) where
   pub no-news : h .handed .0 ≡ h .told .0 → telling h ≡ false
   no-news e = rw (eq-eqb (h .handed .0) (h .told .0) e)
 

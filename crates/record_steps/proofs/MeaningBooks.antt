@@ -16,7 +16,7 @@ use Rattle.views.proofs.ListLaws.{length-above, length-union, insert-union}
 use Rattle.views.proofs.PlaceLaws.{list-placed}
 use Rattle.rules.specs.Data.{Entry, entry, info, Item}
 use Rattle.rules.specs.Member.{joined, opened, attempted, collected}
-use Rattle.book_bytes.specs.declared.Book.{Book}
+use Rattle.book_bytes.specs.declared.Record.{Record}
 use Rattle.book_bytes.specs.Records.{meaning}
 use Rattle.book_bytes.proofs.Blank.{none-noted, none-told}
 use Rattle.record_steps.specs.Turns.{joinedTo, openedTo, attemptedAt, settledAs}
@@ -44,7 +44,7 @@ settled-list v o h = list-placed (aboveOf (idOf v) (listOf o)) (omega (arith, le
 
 -- ---- the books
 
-module _ (h : Book) (out : List Entry) (own new : List (Item ℕ)) where
+module _ (h : Record) (out : List Entry) (own new : List (Item ℕ)) where
   pub join-book : (p : ℕ) (v : View)
       → meaning (joinedTo v h) (entry p (info (h .settled) (listOf (h .opens))) ∷ []) own [] ≡ joined p v (meaning h out own new)
   unfolding joinedTo joined

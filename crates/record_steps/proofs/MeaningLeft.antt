@@ -9,8 +9,8 @@ use Rattle.views.specs.declared.View.{View}
 use Rattle.views.specs.declared.refusal.Refusal.{Refusal}
 use Rattle.views.specs.declared.refusal.Verdict.the-variants.{Accepted}
 use Rattle.rules.specs.Data.{Message, client, registered, told, entry, Book, Answer, Result, refused, accepted, need, withView, withFirst}
-use Rattle.rules.specs.Member.{Done, does, clientIsCarrier, outgoes, queues, noted, moves, joined, attempted, collected, joins, attempts, registers, sends, hands, tells, reports, collects}
-use Rattle.record_steps.specs.Turns.{verdictOf}
+use Rattle.rules.specs.Member.{Done, does, clientIsCarrier, outgoes, queues, noted, moves, joined, attempted, collected, joins, attempts, registers, sends, hands, tells, safes, collects}
+use Rattle.events.specs.Replies.{verdictOf}
 
 -- if it is accepted, the book left is b
 abbrev pub Leaves : Result Done → Book → Type 0
@@ -87,9 +87,9 @@ module _ (p : ℕ) (b : Book) where
   tells-leaves c h =
       view-leaves _ _ _ _ (λ v e. need-leaves _ _ _ _ (λ t. need-leaves _ _ _ _ (λ u. need-leaves _ _ _ _ (λ x. does-leaves _ _ _ (h t)))))
 
-  pub reports-leaves : (n : ℕ) → Leaves (reports n p b) (moves (b .client .handed) (b .client .told) (b .client .reported + 1) b)
-  unfolding reports
-  reports-leaves n = view-leaves _ _ _ _ (λ v e. need-leaves _ _ _ _ (λ t. first-leaves _ _ _ _ (λ x rest. need-leaves _ _ _ _ (λ u. does-leaves _ _ _ refl))))
+  pub safes-leaves : (n : ℕ) → Leaves (safes n p b) (moves (b .client .handed) (b .client .told) (b .client .reported + 1) b)
+  unfolding safes
+  safes-leaves n = view-leaves _ _ _ _ (λ v e. need-leaves _ _ _ _ (λ t. first-leaves _ _ _ _ (λ x rest. need-leaves _ _ _ _ (λ u. does-leaves _ _ _ refl))))
 
 pub collects-leaves : (b : Book) (n : ℕ) (v : View) → ((w : View) → b .carrier .view ≡ some w → w ≡ v) → Leaves (collects n b) (collected v b)
 unfolding collects

@@ -12,12 +12,12 @@ use Rattle.views.specs.Limits.{maxOpen}
 use Rattle.views.specs.Lists.{listOf, placed}
 use Rattle.views.proofs.SetLaws.{known}
 use Rattle.rules.specs.Data.{Entry, entry, client, info, registered, told, Item}
-use Rattle.rules.specs.Member.{clientIsCarrier, queues, noted, moves, joins, attempts, registers, sends, hands, tells, reports, collects}
+use Rattle.rules.specs.Member.{clientIsCarrier, queues, noted, moves, joins, attempts, registers, sends, hands, tells, safes, collects}
 use Rattle.book_bytes.specs.declared.Seat.{Seat}
-use Rattle.book_bytes.specs.declared.Book.{Book}
+use Rattle.book_bytes.specs.declared.Record.{Record}
 use Rattle.book_bytes.specs.Records.{seated, meaning}
 use Rattle.record_steps.specs.Turns.{bookOf, joinedTo, attemptedAt, marked, settledAs}
-use Rattle.record_steps.proofs.MeaningLeft.{Leaves, queued, unqueued, joins-leaves, attempts-leaves, registers-leaves, sends-leaves, hands-leaves, tells-leaves, reports-leaves, collects-leaves}
+use Rattle.record_steps.proofs.MeaningLeft.{Leaves, queued, unqueued, joins-leaves, attempts-leaves, registers-leaves, sends-leaves, hands-leaves, tells-leaves, safes-leaves, collects-leaves}
 use Rattle.record_steps.proofs.MeaningBooks.{join-book, attempt-book, collect-book}
 
 -- the view of a seat that has one
@@ -29,21 +29,21 @@ seated-view s v e =
 
 -- ---- the record after a turn that only marks
 
-abbrev pub registeredNow : Book → Book
+abbrev pub registeredNow : Record → Record
 registeredNow h = marked true (h .handed .0) (h .told .0) (h .reported .0) h
 
-abbrev pub handedNow : Book → Book
+abbrev pub handedNow : Record → Record
 handedNow h = marked (h .registered) (h .handed .0 + 1) (h .told .0) (h .reported .0) h
 
-abbrev pub toldNow : Book → Book
+abbrev pub toldNow : Record → Record
 toldNow h = marked (h .registered) (h .handed .0) (h .handed .0) (h .reported .0) h
 
-abbrev pub reportedNow : Book → Book
+abbrev pub reportedNow : Record → Record
 reportedNow h = marked (h .registered) (h .handed .0) (h .told .0) (h .reported .0 + 1) h
 
 -- ---- the rule's book
 
-module _ (h : Book) (out : List Entry) (own new : List (Item ℕ)) where
+module _ (h : Record) (out : List Entry) (own new : List (Item ℕ)) where
   pub hand-book : moves (h .handed .0 + 1) (h .told .0) (h .reported .0) (meaning h out own new) ≡ meaning (handedNow h) out own new
   hand-book = refl
 
@@ -96,8 +96,8 @@ module _ (h : Book) (out : List Entry) (own new : List (Item ℕ)) where
     pub tell-leaves : Leaves (tells p (meaning h out own new)) (meaning (toldNow h) (out ++ (entry p (told (h .handed .0)) ∷ [])) own new)
     tell-leaves = tells-leaves p (meaning h out own new) _ tell-book
 
-    pub safe-leaves : (n : ℕ) → Leaves (reports n p (meaning h out own new)) (meaning (reportedNow h) out own new)
-    safe-leaves n d e = reports-leaves p (meaning h out own new) n d e ∙ safe-book
+    pub safe-leaves : (n : ℕ) → Leaves (safes n p (meaning h out own new)) (meaning (reportedNow h) out own new)
+    safe-leaves n d e = safes-leaves p (meaning h out own new) n d e ∙ safe-book
 
   module _ (l : List View) (lies : h .opens ≡ placed l) (short : length l ≤ maxOpen) where
     pub attempt-leaves : (weight : ℕ → ℕ) (n p : ℕ) → Leaves (attempts weight n p (meaning h out own new)) (meaning (attemptedAt (h .carrier .view) h) out new [])

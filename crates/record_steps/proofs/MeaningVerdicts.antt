@@ -9,10 +9,11 @@ use lib.ListN.{length, take, drop, length-replicate, length-take, length-drop}
 use Rattle.views.specs.declared.View.{View}
 use Rattle.views.specs.declared.refusal.Refusal.{Refusal}
 use Rattle.rules.specs.Data.{Entry, Item, Result, need, withView, withFirst}
-use Rattle.rules.specs.Member.{hasRoom, joins, attempts, registers, sends, hands, tells, reports, collects}
-use Rattle.book_bytes.specs.declared.Book.{Book}
+use Rattle.rules.specs.Member.{hasRoom, joins, attempts, registers, sends, hands, tells, safes, collects}
+use Rattle.events.specs.Replies.{verdictOf}
+use Rattle.book_bytes.specs.declared.Record.{Record}
 use Rattle.book_bytes.specs.Records.{meaning}
-use Rattle.record_steps.specs.Turns.{verdictOf, entriesOf, itemsOf, bookOf}
+use Rattle.record_steps.specs.Turns.{entriesOf, itemsOf, bookOf}
 
 -- ---- the refusal table's forms: verdicts that agree in what follows agree
 
@@ -41,7 +42,7 @@ first-same (x ∷ k) (y ∷ l) r f g e h = h x k y l
 
 -- ---- the steps
 
-module _ (h : Book) (out : List Entry) (own new : List (Item ℕ)) where
+module _ (h : Record) (out : List Entry) (own new : List (Item ℕ)) where
   pub join-verdict : (p : ℕ) (v : View) → verdictOf (joins p v (meaning h out own new)) ≡ verdictOf (joins p v (bookOf h 0 0))
   unfolding joins
   join-verdict p v = need-same _ _ _ _ _ refl (need-same _ _ _ _ _ refl refl)
@@ -86,8 +87,8 @@ module _ (h : Book) (out : List Entry) (own new : List (Item ℕ)) where
       view-same _ _ _ _ (λ v. first-same (drop (h .handed .0) own) (drop (h .handed .0) (itemsOf (length own))) _ _ _
       (simp (length-drop, own-length)) (λ x rest y others. refl))
 
-  pub safe-verdict : (n p : ℕ) → verdictOf (reports n p (meaning h out own new)) ≡ verdictOf (reports n 0 (bookOf h 0 (length own)))
-  unfolding reports
+  pub safe-verdict : (n p : ℕ) → verdictOf (safes n p (meaning h out own new)) ≡ verdictOf (safes n 0 (bookOf h 0 (length own)))
+  unfolding safes
   safe-verdict n p =
       view-same _ _ _ _ (λ v. need-same _ _ _ _ _ refl (
       first-same (drop (h .reported .0) (take (h .handed .0) own)) (drop (h .reported .0) (take (h .handed .0) (itemsOf (length own)))) _ _ _

@@ -17,7 +17,7 @@ use Rattle.views.specs.Lists.{idOf, listOf, placed, unionOf, aboveOf}
 use Rattle.views.proofs.SetLaws.{known}
 use Rattle.views.proofs.ListLaws.{union-nil, union-front, union-ind, length-above}
 use Rattle.views.proofs.PlaceLaws.{list-placed}
-use Rattle.book_bytes.specs.declared.Book.{Book}
+use Rattle.book_bytes.specs.declared.Record.{Record}
 use Rattle.record_steps.specs.Turns.{settledView}
 
 -- a member's digit fits the byte
@@ -54,7 +54,7 @@ above-union g = union-ind (λ k l m. aboveOf g m ≡ unionOf (aboveOf g k) (abov
     (known (ltb g (idOf x))))
 
 -- the open views after an info: both lists pruned, then put together
-pub info-opens : (x settled : View) (l kept arrived joined : Views) (h : Book)
+pub info-opens : (x settled : View) (l kept arrived joined : Views) (h : Record)
     → settled ≡ settledView x h → kept ≡ placed (aboveOf (idOf settled) (listOf (h .opens))) → arrived ≡ placed (aboveOf (idOf settled) (listOf l))
     → joined ≡ placed (unionOf (listOf kept) (listOf arrived)) → h .opens .count ≤ maxOpen → l .count ≤ maxOpen
     → joined ≡ placed (aboveOf (idOf (settledView x h)) (unionOf (listOf (h .opens)) (listOf l)))

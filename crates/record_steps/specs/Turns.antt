@@ -1,10 +1,10 @@
 -- The member's steps on its small record: the verdict is that of the rules on the book it is, and the record after an accepted step.
 use mathlib.Core.Bool.{Bool, true, false, cond}
-use mathlib.Core.List.{List, [], _∷_}
+use mathlib.Core.List.{List, []}
 use Prim.Native.Nat.{ℕ, _+_, _-_, _^_}
 use lib.Bits.{bitOr}
 use lib.Dec.{ltb}
-use lib.ListN.{length, replicate, set}
+use lib.ListN.{replicate, set}
 use Rattle.views.specs.declared.View.{View}
 use Rattle.views.specs.declared.list.Views.{Views}
 use Rattle.views.specs.declared.refusal.Verdict.{Verdict}
@@ -13,18 +13,13 @@ use Rattle.views.specs.Limits.{maxMembers}
 use Rattle.views.specs.Sets.{one}
 use Rattle.views.specs.Lists.{idOf, listOf, placed, insertOf, aboveOf}
 use Rattle.rules.specs.Data as R
-use Rattle.rules.specs.Data.{Entry, entry, Item, item, Result, refused, accepted}
-use Rattle.rules.specs.Member.{Done, joins, attempts, registers, sends, hands, tells, reports, collects, settledBy, learned, hasRoom}
+use Rattle.rules.specs.Data.{Entry, entry, Item, item}
+use Rattle.rules.specs.Member.{joins, attempts, registers, sends, hands, tells, safes, collects, settledBy, learned, hasRoom}
 use Rattle.book_bytes.specs.declared.Seat.{Seat}
-use Rattle.book_bytes.specs.declared.Book.{Book}
+use Rattle.book_bytes.specs.declared.Record.{Record}
 use Rattle.book_bytes.specs.Records.{meaning}
 use Rattle.record_steps.specs.declared.Stepped.{Stepped}
-
--- ---- verdicts
-
-abbrev pub verdictOf : {A : Type 0} → Result A → Verdict
-verdictOf (refused r) = Refused r
-verdictOf (accepted x) = Accepted
+use Rattle.events.specs.Replies.{verdictOf}
 
 -- queues of a length: the rules' verdicts ask of the queues no more than that
 abbrev pub entriesOf : ℕ → List Entry
@@ -34,11 +29,11 @@ abbrev pub itemsOf : ℕ → List (Item ℕ)
 itemsOf n = replicate n (item 0 0)
 
 -- the record with so many outgoing and so many in the client view's inward list
-abbrev pub bookOf : Book → ℕ → ℕ → R.Book
+abbrev pub bookOf : Record → ℕ → ℕ → R.Book
 bookOf h out own = meaning h (entriesOf out) (itemsOf own) []
 
 -- the new record if accepted, else the old
-unfoldable pub stepped : Verdict → Book → Book → Stepped
+unfoldable pub stepped : Verdict → Record → Record → Stepped
 stepped Accepted new old = record { verdict = Accepted; book = new }
 stepped (Refused r) new old = record { verdict = Refused r; book = old }
 
@@ -47,7 +42,7 @@ stepped (Refused r) new old = record { verdict = Refused r; book = old }
 abbrev pub seat : View → Seat
 seat v = record { there = true; view = v }
 
-unfoldable pub joinedTo : View → Book → Book
+unfoldable pub joinedTo : View → Record → Record
 joinedTo v h = record {
   settled = h .settled;
   opens = h .opens;
@@ -64,7 +59,7 @@ joinedTo v h = record {
   side = h .side;
 }
 
-unfoldable pub joinTurn : ℕ → View → Book → Stepped
+unfoldable pub joinTurn : ℕ → View → Record → Stepped
 joinTurn p v h = stepped (verdictOf (joins p v (bookOf h 0 0))) (joinedTo v h) h
 
 -- ---- deliver: what was taken
@@ -74,7 +69,7 @@ unfoldable pub withMember : ℕ → ℕ → ℕ
 withMember q s = bitOr s (2 ^ q)
 
 -- one message more was taken; settled and open views, infos, registrations and told counts after it
-abbrev pub takenIn : Book → View → Views → ℕ → ℕ → List ℕ → Book
+abbrev pub takenIn : Record → View → Views → ℕ → ℕ → List ℕ → Record
 takenIn h v l i r t = record {
   settled = v;
   opens = l;
@@ -92,21 +87,21 @@ takenIn h v l i r t = record {
 }
 
 -- the settled view after an info with the settled view x
-unfoldable pub settledView : View → Book → View
+unfoldable pub settledView : View → Record → View
 settledView x h = settledBy x (bookOf h 0 0 .held)
 
-unfoldable pub clientTurn : Book → Book
+unfoldable pub clientTurn : Record → Record
 clientTurn h = takenIn h (h .settled) (h .opens) (h .infos) (h .registrations) (h .tolds)
 
-unfoldable pub infoTurn : ℕ → View → Views → Book → Book
+unfoldable pub infoTurn : ℕ → View → Views → Record → Record
 infoTurn q x l h =
     let held = learned x (listOf l) (bookOf h 0 0 .held) in
     takenIn h (held .settled) (placed (held .opens)) (withMember q (h .infos)) (h .registrations) (h .tolds)
 
-unfoldable pub registeredTurn : ℕ → Book → Book
+unfoldable pub registeredTurn : ℕ → Record → Record
 registeredTurn q h = takenIn h (h .settled) (h .opens) (h .infos) (withMember q (h .registrations)) (h .tolds)
 
-unfoldable pub toldTurn : ℕ → ℕ → Book → Book
+unfoldable pub toldTurn : ℕ → ℕ → Record → Record
 toldTurn q k h = takenIn h (h .settled) (h .opens) (h .infos) (h .registrations) (set (h .tolds) q k)
 
 -- ---- attempt
@@ -115,7 +110,7 @@ toldTurn q k h = takenIn h (h .settled) (h .opens) (h .infos) (h .registrations)
 unfoldable pub openedTo : View → View → Views → Views
 openedTo v settled l = cond (ltb (idOf settled) (idOf v)) (placed (insertOf v (listOf l))) l
 
-unfoldable pub attemptedAt : View → Book → Book
+unfoldable pub attemptedAt : View → Record → Record
 attemptedAt v h = record {
   settled = h .settled;
   opens = openedTo v (h .settled) (h .opens);
@@ -132,12 +127,12 @@ attemptedAt v h = record {
   side = 1 - h .side;
 }
 
-unfoldable pub attemptTurn : ℕ → Book → Stepped
+unfoldable pub attemptTurn : ℕ → Record → Stepped
 attemptTurn n h = stepped (verdictOf (attempts one n 0 (bookOf h 0 0))) (attemptedAt (h .carrier .view) h) h
 
 -- ---- register, send, hand, tell, safe: marks and positions
 
-abbrev pub marked : Bool → ℕ → ℕ → ℕ → Book → Book
+abbrev pub marked : Bool → ℕ → ℕ → ℕ → Record → Record
 marked g handed told reported h = record {
   settled = h .settled;
   opens = h .opens;
@@ -155,27 +150,27 @@ marked g handed told reported h = record {
 }
 
 -- a message can be queued, or would not be
-unfoldable pub roomFor : Book → ℕ → Bool
+unfoldable pub roomFor : Record → ℕ → Bool
 roomFor h out = hasRoom (bookOf h out 0)
 
-unfoldable pub registerTurn : Book → ℕ → Stepped
+unfoldable pub registerTurn : Record → ℕ → Stepped
 registerTurn h out = stepped (verdictOf (registers 0 (bookOf h out 0))) (marked true (h .handed .0) (h .told .0) (h .reported .0) h) h
 
-unfoldable pub sendTurn : Book → ℕ → Stepped
+unfoldable pub sendTurn : Record → ℕ → Stepped
 sendTurn h out = stepped (verdictOf (sends 0 0 (bookOf h out 0))) h h
 
-unfoldable pub handTurn : Book → ℕ → Stepped
+unfoldable pub handTurn : Record → ℕ → Stepped
 handTurn h own = stepped (verdictOf (hands 0 (bookOf h 0 own))) (marked (h .registered) (h .handed .0 + 1) (h .told .0) (h .reported .0) h) h
 
-unfoldable pub tellTurn : Book → ℕ → Stepped
+unfoldable pub tellTurn : Record → ℕ → Stepped
 tellTurn h out = stepped (verdictOf (tells 0 (bookOf h out 0))) (marked (h .registered) (h .handed .0) (h .handed .0) (h .reported .0) h) h
 
-unfoldable pub safeTurn : ℕ → Book → ℕ → Stepped
-safeTurn n h own = stepped (verdictOf (reports n 0 (bookOf h 0 own))) (marked (h .registered) (h .handed .0) (h .told .0) (h .reported .0 + 1) h) h
+unfoldable pub safeTurn : ℕ → Record → ℕ → Stepped
+safeTurn n h own = stepped (verdictOf (safes n 0 (bookOf h 0 own))) (marked (h .registered) (h .handed .0) (h .told .0) (h .reported .0 + 1) h) h
 
 -- ---- collect
 
-unfoldable pub settledAs : View → Book → Book
+unfoldable pub settledAs : View → Record → Record
 settledAs v h = record {
   settled = v;
   opens = placed (aboveOf (idOf v) (listOf (h .opens)));
@@ -192,5 +187,5 @@ settledAs v h = record {
   side = h .side;
 }
 
-unfoldable pub collectTurn : ℕ → Book → Stepped
+unfoldable pub collectTurn : ℕ → Record → Stepped
 collectTurn n h = stepped (verdictOf (collects n (bookOf h 0 0))) (settledAs (h .carrier .view) h) h

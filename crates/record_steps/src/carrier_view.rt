@@ -1,6 +1,6 @@
 // The steps that change which views the member has: join, attempt and collect, by value.
 use crate::Stepped;
-use book_bytes::Book;
+use book_bytes::Record;
 use book_bytes::Seat;
 use views::Member;
 use views::Position;
@@ -14,7 +14,7 @@ ghost use Prim.Native.Nat.{_≤_};
 ghost use Rattle.record_steps.specs.Turns.{joinTurn, attemptTurn, openedTo, attemptedAt, collectTurn};
 
 // The view v becomes the carrier view of the member p.
-pub fn join(p: Member, v: View, h: Book) -> Stepped
+pub fn join(p: Member, v: View, h: Record) -> Stepped
     ensures { λ r. ⌜ r ≡ joinTurn (p .0) v h ⌝ }
 {
     if !sets::contains(v.set, p) {
@@ -43,7 +43,7 @@ pub fn join(p: Member, v: View, h: Book) -> Stepped
 }
 
 // The carrier view becomes open and becomes the client view. More than 31 may be open then: that is for the caller to refuse.
-pub fn attempt(n: u8, h: Book) -> Stepped
+pub fn attempt(n: u8, h: Record) -> Stepped
     requires { ⌜ h .side ≤ 1 ⌝ }
     ensures { λ r. ⌜ r ≡ attemptTurn n h ⌝ }
 {
@@ -80,7 +80,7 @@ fn opened_to(v: View, settled: View, opens: Views) -> Views
     opens
 }
 
-fn attempted(v: View, h: Book) -> Book
+fn attempted(v: View, h: Record) -> Record
     requires { ⌜ h .side ≤ 1 ⌝ }
     ensures { λ r. ⌜ r ≡ attemptedAt v h ⌝ }
 {
@@ -104,7 +104,7 @@ fn attempted(v: View, h: Book) -> Book
 }
 
 // The carrier view becomes settled; only open views above it remain.
-pub fn collect(n: u8, h: Book) -> Stepped
+pub fn collect(n: u8, h: Record) -> Stepped
     ensures { λ r. ⌜ r ≡ collectTurn n h ⌝ }
 {
     let at = h.carrier;

@@ -1,7 +1,7 @@
 // The steps in the client view, each of which a member without one is refused: register, send, hand, tell and safe, by value. The numbers
 // beside the record are the lengths of its queues.
 use crate::Stepped;
-use book_bytes::Book;
+use book_bytes::Record;
 use views::Position;
 use views::limits;
 use views::refusal::Refusal;
@@ -10,7 +10,7 @@ ghost use mathlib.Core.Path.{_≡_};
 ghost use Rattle.record_steps.specs.Turns.{roomFor, registerTurn, sendTurn, handTurn, tellTurn, safeTurn};
 
 // A message can be queued, or would not be.
-fn has_room(h: Book, out: u8) -> bool
+fn has_room(h: Record, out: u8) -> bool
     ensures { λ r. ⌜ r ≡ roomFor h out ⌝ }
 {
     let client = h.client;
@@ -22,7 +22,7 @@ fn has_room(h: Book, out: u8) -> bool
 }
 
 // Noted for the client view.
-pub fn register(h: Book, out: u8) -> Stepped
+pub fn register(h: Record, out: u8) -> Stepped
     ensures { λ r. ⌜ r ≡ registerTurn h out ⌝ }
 {
     let client = h.client;
@@ -44,7 +44,7 @@ pub fn register(h: Book, out: u8) -> Stepped
 }
 
 // A client message may go out.
-pub fn send(h: Book, out: u8) -> Stepped
+pub fn send(h: Record, out: u8) -> Stepped
     ensures { λ r. ⌜ r ≡ sendTurn h out ⌝ }
 {
     let client = h.client;
@@ -61,7 +61,7 @@ pub fn send(h: Book, out: u8) -> Stepped
 }
 
 // The next of the client view's inward list, which has so many, is handed out.
-pub fn hand(h: Book, own: u8) -> Stepped
+pub fn hand(h: Record, own: u8) -> Stepped
     ensures { λ r. ⌜ r ≡ handTurn h own ⌝ }
 {
     let client = h.client;
@@ -81,7 +81,7 @@ pub fn hand(h: Book, own: u8) -> Stepped
 }
 
 // The number handed out is told.
-pub fn tell(h: Book, out: u8) -> Stepped
+pub fn tell(h: Record, out: u8) -> Stepped
     ensures { λ r. ⌜ r ≡ tellTurn h out ⌝ }
 {
     let client = h.client;
@@ -111,7 +111,7 @@ pub fn tell(h: Book, out: u8) -> Stepped
 }
 
 // The next handed message not yet reported is reported, of an inward list that has so many.
-pub fn safe(n: u8, h: Book, own: u8) -> Stepped
+pub fn safe(n: u8, h: Record, own: u8) -> Stepped
     ensures { λ r. ⌜ r ≡ safeTurn n h own ⌝ }
 {
     let client = h.client;

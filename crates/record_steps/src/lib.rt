@@ -4,7 +4,7 @@ pub mod client_view;
 pub mod messages;
 pub mod tests;
 
-use book_bytes::Book;
+use book_bytes::Record;
 use views::refusal::Refusal;
 use views::refusal::Verdict;
 ghost use mathlib.Core.Path.{_≡_};
@@ -14,11 +14,11 @@ ghost use Rattle.record_steps.specs.Turns.{stepped};
 // What a step gives: the record after it, or the refusal with the record as it was.
 pub struct Stepped {
     pub verdict: Verdict,
-    pub book: Book,
+    pub book: Record,
 }
 
 // The refusal, with the record as it was.
-pub fn refuse(r: Refusal, h: Book) -> Stepped
+pub fn refuse(r: Refusal, h: Record) -> Stepped
     ensures { λ s. ⌜ s ≡ stepped (Refused r) h h ⌝ }
 {
     Stepped {

@@ -1,5 +1,5 @@
 // What taking a message changes in the record.
-use book_bytes::Book;
+use book_bytes::Record;
 use views::Member;
 use views::Position;
 use views::View;
@@ -20,7 +20,7 @@ pub fn with_member(members: u8, q: Member) -> u8
 }
 
 // A client message was taken.
-pub fn take_client(h: Book) -> Book
+pub fn take_client(h: Record) -> Record
     requires { ⌜ h .taken .0 < 255 ⌝ }
     ensures { λ r. ⌜ r ≡ clientTurn h ⌝ }
 {
@@ -31,7 +31,7 @@ pub fn take_client(h: Book) -> Book
 }
 
 // The settled view after an info with the settled view x.
-pub fn settled_by(x: View, h: Book) -> View
+pub fn settled_by(x: View, h: Record) -> View
     ensures { λ r. ⌜ r ≡ settledView x h ⌝ }
 {
     let own = h.settled;
@@ -46,7 +46,7 @@ pub fn settled_by(x: View, h: Book) -> View
 }
 
 // An info of the member q with the settled view x and the open views l was taken.
-pub fn take_info(q: Member, x: View, l: Views, h: Book) -> Book
+pub fn take_info(q: Member, x: View, l: Views, h: Record) -> Record
     requires { ⌜ (h .taken .0 < 255) × (q .0 < maxMembers) × (h .opens .count ≤ maxOpen) × (l .count ≤ maxOpen) ⌝ }
     ensures { λ r. ⌜ r ≡ infoTurn (q .0) x l h ⌝ }
 {
@@ -65,7 +65,7 @@ pub fn take_info(q: Member, x: View, l: Views, h: Book) -> Book
 }
 
 // A registration of the member q was taken.
-pub fn take_registered(q: Member, h: Book) -> Book
+pub fn take_registered(q: Member, h: Record) -> Record
     requires { ⌜ (h .taken .0 < 255) × (q .0 < maxMembers) ⌝ }
     ensures { λ r. ⌜ r ≡ registeredTurn (q .0) h ⌝ }
 {
@@ -77,7 +77,7 @@ pub fn take_registered(q: Member, h: Book) -> Book
 }
 
 // The count k that the member q told was taken.
-pub fn take_told(q: Member, k: u8, h: Book) -> Book
+pub fn take_told(q: Member, k: u8, h: Record) -> Record
     requires { ⌜ (h .taken .0 < 255) × (q .0 < maxMembers) ⌝ }
     ensures { λ r. ⌜ r ≡ toldTurn (q .0) k h ⌝ }
 {

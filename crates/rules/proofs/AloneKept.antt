@@ -6,13 +6,13 @@ use borrow.Author.Tests.{leb-true, ltb-true}
 use Rattle.views.specs.declared.View.{View}
 use Rattle.views.specs.Limits.{maxMembers}
 use Rattle.rules.specs.Data.{Member, BookOf, Book, Result, accepted}
-use Rattle.rules.specs.Member.{DoneOf, PassingOf, Passing, passing, attempted, attempts, registers, sends, hands, tells, reports, collects}
+use Rattle.rules.specs.Member.{DoneOf, PassingOf, Passing, passing, attempted, attempts, registers, sends, hands, tells, safes, collects}
 use Rattle.rules.specs.Sound.{within}
 use Rattle.rules.specs.Group.{fits, fresh}
 use Rattle.rules.specs.Alone.{startAlone, alone, joinAlone, passAlone, attemptAlone}
 use Rattle.rules.proofs.Holding.{Holds, gives, given, need-holds, after-holds, then-holds}
 use Rattle.rules.proofs.BookParts.{BookKept, Keeps}
-use Rattle.rules.proofs.SoundMembers.{fresh-kept, Passes, joins-keep, passing-keeps, attempted-kept, attempts-hold, registers-keep, sends-keep, hands-keep, tells-keep, reports-keep, collects-keep}
+use Rattle.rules.proofs.SoundMembers.{fresh-kept, Passes, joins-keep, passing-keeps, attempted-kept, attempts-hold, registers-keep, sends-keep, hands-keep, tells-keep, safes-keep, collects-keep}
 use Rattle.rules.proofs.AloneSound.{byItself, members-within, alone-says, alone-from}
 pub use Rattle.rules.proofs.AloneSound.{KeptAlone}
 
@@ -72,8 +72,8 @@ module _ {M : Type 0} where
     pub tell-kept : (b : BookOf M) (d : DoneOf M) → KeptAlone n b → alone n p b (tells p b) ≡ accepted d → KeptAlone n (d .book)
     tell-kept b d k = call-keeps n p b _ d k (tells-keep (byItself n) p b)
 
-    pub safe-kept : (b : BookOf M) (d : DoneOf M) → KeptAlone n b → alone n p b (reports n p b) ≡ accepted d → KeptAlone n (d .book)
-    safe-kept b d k = call-keeps n p b _ d k (λ _. reports-keep (byItself n) n p b)
+    pub safe-kept : (b : BookOf M) (d : DoneOf M) → KeptAlone n b → alone n p b (safes n p b) ≡ accepted d → KeptAlone n (d .book)
+    safe-kept b d k = call-keeps n p b _ d k (λ _. safes-keep (byItself n) n p b)
 
     pub collect-kept : (b : BookOf M) (d : DoneOf M) → KeptAlone n b → alone n p b (collects n b) ≡ accepted d → KeptAlone n (d .book)
     collect-kept b d k = call-keeps n p b _ d k (λ _. collects-keep (byItself n) n b)

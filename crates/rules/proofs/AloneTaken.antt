@@ -13,7 +13,7 @@ use Rattle.views.specs.Limits.{maxOpen, maxOrdered}
 use Rattle.views.specs.Sets.{has, isEmpty, isBeyond}
 use Rattle.views.proofs.SetLaws.{both-true, has-below}
 use Rattle.rules.specs.Data.{Member, MessageOf, client, info, registered, told, entry, BookOf, accepted, after}
-use Rattle.rules.specs.Member.{DoneOf, all, learned, took}
+use Rattle.rules.specs.Member.{DoneOf, all, learned, delivered}
 use Rattle.rules.specs.Sound.{countFits, setFits, opensRise}
 use Rattle.rules.specs.Alone.{SentOf, viewsOf, deliverAlone}
 use Rattle.rules.proofs.TestLaws.{all-at}
@@ -53,9 +53,9 @@ module _ {M : Type 0} where
   })
 
   -- 43 counts what an info leaves open
-  took-short : (q : Member) (m : MessageOf M) (b : BookOf M) → length (took q m b .held .opens) ≤ maxOpen
+  took-short : (q : Member) (m : MessageOf M) (b : BookOf M) → length (delivered q m b .held .opens) ≤ maxOpen
       → (x : View) (l : List View) → m ≡ info x l → length (learned x l (b .held) .opens) ≤ maxOpen
-  unfolding took
+  unfolding delivered
   took-short q m b h x l e = rw e at h
 
   pub deliver-kept : (n : ℕ) (p : Member) (x : SentOf M) (q : Member) (b : BookOf M) (d : DoneOf M) → KeptAlone n b → Readable (x .message)
@@ -69,7 +69,7 @@ module _ {M : Type 0} where
       need-holds _ _ _ (λ _.
       need-holds (has (v .set) q) _ _ (λ m.
       need-holds (ltb (b .carrier .taken) maxOrdered) _ _ (λ t.
-      need-holds (leb (length (took q (x .message) b .held .opens)) maxOpen) _ _ (λ o.
+      need-holds (leb (length (delivered q (x .message) b .held .opens)) maxOpen) _ _ (λ o.
       gives (took-kept (byItself n) b v (record { carries = c; left = ltb-true _ _ t; short = omega arith }) s q (x .message)
       (taken-entry n v q (x .message) (s .carrier .known v c) m w r)
       (took-short q (x .message) b (leb-true _ _ o))))))))))

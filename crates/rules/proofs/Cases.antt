@@ -18,7 +18,7 @@ use Rattle.wire.specs.declared.Message.the-variants.{Info, Registered}
 use Rattle.wire.specs.Format.{isKnown, viewsAllowed, numbersAllowed, someEmpty, toldFits, contentOf}
 use Rattle.wire.specs.Reader as W
 use Rattle.rules.specs.Data.{Member, Message, Step, Answer, event, refusal, Event, attempt, Result, refused, accepted, Group, need, withView, withFirst, after}
-use Rattle.rules.specs.Member.{every, all, passes, queues, joined, joins, passing, settledBy, learned, received, took, opened, attempted, attempts, registers, sends, hands, tells, reports, collected, collects}
+use Rattle.rules.specs.Member.{every, all, passes, queues, joined, joins, passing, settledBy, learned, received, delivered, opened, attempted, attempts, registers, sends, hands, tells, safes, collected, collects}
 use Rattle.rules.specs.Sound.{conditions, everyBook, everyQueue, bookCounts, counts, listed, bookListed, sound}
 use Rattle.rules.specs.Group.{fits, withListed, booked, own, fresh, started, start, creates, joinStep, passStep, orderStep, deliverStep, pick, stepOf, step}
 use Rattle.rules.specs.Runs.{lastOf}
@@ -106,9 +106,9 @@ table =
 
 cases : map (λ r. r .is) table ≡ map (λ r. r .due) table
 unfolding table each times made sent taken begun settled lastAnswer group
-    get digits at at2 R.need has isBeyond inCommon weigh isRising risesAbove findOf insertOf among unionOf aboveOf places
+    get digits at at2 R.require has isBeyond inCommon weigh isRising risesAbove findOf insertOf among unionOf aboveOf places
     isKnown viewsAllowed numbersAllowed someEmpty toldFits contentOf W.viewsIn W.numberIn W.messageOf W.scanOf W.given W.readFront W.readOf
-    need withView withFirst after every all passes queues joined joins passing settledBy learned received took opened attempted attempts registers sends hands tells reports collected collects
+    need withView withFirst after every all passes queues joined joins passing settledBy learned received delivered opened attempted attempts registers sends hands tells safes collected collects
     conditions everyBook everyQueue bookCounts counts listed bookListed sound
     fits withListed booked own fresh started start creates joinStep passStep orderStep deliverStep pick stepOf step lastOf
 cases = refl

@@ -11,7 +11,7 @@ use Rattle.views.specs.declared.View.{View}
 use Rattle.views.specs.Sets.{both, has}
 use Rattle.views.specs.Lists.{idOf}
 use Rattle.views.proofs.Members.{In, top, pop, in-nil, in-left, in-right, in-append}
-use Rattle.membership.proofs.Updates.{upd-ind, upd2-ind, upd-here, upd-up}
+use Rattle.views.proofs.PointLaws.{upd-ind, upd2-ind, upd-here, upd-up}
 use Rattle.rules.specs.Data.{Event, attempt, register}
 use Rattle.rules.specs.Figure1 as D
 use Rattle.rules.specs.Figure1.{Outer, Act, Run}
@@ -68,7 +68,7 @@ module _ {M : Type 0} where
   created-stays (D.registers p g h) w i = i
   created-stays (D.sends p g m h) w i = i
   created-stays (D.receives p g x h t) w i = i
-  created-stays (D.reports p v x h c t u) w i = i
+  created-stays (D.safes p v x h c t u) w i = i
 
   -- the view of a new-view event is created, and is the member's current view after it
   event-step : {d e : Outer M} {k : List (Event M)} → Act d e k → (p : ℕ) (v : View) → In (attempt p v) k → In v (e .created) × (suc (idOf v) ≡ e .current p)
@@ -79,7 +79,7 @@ module _ {M : Type 0} where
   event-step (D.registers p g h) q u (pop i) = absurd (in-nil i)
   event-step (D.sends p g m h) q u (pop i) = absurd (in-nil i)
   event-step (D.receives p g x h t) q u (pop i) = absurd (in-nil i)
-  event-step (D.reports p v x h c t z) q u (pop i) = absurd (in-nil i)
+  event-step (D.safes p v x h c t z) q u (pop i) = absurd (in-nil i)
 
   current-rises : {d e : Outer M} {k : List (Event M)} → Act d e k → (p : ℕ) → d .current p ≤ e .current p
   current-rises (D.create v h) p = omega arith
@@ -88,7 +88,7 @@ module _ {M : Type 0} where
   current-rises (D.registers q g h) p = omega arith
   current-rises (D.sends q g m h) p = omega arith
   current-rises (D.receives q g x h t) p = omega arith
-  current-rises (D.reports q v x h c t z) p = omega arith
+  current-rises (D.safes q v x h c t z) p = omega arith
 
   -- a current view was current before, or the step showed it
   current-step : {d e : Outer M} {k : List (Event M)} → Act d e k → (p g : ℕ) → e .current p ≡ suc g
@@ -101,7 +101,7 @@ module _ {M : Type 0} where
   current-step (D.registers q i h) p g c = inl c
   current-step (D.sends q i m h) p g c = inl c
   current-step (D.receives q i x h t) p g c = inl c
-  current-step (D.reports q v x h k t z) p g c = inl c
+  current-step (D.safes q v x h k t z) p g c = inl c
 
   -- who registered did so before, or does so now, in its current view
   registered-step : {d e : Outer M} {k : List (Event M)} → Act d e k → (g p : ℕ) → T (e .registered g p) → T (d .registered g p) ⊎ (In (register p g) k × (d .current p ≡ suc g))
@@ -113,7 +113,7 @@ module _ {M : Type 0} where
       (λ _. inr (top, h)) (λ g p _ u. inl u) g p t
   registered-step (D.sends q i m h) g p t = inl t
   registered-step (D.receives q i x h u) g p t = inl t
-  registered-step (D.reports q v x h c u z) g p t = inl t
+  registered-step (D.safes q v x h c u z) g p t = inl t
 
   -- ---- a whole run
 

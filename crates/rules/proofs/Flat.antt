@@ -42,7 +42,7 @@ pub data Move {M : Type 0} (size : ℕ) (weight : ℕ → ℕ) : Flat M → Flat
   sendsOld : {s : Flat M} (p v : ℕ) (m : M) → s .client p ≡ suc v → s .carrier p ≢ suc v → Move size weight s s (send p v m ∷ [])
   hands : {s : Flat M} (p v : ℕ) (e : Item M) (r : List (Item M)) → s .client p ≡ suc v → s .ahead p ≡ e ∷ r → Move size weight s (handF s p e r) (hand p v e ∷ [])
   tells : {s : Flat M} (p v : ℕ) → s .client p ≡ suc v → s .carrier p ≡ suc v → Move size weight s (queueF s p (told (length (s .given p)))) []
-  reports : {s : Flat M} (p : ℕ) (v : View) (e : Item M) → s .client p ≡ suc (idOf v) → s .carrier p ≡ suc (idOf v) → In v (s .views) → At (s .given p) (s .reported p) e
+  safes : {s : Flat M} (p : ℕ) (v : View) (e : Item M) → s .client p ≡ suc (idOf v) → s .carrier p ≡ suc (idOf v) → In v (s .views) → At (s .given p) (s .reported p) e
       → ((q : ℕ) → T (has (v .set) q) → s .reported p < s .tolds p q) → Move size weight s (safeF s p) (safe p (idOf v) e ∷ [])
   -- the open views after it have all of the old ones that are above v
   collects : {s : Flat M} (p : ℕ) (v : View) (os : List ℕ) → s .carrier p ≡ suc (idOf v) → In v (s .views) → s .settled p < idOf v

@@ -10,7 +10,7 @@ use lib.ListN.{length, take, drop}
 use Rattle.views.specs.declared.View.{View}
 use Rattle.views.specs.Points.{at, at2}
 use Rattle.views.specs.Lists.{idOf}
-use Rattle.membership.proofs.Updates.{upd-ind}
+use Rattle.views.proofs.PointLaws.{upd-ind}
 use Rattle.rules.specs.Data as D
 use Rattle.rules.specs.Data.{MessageOf, EntryOf, entry, Item, BookOf, GroupOf, rank}
 use Rattle.rules.specs.Group.{booked}

@@ -18,10 +18,10 @@ use Rattle.views.specs.Points.{at, at2}
 use Rattle.views.specs.Lists.{idOf, findOf, unionOf, aboveOf}
 use Rattle.views.proofs.Members.{in-cons, in-nil, in-append}
 use Rattle.views.proofs.ListLaws.{find-in, above-keep, union-left, union-right}
-use Rattle.membership.proofs.Updates.{upd-ind, upd2-ind}
+use Rattle.views.proofs.PointLaws.{upd-ind, upd2-ind}
 use Rattle.rules.specs.Data as D
 use Rattle.rules.specs.Data.{Member, MessageOf, EntryOf, entry, Item, item, Held, BookOf, GroupOf, Step, Event, AnswerOf, ok, event, refusal, Result, refused, accepted, need, rank}
-use Rattle.rules.specs.Member.{clientIsCarrier, outgoes, passing, takes, received, ownOr, settledBy, learned, took}
+use Rattle.rules.specs.Member.{clientIsCarrier, outgoes, passing, takes, received, ownOr, settledBy, learned, delivered}
 use Rattle.rules.specs.Sound.{sound}
 use Rattle.rules.specs.Group.{NextOf, booked, joinStep, passStep, orderStep, takeFrom, deliverStep, stepOf, settles, step, started, start, firstView, fresh}
 use Rattle.rules.specs.Figure1.{At}
@@ -166,7 +166,7 @@ module _ {M : Type 0} where
 
         took-moves : (v : View) → b .carrier .view ≡ some v → (e : EntryOf M) (r : List (EntryOf M)) → drop (b .carrier .taken) (s .order (idOf v)) ≡ e ∷ r
             → Moved weight s (record { state = booked s p (takeFrom e b); answer = ok })
-        unfolding took learned shown
+        unfolding delivered learned shown
         took-moves v c (entry q (D.client x)) r k = go (clientIsCarrier b) refl
           where
             go : (d : Bool) → clientIsCarrier b ≡ d

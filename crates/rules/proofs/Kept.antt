@@ -11,7 +11,7 @@ use Rattle.views.specs.Limits.{maxWaiting, maxOrdered}
 use Rattle.views.specs.Points.{at}
 use Rattle.views.specs.Lists.{idOf}
 use Rattle.views.proofs.Members.{In}
-use Rattle.membership.proofs.Updates.{upd-ind}
+use Rattle.views.proofs.PointLaws.{upd-ind}
 use Rattle.rules.specs.Data.{Identifier, Member, EntryOf, BookOf, GroupOf, Result, rank}
 use Rattle.rules.specs.Member.{DoneOf}
 use Rattle.rules.specs.Sound.{orderAt}

@@ -46,7 +46,7 @@ added (F.sends p v m l c) = inl refl
 added (F.sendsOld p v m l c) = inl refl
 added (F.hands p v e r l h) = inl refl
 added (F.tells p v l c) = inl refl
-added (F.reports p v e l c hv h ts) = inl refl
+added (F.safes p v e l c hv h ts) = inl refl
 added (F.collects p v os c h l rs k) = inl refl
 
 -- nothing leaves the list

@@ -23,11 +23,11 @@ use Rattle.views.specs.Lists.{idOf, findOf, insertOf, unionOf, aboveOf}
 use Rattle.views.proofs.Members.{in-nil, in-cons, in-append, in-left, in-right}
 use Rattle.views.proofs.SetLaws.{both-true, has-common, has-below, has-some}
 use Rattle.views.proofs.ListLaws.{find-in, above-keep, union-left, union-right, insert-keep, insert-there}
+use Rattle.views.proofs.PointLaws.{upd-ind, upd2-ind}
 use Rattle.membership.proofs.Counting.{Most}
-use Rattle.membership.proofs.Updates.{upd-ind, upd2-ind}
 use Rattle.rules.specs.Data as D
 use Rattle.rules.specs.Data.{Member, MessageOf, EntryOf, entry, Item, item, Held, AtCarrierOf, AtClientOf, BookOf, GroupOf, Step, Event, AnswerOf, ok, event, refusal, Result, refused, accepted, need, withView, withFirst, rank}
-use Rattle.rules.specs.Member.{DoneOf, every, everyOf, all, isAbove, clientIsCarrier, passes, outgoes, queues, hasRoom, joined, joins, PassingOf, passing, ownOr, settledBy, learned, takes, received, took, opened, attempted, attempts, noted, registers, sends, moves, hands, tells, reports, collected, collects}
+use Rattle.rules.specs.Member.{DoneOf, every, everyOf, all, isAbove, clientIsCarrier, passes, outgoes, queues, hasRoom, joined, joins, PassingOf, passing, ownOr, settledBy, learned, takes, received, delivered, opened, attempted, attempts, noted, registers, sends, moves, hands, tells, safes, collected, collects}
 use Rattle.rules.specs.Sound.{limitAt}
 use Rattle.rules.specs.Group.{NextOf, fits, booked, own, creates, joinStep, passStep, orderStep, takeFrom, deliverStep}
 use Rattle.rules.specs.Figure1.{At}
@@ -265,13 +265,13 @@ module _ {M : Type 0} where
             refl (own-more m)))))))
 
         -- ---- 11. safe
-        pub safe-well : Steps-well (reports (s .members) p b)
-        unfolding reports shown
+        pub safe-well : Steps-well (safes (s .members) p b)
+        unfolding safes shown
         safe-well =
             view-well _ _ _ (λ v e. need-well _ _ _ (λ c. first-well _ _ _ (λ x r k. need-well _ _ _ (λ t.
             let h = i .book p lt .client-known v e in
             well _ _ (moved (moves (b .client .handed) (b .client .told) (b .client .reported + 1) b) (event (D.safe p (idOf v) x)) _ _
-            (F.reports p v x (ap rank e) (same-view v e c) h (r, k)
+            (F.safes p v x (ap rank e) (same-view v e c) h (r, k)
             (λ q m. ltb-true (b .client .reported) (b .carrier .tolds q) (asked v h (λ q. ltb (b .client .reported) (b .carrier .tolds q)) t q m)))
             (C.safe-flat s p) refl (o .outgoing p))))))
 

@@ -6,7 +6,7 @@ use Prim.Native.Nat.{ℕ}
 use lib.Dec.{ltb}
 use Rattle.views.specs.declared.refusal.Refusal.{Refusal}
 use Rattle.rules.specs.Data.{Member, Group, Step, Answer, ok, event, refusal, Result, refused, accepted, need}
-use Rattle.rules.specs.Member.{Done, joins, passing, attempts, registers, sends, hands, tells, reports, collects}
+use Rattle.rules.specs.Member.{Done, joins, passing, attempts, registers, sends, hands, tells, safes, collects}
 use Rattle.rules.specs.Group.{Next, own, creates, joinStep, passStep, orderStep, deliverStep, stepOf, settles, step}
 use Rattle.rules.proofs.Holding.{Holds, refuses, gives, need-holds, view-holds, first-holds, after-holds, then-holds, listed-holds, pick-holds}
 
@@ -28,7 +28,7 @@ module _ (weight : Member → ℕ) (s : Group) where
   own-says p r h = after-holds Done-says r _ h (λ d k. gives k)
 
   step-says : (c : Step) → Holds Next-says (stepOf weight s c)
-  unfolding stepOf creates joinStep passStep orderStep deliverStep passing joins attempts registers sends hands tells reports collects
+  unfolding stepOf creates joinStep passStep orderStep deliverStep passing joins attempts registers sends hands tells safes collects
   step-says c =
       let p = c .first in
       pick-holds (c .kind) _ (

@@ -11,9 +11,9 @@ use Rattle.views.specs.declared.View.{View}
 use Rattle.views.specs.Limits.{maxOpen, maxOrdered}
 use Rattle.views.specs.Points.{at}
 use Rattle.views.proofs.SetLaws.{known}
-use Rattle.membership.proofs.Updates.{upd-ind}
+use Rattle.views.proofs.PointLaws.{upd-ind}
 use Rattle.rules.specs.Data.{Member, MessageOf, client, info, registered, told, entry, Item, item, BookOf}
-use Rattle.rules.specs.Member.{clientIsCarrier, takes, received, learned, took}
+use Rattle.rules.specs.Member.{clientIsCarrier, takes, received, learned, delivered}
 use Rattle.rules.specs.Sound.{limitAt}
 use Rattle.rules.proofs.SoundBooks.{Setting, EntryFacts, entry-from, info-sound, told-sound, ItemsFrom}
 use Rattle.rules.proofs.HeldLaws.{held-sound, learned-well}
@@ -56,8 +56,8 @@ module _ {M : Type 0} where
           from = items-snoc _ _ q x i (c .from);
         }
 
-    took-client : (q : ℕ) (x : M) → q < s .members → BookKept s (took q (client x) b)
-    unfolding took received
+    took-client : (q : ℕ) (x : M) → q < s .members → BookKept s (delivered q (client x) b)
+    unfolding delivered received
     took-client q x i =
         ⊎-elim
         (λ (t : clientIsCarrier b ≡ true).
@@ -91,8 +91,8 @@ module _ {M : Type 0} where
 
     -- if an info leaves at most 31 views open
     pub took-kept : (q : Member) (m : MessageOf M) → EntryFacts (s .members) (s .known) (entry q m)
-        → ((x : View) (l : List View) → m ≡ info x l → length (learned x l (b .held) .opens) ≤ maxOpen) → BookKept s (took q m b)
-    unfolding took
+        → ((x : View) (l : List View) → m ≡ info x l → length (learned x l (b .held) .opens) ≤ maxOpen) → BookKept s (delivered q m b)
+    unfolding delivered
     took-kept q (client x) e o = took-client q x (entry-from e)
     took-kept q (info x l) e o = record {
       held = held-sound (s .known) _ (learned-well (s .known) x l (b .held) (info-sound e) (k .held)) (o x l refl);

@@ -17,7 +17,7 @@ use Rattle.views.specs.Lists.{idOf, risesAbove}
 use Rattle.views.proofs.SetLaws.{known, both-true}
 use Rattle.views.proofs.Members.{In, in-nil, in-cons}
 use Rattle.rules.specs.Data.{Member, MessageOf, client, registered, told, EntryOf, entry, BookOf, attempt, event, rank}
-use Rattle.rules.specs.Member.{DoneOf, clientIsCarrier, isAbove, outgoes, queues, hasRoom, joined, joins, PassingOf, passing, opened, attempted, attempts, noted, registers, sends, moves, hands, tells, reports, collected, collects}
+use Rattle.rules.specs.Member.{DoneOf, clientIsCarrier, isAbove, outgoes, queues, hasRoom, joined, joins, PassingOf, passing, opened, attempted, attempts, noted, registers, sends, moves, hands, tells, safes, collected, collects}
 use Rattle.rules.specs.Sound.{limitAt}
 use Rattle.rules.specs.Group.{firstView, fresh}
 use Rattle.rules.proofs.SoundBooks.{Setting, EntryFacts, clientEntry, infoEntry, registeredEntry, toldEntry, QueueFacts}
@@ -214,9 +214,9 @@ module _ {M : Type 0} where
         (toldEntry i (omega arith) (omega (arith, c .handed-in, c .short, limit-le (b .client .view) (b .client .inward)))) r
         (moves-kept _ _ _ b (c .handed-in) (c .handed-in) (c .reported-in) k))))))
 
-    pub reports-keep : (n : ℕ) (p : Member) (b : BookOf M) → BookKept s b → Keeps s (reports n p b)
-    unfolding reports
-    reports-keep n p b k = let c = k .client in
+    pub safes-keep : (n : ℕ) (p : Member) (b : BookOf M) → BookKept s b → Keeps s (safes n p b)
+    unfolding safes
+    safes-keep n p b k = let c = k .client in
         view-holds (b .client .view) _ _ (λ v e.
         need-holds _ _ _ (λ _.
         first-holds (drop (b .client .reported) (take (b .client .handed) (b .client .inward))) _ _ (λ x rest d.

@@ -13,7 +13,7 @@ use Rattle.views.specs.Points.{at, at2}
 use Rattle.views.specs.Lists.{idOf, findOf}
 use Rattle.views.proofs.Members.{In}
 use Rattle.views.proofs.ListLaws.{find-in}
-use Rattle.membership.proofs.Updates.{upd-ind, upd2-ind}
+use Rattle.views.proofs.PointLaws.{upd-ind, upd2-ind}
 use Rattle.rules.specs.Data.{Identifier, Member, Entry, entry, Book, Group, Step, Result, refused, accepted, need}
 use Rattle.rules.specs.Member.{passing, attempts}
 use Rattle.rules.specs.Sound.{sound}
@@ -24,7 +24,7 @@ use Rattle.rules.proofs.QueueLaws.{length-snoc, queue-snoc, queue-first
 use Rattle.rules.proofs.HeldLaws.{learned-short, opened-short}
 use Rattle.rules.proofs.BookParts.{BookKept, Keeps}
 use Rattle.rules.proofs.Kept.{Unmade, Kept, KeepsGroup, made, book-kept, kept-changed, books-kept, kept-booked, own-kept}
-use Rattle.rules.proofs.SoundMembers.{Passes, joins-keep, passing-keeps, attempted-kept, attempts-hold, registers-keep, sends-keep, hands-keep, tells-keep, reports-keep, collects-keep}
+use Rattle.rules.proofs.SoundMembers.{Passes, joins-keep, passing-keeps, attempted-kept, attempts-hold, registers-keep, sends-keep, hands-keep, tells-keep, safes-keep, collects-keep}
 use Rattle.rules.proofs.SoundDeliver.{Left, took-kept}
 use Rattle.rules.proofs.SoundViews.{creates-keep}
 
@@ -136,7 +136,7 @@ module _ (s : Group) (h : Kept s) where
       and by _ (λ i k. own-kept s p _ h (sends-keep (inGroup s) p (c .second) b i k))
       and by _ (λ i k. own-kept s p _ h (hands-keep (inGroup s) p b k))
       and by _ (λ i k. own-kept s p _ h (tells-keep (inGroup s) p b i k))
-      and by _ (λ i k. own-kept s p _ h (reports-keep (inGroup s) (s .members) p b k))
+      and by _ (λ i k. own-kept s p _ h (safes-keep (inGroup s) (s .members) p b k))
       and by _ (λ i k. own-kept s p _ h (collects-keep (inGroup s) (s .members) b k))
       and tt)
 

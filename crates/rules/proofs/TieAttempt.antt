@@ -8,7 +8,8 @@ use lib.ListN.{length, drop}
 use Rattle.views.specs.declared.View.{View}
 use Rattle.views.specs.Points.{at}
 use Rattle.views.proofs.Members.{In}
-use Rattle.membership.proofs.Updates.{upd-ind, upd-ind2, upd-ind3, Plus2, Put}
+use Rattle.views.proofs.PointLaws.{upd-ind, upd-ind2, upd-ind3}
+use Rattle.membership.proofs.Updates.{Plus2, Put}
 use Rattle.membership.proofs.Machine.{State, attemptS, collectS}
 use Rattle.rules.specs.Figure1.{Outer}
 use Rattle.rules.proofs.Flat.{Flat, attemptF, collectF}

@@ -6,7 +6,7 @@ use native.Mathlib.Omega.{arith}
 use lib.ListN.{length, length-append}
 use lib.Seq.{drop-append-seam, drop-append-le}
 use Rattle.views.specs.Points.{at2}
-use Rattle.membership.proofs.Updates.{upd-ind2, upd2-ind, mix-ind, upd2-up}
+use Rattle.views.proofs.PointLaws.{upd-ind2, upd2-ind, mix-ind, upd2-up}
 use Rattle.membership.proofs.Machine.{State}
 use Rattle.rules.specs.Data.{Item}
 use Rattle.rules.specs.Figure1.{Outer, At}

@@ -11,7 +11,8 @@ use Rattle.views.specs.declared.View.{View}
 use Rattle.views.specs.Lists.{idOf}
 use Rattle.views.specs.Points.{at}
 use Rattle.views.proofs.Members.{In, top, pop, in-nil, in-left, in-right}
-use Rattle.membership.proofs.Updates.{upd-ind, upd-ind2, upd-ind3, Plus3, Also}
+use Rattle.views.proofs.PointLaws.{upd-ind, upd-ind2, upd-ind3}
+use Rattle.membership.proofs.Updates.{Plus3, Also}
 use Rattle.membership.proofs.Machine.{State, createS, joinS}
 use Rattle.rules.specs.Figure1.{Outer}
 use Rattle.rules.proofs.Flat as F

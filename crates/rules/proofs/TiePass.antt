@@ -7,7 +7,7 @@ use native.Mathlib.Omega.{arith}
 use lib.ListN.{length, length-append}
 use Rattle.views.specs.Points.{at, at2}
 use Rattle.views.proofs.Members.{In, top, pop}
-use Rattle.membership.proofs.Updates.{upd-ind, upd-ind2, upd2-ind, upd2-ind2, mix-ind}
+use Rattle.views.proofs.PointLaws.{upd-ind, upd-ind2, upd2-ind, upd2-ind2, mix-ind}
 use Rattle.membership.proofs.Machine.{State}
 use Rattle.rules.specs.Data.{Item, item}
 use Rattle.rules.specs.Figure1.{Outer}

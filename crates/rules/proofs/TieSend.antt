@@ -9,7 +9,8 @@ use lib.Dec.{T}
 use lib.ListN.{length}
 use Rattle.views.specs.Points.{at2}
 use Rattle.views.proofs.Members.{In}
-use Rattle.membership.proofs.Updates.{upd-ind, upd2-ind, mix-ind, Plus2}
+use Rattle.views.proofs.PointLaws.{upd-ind, upd2-ind, mix-ind}
+use Rattle.membership.proofs.Updates.{Plus2}
 use Rattle.membership.proofs.Machine.{State, registerS}
 use Rattle.rules.specs.Figure1.{Outer}
 use Rattle.rules.proofs.Flat as F

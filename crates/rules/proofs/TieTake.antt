@@ -9,7 +9,8 @@ use lib.Dec.{T}
 use lib.ListN.{length, drop}
 use Rattle.views.specs.Points.{at}
 use Rattle.views.proofs.Members.{In}
-use Rattle.membership.proofs.Updates.{upd-ind, upd-ind2, Plus3, Put}
+use Rattle.views.proofs.PointLaws.{upd-ind, upd-ind2}
+use Rattle.membership.proofs.Updates.{Plus3, Put}
 use Rattle.membership.proofs.Machine.{State, infoS, heardS}
 use Rattle.rules.specs.Data.{Item, item}
 use Rattle.rules.specs.Figure1.{Outer}

@@ -95,13 +95,13 @@ module _ (size : ℕ) (weight : ℕ → ℕ) (n : Naming size) {M : Type 0} (S :
     one-step t k (F.hands p v e rest l h) =
         (a, _, ra, acts (D.receives p v e (current-is r p ∙ l) (hand-at a d s r p v e rest l h)), hand-tied a d s r p v e rest l h)
     one-step t k (F.tells p v l c) = (a, d, ra, nothing, tell-tied a d s r p v l c)
-    one-step t k (F.reports p v e l c hv h tolds) =
+    one-step t k (F.safes p v e l c hv h tolds) =
         let y = r .attempted-created p (idOf v) (inv .client-att p (idOf v) (client-is r p ∙ l)) in
         let created : In v (d .created) = rw (same-view n ag (y .0) v (r .created-listed (y .0) (y .1)) hv (y .2)) at (y .1) in (
           a,
           _,
           ra,
-          acts (D.reports {d = d} p v e (current-is r p ∙ l) created (safe-at a d s r p (idOf v) e l h)
+          acts (D.safes {d = d} p v e (current-is r p ∙ l) created (safe-at a d s r p (idOf v) e l h)
               (λ q m. omega (arith, tolds q m, r .told-reached p (idOf v) c q, r .safely-reported p (idOf v) l))),
           safe-tied a d s r p (idOf v) e l h,
         )

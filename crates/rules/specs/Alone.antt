@@ -18,7 +18,7 @@ use Rattle.wire.specs.declared.Frame.{Frame}
 use Rattle.wire.specs.declared.Reading.{Reading}
 use Rattle.wire.specs.Format.{bytesOf}
 use Rattle.rules.specs.Data.{Identifier, Member, MessageOf, Message, client, info, registered, told, EntryOf, Entry, entry, BookOf, Book, ok, Result, refused, accepted, need, withView, after}
-use Rattle.rules.specs.Member.{DoneOf, does, all, joins, Passing, passing, took, attempts}
+use Rattle.rules.specs.Member.{DoneOf, does, all, joins, Passing, passing, delivered, attempts}
 use Rattle.rules.specs.Sound.{within, conditions, countFits, bookCounts, setFits, opensRise, fromMember, itemFromMember}
 use Rattle.rules.specs.Group.{fits, fresh}
 
@@ -141,8 +141,8 @@ deliverAlone n p read q b =
     need (eqb (x .view) (idOf v)) AnotherView (
     need (has (v .set) q) SenderNotInView (
     need (ltb (b .carrier .taken) maxOrdered) OrderFull (
-    need (leb (length (took q (x .message) b .held .opens)) maxOpen) TooManyOpen (
-    does ok (took q (x .message) b)))))))))
+    need (leb (length (delivered q (x .message) b .held .opens)) maxOpen) TooManyOpen (
+    does ok (delivered q (x .message) b)))))))))
 
 -- ---- attempt: 43 last
 

@@ -121,7 +121,7 @@ pub data Act {M : Type 0} : Outer M → Outer M → List (Event M) → Type 0 wh
         safely = d .safely;
       }) (hand p g x ∷ [])
   -- those at place safe + 1, once every member of the view has received that place
-  reports : {d : Outer M} (p : Member) (v : View) (x : Item M) → d .current p ≡ suc (idOf v) → In v (d .created)
+  safes : {d : Outer M} (p : Member) (v : View) (x : Item M) → d .current p ≡ suc (idOf v) → In v (d .created)
       → At (d .queue (idOf v)) (d .safely p (idOf v)) x → ((q : Member) → T (has (v .set) q) → d .safely p (idOf v) < d .received q (idOf v))
       → Act d (record {
         created = d .created;

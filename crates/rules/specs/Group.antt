@@ -14,7 +14,7 @@ use Rattle.views.specs.Sets.{both, has, isEmpty, isBeyond}
 use Rattle.views.specs.Points.{at, at2}
 use Rattle.views.specs.Lists.{idOf, findOf}
 use Rattle.rules.specs.Data.{Identifier, Member, EntryOf, entry, BookOf, GroupOf, Group, Step, AnswerOf, ok, refusal, Result, refused, accepted, need, withView, withFirst, after}
-use Rattle.rules.specs.Member.{DoneOf, all, joins, passing, took, attempts, registers, sends, hands, tells, reports, collects}
+use Rattle.rules.specs.Member.{DoneOf, all, joins, passing, delivered, attempts, registers, sends, hands, tells, safes, collects}
 use Rattle.rules.specs.Sound.{sound}
 
 -- ---- words
@@ -142,7 +142,7 @@ module _ {M : Type 0} where
   -- ---- 5. deliver: it takes the next message of its carrier view's order
 
   abbrev pub takeFrom : EntryOf M → BookOf M → BookOf M
-  takeFrom (entry q m) b = took q m b
+  takeFrom (entry q m) b = delivered q m b
 
   unfoldable pub deliverStep : GroupOf M → Member → Result (NextOf M)
   deliverStep s p =
@@ -183,7 +183,7 @@ stepOf weight s c =
     ∷ by (own s p (sends p (c .second) b))
     ∷ by (own s p (hands p b))
     ∷ by (own s p (tells p b))
-    ∷ by (own s p (reports n p b))
+    ∷ by (own s p (safes n p b))
     ∷ by (own s p (collects n b))
     ∷ [])
 

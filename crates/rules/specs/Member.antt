@@ -134,16 +134,16 @@ module _ {M : Type 0} where
   unfoldable pub received : Item M → AtClientOf M → AtClientOf M
   received x c = record { view = c .view; registered = c .registered; inward = c .inward ++ (x ∷ []); handed = c .handed; told = c .told; reported = c .reported }
 
-  unfoldable pub took : Member → MessageOf M → BookOf M → BookOf M
-  took q (client x) b = let c = b .carrier in
+  unfoldable pub delivered : Member → MessageOf M → BookOf M → BookOf M
+  delivered q (client x) b = let c = b .carrier in
       cond (clientIsCarrier b)
       (record { held = b .held; carrier = takes (c .infos) (c .registrations) (c .tolds) (c .inward) c; client = received (item q x) (b .client); outgoing = b .outgoing })
       (record { held = b .held; carrier = takes (c .infos) (c .registrations) (c .tolds) (c .inward ++ (item q x ∷ [])) c; client = b .client; outgoing = b .outgoing })
-  took q (info s l) b = let c = b .carrier in
+  delivered q (info s l) b = let c = b .carrier in
       record { held = learned s l (b .held); carrier = takes (at q true (c .infos)) (c .registrations) (c .tolds) (c .inward) c; client = b .client; outgoing = b .outgoing }
-  took q registered b = let c = b .carrier in
+  delivered q registered b = let c = b .carrier in
       record { held = b .held; carrier = takes (c .infos) (at q true (c .registrations)) (c .tolds) (c .inward) c; client = b .client; outgoing = b .outgoing }
-  took q (told k) b = let c = b .carrier in
+  delivered q (told k) b = let c = b .carrier in
       record { held = b .held; carrier = takes (c .infos) (c .registrations) (at q k (c .tolds)) (c .inward) c; client = b .client; outgoing = b .outgoing }
 
   -- ---- 6. attempt: the carrier view becomes open and becomes the client view
@@ -218,8 +218,8 @@ module _ {M : Type 0} where
 
   -- ---- 11. safe: the next handed message not yet reported is reported, once every member of the view told of it
 
-  unfoldable pub reports : ℕ → Member → BookOf M → Result (DoneOf M)
-  reports n p b =
+  unfoldable pub safes : ℕ → Member → BookOf M → Result (DoneOf M)
+  safes n p b =
       withView (b .client .view) NoClientView (λ v.
       need (clientIsCarrier b) ClientNotCarrier (
       withFirst (drop (b .client .reported) (take (b .client .handed) (b .client .inward))) NoneToReport (λ x rest.

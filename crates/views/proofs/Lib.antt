@@ -5,3 +5,4 @@ pub mod ListLaws
 pub mod PlaceLaws
 pub mod WalkLaws
 pub mod Numbers
+pub mod PointLaws

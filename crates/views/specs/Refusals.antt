@@ -57,11 +57,16 @@ codeOf Accepted = 0
 codeOf (Refused r) = numberOf r
 
 -- what follows if the condition is met, else the refusal
-unfoldable pub need : Bool → Refusal → Verdict → Verdict
-need true r rest = rest
-need false r rest = Refused r
+unfoldable pub require : Bool → Refusal → Verdict → Verdict
+require true r rest = rest
+require false r rest = Refused r
 
 -- one verdict, and if it is accepted another
 unfoldable pub andThen : Verdict → Verdict → Verdict
 andThen Accepted rest = rest
 andThen (Refused r) rest = Refused r
+
+-- the new ones where a step was accepted, else those that were there
+unfoldable pub left : {A : Type 0} → Verdict → A → A → A
+left Accepted new old = new
+left (Refused r) new old = old

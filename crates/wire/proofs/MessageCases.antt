@@ -6,7 +6,7 @@ use Rattle.numbers.specs.Number.{get}
 use Rattle.views.specs.declared.View.{View}
 use Rattle.views.specs.declared.refusal.Refusal.the-variants.{EndsEarly, BytesLeftOver}
 use Rattle.views.specs.declared.refusal.Verdict.the-variants.{Accepted}
-use Rattle.views.specs.Refusals.{need}
+use Rattle.views.specs.Refusals.{require}
 use Rattle.views.specs.Lists.{placed, isRising, risesAbove}
 use Rattle.wire.specs.declared.Message.{Message}
 use Rattle.wire.specs.declared.Message.the-variants.{Info, Registered}
@@ -35,5 +35,5 @@ cases =
     ∷ []
 
 pub cases-read : map (λ (c : Case). readOf (c .bytes)) cases ≡ map (λ (c : Case). c .reads) cases
-unfolding readOf readFront given need scanOf contentOf isKnown viewsAllowed numbersAllowed someEmpty toldFits isRising risesAbove messageOf viewsIn numberIn get
+unfolding readOf readFront given require scanOf contentOf isKnown viewsAllowed numbersAllowed someEmpty toldFits isRising risesAbove messageOf viewsIn numberIn get
 cases-read = refl

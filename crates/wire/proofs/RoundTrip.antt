@@ -12,7 +12,7 @@ use Rattle.views.specs.declared.View.{View}
 use Rattle.views.specs.declared.refusal.Refusal.the-variants.{SectionCount, BytesLeftOver}
 use Rattle.views.specs.declared.refusal.Verdict.the-variants.{Accepted}
 use Rattle.views.specs.Limits.{maxViews, longest}
-use Rattle.views.specs.Refusals.{need}
+use Rattle.views.specs.Refusals.{require}
 use Rattle.views.specs.Lists.{listOf, placed}
 use Rattle.wire.specs.declared.Message.{Message}
 use Rattle.wire.specs.declared.Message.the-variants.{Client, Info}
@@ -67,7 +67,7 @@ written-reads-back f fit v rest =
 
 -- and nothing is left over
 pub written-reads : (f : Frame) → Fits f → frameVerdict f ≡ Accepted → readOf (frameBytes f) ≡ asWritten f
-unfolding readOf given need
+unfolding readOf given require
 written-reads f fit v =
     let front : readFront (frameBytes f) ≡ asWritten f = rw append-nil at (written-reads-back f fit v []) in
     rw (front, le-leb (length (frameBytes f)) (length (frameBytes f)) (omega arith))
@@ -114,7 +114,7 @@ pub read-takes-all : (b : List ℕ) → readOf b .verdict ≡ Accepted → (read
 unfolding readOf
 read-takes-all b e =
     let r = readFront b in
-    let v = need (leb (length b) (r .taken)) BytesLeftOver Accepted in
+    let v = require (leb (length b) (r .taken)) BytesLeftOver Accepted in
     let front : readOf b ≡ given v r = given-then (r .verdict) (given v r) e in
     let left : given v r .verdict ≡ Accepted = ap (λ (x : Reading). x .verdict) (sym front) ∙ e in
     (front ∙ given-then v r left, leb-true (length b) (r .taken) (need-accepted _ _ _ (given-met v r left) .0))

@@ -12,7 +12,7 @@ use Rattle.numbers.specs.Number.{get, digits}
 use Rattle.numbers.proofs.NumberLaws.{digits-get}
 use Rattle.views.specs.declared.refusal.Verdict.{Verdict}
 use Rattle.views.specs.declared.refusal.Verdict.the-variants.{Accepted, Refused}
-use Rattle.views.specs.Refusals.{need}
+use Rattle.views.specs.Refusals.{require}
 use Rattle.views.specs.Lists.{listOf, placed}
 use Rattle.wire.specs.declared.Reading.{Reading}
 use Rattle.wire.specs.Format.{numbersOf, viewsBytes, numbersBytes, bytesOf, viewsAllowed, numbersAllowed}
@@ -133,7 +133,7 @@ module _ (b : List ℕ) (y : AreBytes b) (s : Scanned b) (w : wholeOf b ≡ Acce
       rw (list-read, numbers, a .kind-again, a .count-again, length-viewsIn b 6 n, views, view) (sym (parts b n c size))
 
   pub verdict-again : frameVerdict (frameIn b) ≡ Accepted
-  unfolding frameVerdict need
+  unfolding frameVerdict require
   verdict-again =
       let a = message-read in
       rw (list-read, length-viewsIn b 6 (viewCount b), a .kind-again, a .number-again, s .views) w

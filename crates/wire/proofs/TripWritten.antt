@@ -11,7 +11,7 @@ use Rattle.numbers.specs.Number.{get, digits}
 use Rattle.numbers.proofs.NumberLaws.{length-digits, get-digits}
 use Rattle.views.specs.declared.View.{View}
 use Rattle.views.specs.declared.refusal.Verdict.the-variants.{Accepted}
-use Rattle.views.specs.Refusals.{need}
+use Rattle.views.specs.Refusals.{require}
 use Rattle.views.specs.Lists.{placed}
 use Rattle.wire.specs.declared.Message.{Message}
 use Rattle.wire.specs.Format.{kindOf, numbersOf, viewsBytes, numbersBytes, bytesOf, viewsAllowed, contentOf}
@@ -68,7 +68,7 @@ bytes-hold g m l rest fg fl fm =
 pub held-reads : (b : List ℕ) (g : ℕ) (m : Message) (l : List View) → Holds b g m l → viewsAllowed (kindOf m) (length l) ≡ true
     → contentOf (kindOf m) l (numberOf m) ≡ Accepted
     → readFront b ≡ record { verdict = Accepted; taken = 6 + 5 * length l + 1 + 8 * length (numbersOf m); frame = record { view = record { 0 = g }; message = m; views = placed l } }
-unfolding readFront scanOf given need numberIn
+unfolding readFront scanOf given require numberIn
 held-reads b g m l h v c =
     let s = h .size in
     rw (

@@ -4,21 +4,21 @@ use mathlib.Core.Bool.{Bool, true, false}
 use Rattle.views.specs.declared.refusal.Refusal.{Refusal}
 use Rattle.views.specs.declared.refusal.Verdict.{Verdict}
 use Rattle.views.specs.declared.refusal.Verdict.the-variants.{Accepted, Refused}
-use Rattle.views.specs.Refusals.{need, andThen}
+use Rattle.views.specs.Refusals.{require, andThen}
 use Rattle.wire.specs.declared.Reading.{Reading}
 use Rattle.wire.specs.Reader.{given, refused}
 
-pub need-met : {b : Bool} (r : Refusal) (rest : Verdict) → b ≡ true → need b r rest ≡ rest
-unfolding need
+pub need-met : {b : Bool} (r : Refusal) (rest : Verdict) → b ≡ true → require b r rest ≡ rest
+unfolding require
 need-met {b} r rest e = rw e
 
-pub need-unmet : {b : Bool} (r : Refusal) (rest : Verdict) → b ≡ false → need b r rest ≡ Refused r
-unfolding need
+pub need-unmet : {b : Bool} (r : Refusal) (rest : Verdict) → b ≡ false → require b r rest ≡ Refused r
+unfolding require
 need-unmet {b} r rest e = rw e
 
 -- an accepted verdict had its test met, and accepted the rest
-pub need-accepted : (b : Bool) (r : Refusal) (rest : Verdict) → need b r rest ≡ Accepted → (b ≡ true) × (rest ≡ Accepted)
-unfolding need
+pub need-accepted : (b : Bool) (r : Refusal) (rest : Verdict) → require b r rest ≡ Accepted → (b ≡ true) × (rest ≡ Accepted)
+unfolding require
 need-accepted true r rest e = (refl, e)
 need-accepted false r rest e = (cc, cc)
 

@@ -14,11 +14,12 @@ use Rattle.views.specs.declared.refusal.Refusal.the-variants.{BufferTooShort}
 use Rattle.views.specs.declared.refusal.Verdict.the-variants.{Accepted, Refused}
 use Rattle.views.specs.Limits.{maxViews}
 use Rattle.views.specs.Lists.{listOf}
+use Rattle.views.specs.Refusals.{left}
 use Rattle.wire.specs.declared.Message.{Message}
 use Rattle.wire.specs.declared.Message.the-variants.{Client, Info, Registered, Told}
 use Rattle.wire.specs.declared.Frame.{Frame}
 use Rattle.wire.specs.Format.{kindOf, numbersOf, viewsBytes, numbersBytes, bytesOf}
-use Rattle.wire.specs.Writer.{numberOf, frameBytes, frameVerdict, writeVerdict, writtenOf, leaves, overwritten, Wrote}
+use Rattle.wire.specs.Writer.{numberOf, frameBytes, frameVerdict, writeVerdict, writtenOf, overwritten, Wrote}
 use Rattle.wire.proofs.VerdictLaws.{need-met, need-unmet, need-accepted, then-accepted, then-refused}
 use Rattle.wire.proofs.FormatLaws.{views-few}
 use Rattle.wire.proofs.SeamLaws.{byte-seam, number-seam, part-seam, part-whole, length-viewsBytes}
@@ -118,21 +119,21 @@ unfolding frameVerdict
 frame-few f e = views-few _ _ (need-accepted _ _ _ e .0)
 
 pub wrote-refused : (f : Frame) (b : List ℕ) (r : Refusal) → frameVerdict f ≡ Refused r → Wrote f b b (record { verdict = Refused r; length = 0 })
-unfolding writeVerdict writtenOf leaves
+unfolding writeVerdict writtenOf left
 wrote-refused f b r e =
     let v : writeVerdict f (length b) ≡ Refused r = then-refused r _ e in
     record { reply = rw v; buffer = rw v }
 
 pub wrote-short : (f : Frame) (b : List ℕ) → frameVerdict f ≡ Accepted → length b < length (frameBytes f)
     → Wrote f b b (record { verdict = Refused BufferTooShort; length = 0 })
-unfolding writeVerdict writtenOf leaves
+unfolding writeVerdict writtenOf left
 wrote-short f b e h =
     let v : writeVerdict f (length b) ≡ Refused BufferTooShort = then-accepted _ e ∙ need-unmet _ _ (lt-leb _ _ h) in
     record { reply = rw v; buffer = rw v }
 
 pub wrote-whole : (f : Frame) (b exit : List ℕ) (n : ℕ) → frameVerdict f ≡ Accepted → exit ≡ overwritten (frameBytes f) b → n ≡ length (frameBytes f) → n ≤ length b
     → Wrote f b exit (record { verdict = Accepted; length = n })
-unfolding writeVerdict writtenOf leaves
+unfolding writeVerdict writtenOf left
 wrote-whole f b exit n e p q h =
     let room : length (frameBytes f) ≤ length b = rw q at h in
     let v : writeVerdict f (length b) ≡ Accepted = then-accepted _ e ∙ need-met _ _ (le-leb _ _ room) in

@@ -11,7 +11,7 @@ use Rattle.views.specs.declared.refusal.Verdict.the-variants.{Accepted}
 use Rattle.views.specs.declared.refusal.Refusal.the-variants.{EmptySet, NotRising, ToldOutOfRange}
 use Rattle.views.specs.Limits.{maxViews, maxOrdered}
 use Rattle.views.specs.Sizes.{identifierSize, numberSize}
-use Rattle.views.specs.Refusals.{need}
+use Rattle.views.specs.Refusals.{require}
 use Rattle.views.specs.Sets.{both, isEmpty}
 use Rattle.views.specs.Lists.{idOf, isRising}
 use Rattle.wire.specs.declared.Message.{Message}
@@ -87,4 +87,4 @@ toldFits kind x = cond (eqb kind toldKind) (both (leb 1 x) (leb x maxOrdered)) t
 
 -- what is asked of a whole message of a kind with the views l and the number x (0 where it carries none): 35 to 37
 unfoldable pub contentOf : ℕ → List View → ℕ → Verdict
-contentOf kind l x = need (cond (someEmpty l) false true) EmptySet (need (isRising l) NotRising (need (toldFits kind x) ToldOutOfRange Accepted))
+contentOf kind l x = require (cond (someEmpty l) false true) EmptySet (require (isRising l) NotRising (require (toldFits kind x) ToldOutOfRange Accepted))

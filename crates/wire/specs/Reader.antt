@@ -11,7 +11,7 @@ use Rattle.views.specs.declared.refusal.Refusal.the-variants.{EndsEarly, Unknow
 use Rattle.views.specs.declared.refusal.Verdict.{Verdict}
 use Rattle.views.specs.declared.refusal.Verdict.the-variants.{Accepted, Refused}
 use Rattle.views.specs.Sizes.{identifierSize, viewSize, numberSize}
-use Rattle.views.specs.Refusals.{need}
+use Rattle.views.specs.Refusals.{require}
 use Rattle.views.specs.Lists.{placed}
 use Rattle.wire.specs.declared.Message.{Message}
 use Rattle.wire.specs.declared.Message.the-variants.{Client, Info, Registered, Told}
@@ -78,13 +78,13 @@ messageOf kind x =
 -- as the bytes come
 unfoldable pub scanOf : List ℕ → Verdict
 scanOf b =
-    need (leb 1 (length b)) EndsEarly (
-    need (isKnown (kindIn b)) UnknownKind (
-    need (leb viewsAt (length b)) EndsEarly (
-    need (viewsAllowed (kindIn b) (viewCount b)) SectionCount (
-    need (leb (numbersPlace b + 1) (length b)) EndsEarly (
-    need (numbersAllowed (kindIn b) (numberCount b)) SectionCount (
-    need (leb (endOf b) (length b)) EndsEarly Accepted))))))
+    require (leb 1 (length b)) EndsEarly (
+    require (isKnown (kindIn b)) UnknownKind (
+    require (leb viewsAt (length b)) EndsEarly (
+    require (viewsAllowed (kindIn b) (viewCount b)) SectionCount (
+    require (leb (numbersPlace b + 1) (length b)) EndsEarly (
+    require (numbersAllowed (kindIn b) (numberCount b)) SectionCount (
+    require (leb (endOf b) (length b)) EndsEarly Accepted))))))
 
 -- over the whole message
 abbrev pub wholeOf : List ℕ → Verdict
@@ -117,4 +117,4 @@ readFront b = given (scanOf b) (given (wholeOf b) (record { verdict = Accepted; 
 
 -- the bytes as one message
 unfoldable pub readOf : List ℕ → Reading
-readOf b = given (readFront b .verdict) (given (need (leb (length b) (readFront b .taken)) BytesLeftOver Accepted) (readFront b))
+readOf b = given (readFront b .verdict) (given (require (leb (length b) (readFront b .taken)) BytesLeftOver Accepted) (readFront b))

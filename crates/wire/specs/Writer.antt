@@ -8,7 +8,7 @@ use Rattle.views.specs.declared.refusal.Refusal.{Refusal}
 use Rattle.views.specs.declared.refusal.Refusal.the-variants.{SectionCount, BufferTooShort}
 use Rattle.views.specs.declared.refusal.Verdict.{Verdict}
 use Rattle.views.specs.declared.refusal.Verdict.the-variants.{Accepted, Refused}
-use Rattle.views.specs.Refusals.{need, andThen}
+use Rattle.views.specs.Refusals.{require, andThen, left}
 use Rattle.views.specs.Lists.{listOf, idOf}
 use Rattle.wire.specs.declared.Message.{Message}
 use Rattle.wire.specs.declared.Message.the-variants.{Client, Info, Registered, Told}
@@ -33,11 +33,11 @@ frameBytes f = bytesOf (f .view .0) (f .message) (listOf (f .views))
 -- a message has a known kind and its count of numbers by its form, so 33 does not apply and 34 is about the views; then 35 to 37
 unfoldable pub frameVerdict : Frame → Verdict
 frameVerdict f =
-    need (viewsAllowed (kindOf (f .message)) (f .views .count)) SectionCount (
+    require (viewsAllowed (kindOf (f .message)) (f .views .count)) SectionCount (
     contentOf (kindOf (f .message)) (listOf (f .views)) (numberOf (f .message)))
 
 unfoldable pub writeVerdict : Frame → ℕ → Verdict
-writeVerdict f room = andThen (frameVerdict f) (need (leb (length (frameBytes f)) room) BufferTooShort Accepted)
+writeVerdict f room = andThen (frameVerdict f) (require (leb (length (frameBytes f)) room) BufferTooShort Accepted)
 
 -- ---- what a call gives and leaves
 
@@ -46,18 +46,13 @@ unfoldable pub writtenOf : Verdict → ℕ → Written
 writtenOf Accepted n = record { verdict = Accepted; length = n }
 writtenOf (Refused r) n = record { verdict = Refused r; length = 0 }
 
--- the new contents if accepted, else the old
-unfoldable pub leaves : Verdict → List ℕ → List ℕ → List ℕ
-leaves Accepted new old = new
-leaves (Refused r) new old = old
-
 -- the message stands at the front of the buffer, and the rest of the buffer is as it was
 abbrev pub overwritten : List ℕ → List ℕ → List ℕ
 overwritten bytes buffer = bytes ++ drop (length bytes) buffer
 
 pub record Wrote (f : Frame) (entry exit : List ℕ) (r : Written) : Type 0 where
   pub reply : r ≡ writtenOf (writeVerdict f (length entry)) (length (frameBytes f))
-  pub buffer : exit ≡ leaves (writeVerdict f (length entry)) (overwritten (frameBytes f) entry) entry
+  pub buffer : exit ≡ left (writeVerdict f (length entry)) (overwritten (frameBytes f) entry) entry
 
 -- a view stored at a place: its identifier, then its set
 abbrev pub storeView : List ℕ → ℕ → View → List ℕ

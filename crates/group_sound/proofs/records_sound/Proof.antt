@@ -18,19 +18,19 @@ returns : tie.Need-returns
 unfolding recordsSound
 returns c = sym (stopped _ 0 (sym (c .before .sound .ensures) ∙ not-true _ (c .if1 .taken)))
 
-seats-sound-requires : tie.Need-seats-sound-requires
-seats-sound-requires c κs = search needs
+members-sound-requires : tie.Need-members-sound-requires
+members-sound-requires c κs = search needs
 
 returns-2 : tie.Need-returns-2
 unfolding recordsSound
-returns-2 c = sym (stopped _ 1 (sym (c .before .seats-sound .ensures) ∙ not-true _ (c .if2 .taken)))
+returns-2 c = sym (stopped _ 1 (sym (c .before .members-sound .ensures) ∙ not-true _ (c .if2 .taken)))
 
 tables-sound-requires : tie.Need-tables-sound-requires
 tables-sound-requires c κs = search needs
 
 returns-3 : tie.Need-returns-3
 unfolding recordsSound
-returns-3 c = c .tables-sound .ensures ∙ ap (λ (k : ℕ). every k (tableSound (viewsIn (c .before .before .before .before .before .before .before .before .args .list .now) 0 (c .before .before .before .before .before .before .before .before .args .made)) (c .before .before .before .before .before .before .before .before .args .n) (c .before .before .before .before .before .before .before .before .args .queues .now))) (sym (length-viewsIn (c .before .before .before .before .before .before .before .before .args .list .now) 0 (c .before .before .before .before .before .before .before .before .args .made))) ∙ sym (three _ _ _ ∙ rw (sym (c .before .before .before .before .sound .ensures) ∙ not-false _ (c .before .before .before .if1 .left), sym (c .before .before .seats-sound .ensures) ∙ not-false _ (c .before .if2 .left)))
+returns-3 c = c .tables-sound .ensures ∙ ap (λ (k : ℕ). every k (tableSound (viewsIn (c .before .before .before .before .before .before .before .before .args .list .now) 0 (c .before .before .before .before .before .before .before .before .args .made)) (c .before .before .before .before .before .before .before .before .args .n) (c .before .before .before .before .before .before .before .before .args .queues .now))) (sym (length-viewsIn (c .before .before .before .before .before .before .before .before .args .list .now) 0 (c .before .before .before .before .before .before .before .before .args .made))) ∙ sym (three _ _ _ ∙ rw (sym (c .before .before .before .before .sound .ensures) ∙ not-false _ (c .before .before .before .if1 .left), sym (c .before .before .members-sound .ensures) ∙ not-false _ (c .before .if2 .left)))
 
 pub records-sound-spec : {M : Type 1} → statement M
 records-sound-spec =
@@ -38,7 +38,7 @@ records-sound-spec =
     (tie.spec
     sound-requires
     returns
-    seats-sound-requires
+    members-sound-requires
     returns-2
     tables-sound-requires
     returns-3)

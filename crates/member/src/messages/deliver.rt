@@ -13,14 +13,14 @@ ghost use mathlib.Core.Bool.{true};
 ghost use mathlib.Core.Path.{_≡_};
 ghost use mathlib.Core.Option.{some};
 ghost use Rattle.views.specs.Lists.{listOf};
+ghost use Rattle.views.specs.Refusals.{left};
 ghost use Rattle.wire.specs.Reader.{readOf};
-ghost use Rattle.events.specs.Replies.{replyOf, left};
+ghost use Rattle.events.specs.Replies.{replyOf, verdictOf};
 ghost use Rattle.rules.specs.Member.{all};
 ghost use Rattle.rules.specs.Sound.{setFits};
 ghost use Rattle.rules.specs.Alone.{viewsOf, sentOf};
-ghost use Rattle.book_bytes.specs.Books.{bookIn, bytesSound};
-ghost use Rattle.record_steps.specs.Turns.{verdictOf};
-ghost use Rattle.book_steps.specs.Acts.{membersIn, takeBytes};
+ghost use Rattle.book_bytes.specs.Books.{bookIn, bytesSound, membersIn};
+ghost use Rattle.book_steps.specs.Acts.{takeBytes};
 ghost use Rattle.member.specs.Parts.{frameAnswer, sentIn, arriving, delivering};
 ghost use Rattle.member.specs.Calls.{deliverBytes, Gave, deliverCall};
 
@@ -69,7 +69,7 @@ fn deliver_frame(b: &mut [u8], v: View, q: Member, f: Frame) -> Reply
     let verdict = answer(b[book_bytes::MEMBERS], v, b[book_bytes::TAKEN], q, f);
     match verdict {
         Verdict::Refused(r) => events::refuse(r),
-        Verdict::Accepted => book_steps::messages::take(b, q, f),
+        Verdict::Accepted => book_steps::messages::deliver(b, q, f),
     }
 }
 

@@ -41,9 +41,9 @@ use denote.Triple.Clauses.{ensured, lasts}
 use Rattle.views.specs.declared.refusal.Verdict.{Verdict}
 use Rattle.views.proofs.refusal.Verdict as V′
 use Rattle.views.proofs.refusal.Verdict.Laws as VL
-use Rattle.book_bytes.specs.declared.Book.{Book}
-use Rattle.book_bytes.proofs.Book as B′
-use Rattle.book_bytes.proofs.Book.Laws as BL
+use Rattle.book_bytes.specs.declared.Record.{Record}
+use Rattle.book_bytes.proofs.Record as B′
+use Rattle.book_bytes.proofs.Record.Laws as BL
 use Rattle.record_steps.specs.declared.Stepped.{Stepped}
 use Rattle.record_steps.proofs.Stepped as R′
 use Rattle.record_steps.proofs.Stepped.Laws as RL
@@ -64,7 +64,7 @@ abbrev stayed : Stays (lends.ended .signature .params) (lends.ended .kept)
 stayed = (stay-none (λ _. B′.the-row) yes, (stay-none (λ _. S′.the-row) yes, tt))
 
 -- the machine values of a record, of a step with its operands, of a verdict and of the result
-abbrev bookVal : Book → Val
+abbrev bookVal : Record → Val
 bookVal = LL.val B′.the-type BL.the-laws
 
 abbrev stepVal : Step → Val
@@ -76,13 +76,13 @@ verdictVal = EL.val V′.the-type VL.the-laws
 abbrev resultVal : Stepped → Val
 resultVal = LL.val R′.the-type RL.the-laws
 
-abbrev result : Verdict → Book → Stepped
+abbrev result : Verdict → Record → Stepped
 result v h = record { verdict = v; book = h }
 
 spelt-out : (r : Verdict) (v : Val) → Is V′.the-row r (v ∷ []) → Is V′.the-row r (verdictVal r ∷ [])
 spelt-out r v g = subst (Is V′.the-row r) (EL.tells V′.the-type VL.the-laws r (v ∷ []) g) g
 
-result-is : (r : Verdict) (h : Book) → Is V′.the-row r (verdictVal r ∷ []) → Is B′.the-row h (bookVal h ∷ []) → Is R′.the-row (result r h) (resultVal (result r h) ∷ [])
+result-is : (r : Verdict) (h : Record) → Is V′.the-row r (verdictVal r ∷ []) → Is B′.the-row h (bookVal h ∷ []) → Is R′.the-row (result r h) (resultVal (result r h) ∷ [])
 result-is r h gv gh = LL.owes R′.the-type RL.the-laws (result r h) (gv, (gh, tt))
 
 module _ {M : Type 1} (𝓤 : URA M) (H : Heap 𝓤) (A : Atoms 𝓤) (mem : Memory → SProp 𝓤) (run : Routine → Fun 𝓤) where
@@ -91,7 +91,7 @@ module _ {M : Type 1} (𝓤 : URA M) (H : Heap 𝓤) (A : Atoms 𝓤) (mem : Mem
   Turn = tripleOf 𝓤 H A turn.signature (turn.spec 𝓤 H A mem run)
 
 -- a local that holds a record is a record in memory, and the other way
-module _ {M : Type 1} (𝓤 : URA M) (H : Heap 𝓤) (A : Atoms 𝓤) (W : Given 𝓤 H A) (h : Book) (b : ℕ) where
+module _ {M : Type 1} (𝓤 : URA M) (H : Heap 𝓤) (A : Atoms 𝓤) (W : Given 𝓤 H A) (h : Record) (b : ℕ) where
   lies-in : ent 𝓤 (sep 𝓤 (H .at fullShare BL.mir b 0 (bookVal h)) (sem 𝓤 H A (B′.the-row .own h (bookVal h ∷ [])))) (sem 𝓤 H A (mem B′.the-row .lies h b 0))
   unfolding partOf
   lies-in =
@@ -107,8 +107,8 @@ module _ {M : Type 1} (𝓤 : URA M) (H : Heap 𝓤) (A : Atoms 𝓤) (W : Given
       move ! (1 ∷ []) $ peeks ! B′.the-row (Is B′.the-row) (shows 𝓤 H A B′.the-row) h (bookVal h ∷ []) (λ g. drop ! $
       use1 W (‵ (fat fullShare BL.mir b 0 (bookVal h))) (W .laws .raw-at fullShare BL.mir b 0 (bookVal h)) $ check ! g $ done !))
 
-module _ {M : Type 1} (𝓤 : URA M) (H : Heap 𝓤) (A : Atoms 𝓤) (W : Given 𝓤 H A) (at-mem : Memory → SProp 𝓤) (run : Routine → Fun 𝓤) (h : Book) (t : Step) where
-  abbrev x : Book × (Step × Unit {0})
+module _ {M : Type 1} (𝓤 : URA M) (H : Heap 𝓤) (A : Atoms 𝓤) (W : Given 𝓤 H A) (at-mem : Memory → SProp 𝓤) (run : Routine → Fun 𝓤) (h : Record) (t : Step) where
+  abbrev x : Record × (Step × Unit {0})
   x = (h, (t, tt))
 
   abbrev at : List Val × (List Val × Unit {0})
@@ -127,7 +127,7 @@ module _ {M : Type 1} (𝓤 : URA M) (H : Heap 𝓤) (A : Atoms 𝓤) (W : Given
       owned ! R′.the-row (Is R′.the-row) (LL.makes R′.the-type RL.the-plain 𝓤 H A) s _ gs $ move ! (1 ∷ 0 ∷ []) $ nothing ! $ done !
 
   -- what `turn`'s triple binds outside: the local at l, lent for the lifetime ν under the name γ
-  abbrev ref : ℕ → GName → RefT Book
+  abbrev ref : ℕ → GName → RefT Record
   ref l γ = record { ptr = (l, 0); name = γ; now = h }
 
   abbrev to-turn : ℕ → ℕ → GName → Turn 𝓤 H A at-mem run .Ghost
@@ -160,7 +160,7 @@ module _ {M : Type 1} (𝓤 : URA M) (H : Heap 𝓤) (A : Atoms 𝓤) (W : Given
         calls-at ! fmc (Turn 𝓤 H A at-mem run) known (to-turn ν l₃ γ) (and-then ! (load ! (from ! (stop !)) (look ! 4 refl)) (and-then ! (load ! (from ! (stop !)) (look ! 9 refl)) (no-more !))) (λ v.
         use1 W (later (some (λ (r : Verdict). ((‵ (flft (ν ∷ []) fullShare) ⊛ ‵ ftrue) ⊛ ‵ (V′.the-row .own r (v ∷ []))) ⊛ raw (ensured 𝓤 H A turn.ended (turn.clauses 𝓤 H A at-mem run) (ν ∷ [], tt) (ref l₃ γ, (t, tt)) tt r)))) (id⊢ 𝓤 _) $ await ! tt $ pick ! (λ r.
         -- what `turn` ensures, at some last record
-        split ! $ move ! (1 ∷ []) $ use1 W (some (λ (ws : Book × (Unit {0} × Unit {0})). ‵ (lasts turn.ended (ν ∷ [], tt) (ref l₃ γ, (t, tt)) ws) ⊛ raw (fact 𝓤 ((r ≡ turnOf h t .verdict) × (ws .0 ≡ turnOf h t .book))))) (id⊢ 𝓤 _) $ pick ! (λ ws.
+        split ! $ move ! (1 ∷ []) $ use1 W (some (λ (ws : Record × (Unit {0} × Unit {0})). ‵ (lasts turn.ended (ν ∷ [], tt) (ref l₃ γ, (t, tt)) ws) ⊛ raw (fact 𝓤 ((r ≡ turnOf h t .verdict) × (ws .0 ≡ turnOf h t .book))))) (id⊢ 𝓤 _) $ pick ! (λ ws.
         split ! $ move ! (1 ∷ []) $ heard ! ((r ≡ turnOf h t .verdict) × (ws .0 ≡ turnOf h t .book)) (λ e. fsplit ! $
         move ! (2 ∷ []) $ split ! $ move ! (1 ∷ []) $ peeks ! V′.the-row (Is V′.the-row) (shows 𝓤 H A V′.the-row) r (v ∷ []) (λ gv.
         land ! (from ! (stop !)) (init ! 9 refl (EL.lawful V′.the-type VL.the-laws 𝓤 H A W tt .typed r _ gv .0)) $

@@ -40,9 +40,9 @@ use denote.Triple.Clauses.{ensured, lasts}
 use Rattle.views.specs.declared.refusal.Verdict.{Verdict}
 use Rattle.views.proofs.refusal.Verdict as V′
 use Rattle.views.proofs.refusal.Verdict.Laws as VL
-use Rattle.book_bytes.specs.declared.Book.{Book}
-use Rattle.book_bytes.proofs.Book as B′
-use Rattle.book_bytes.proofs.Book.Laws as BL
+use Rattle.book_bytes.specs.declared.Record.{Record}
+use Rattle.book_bytes.proofs.Record as B′
+use Rattle.book_bytes.proofs.Record.Laws as BL
 use Rattle.record_steps.specs.declared.Stepped.{Stepped}
 use Rattle.record_steps.proofs.Stepped as R′
 use Rattle.record_steps.proofs.Stepped.Laws as RL
@@ -63,7 +63,7 @@ abbrev stayed : Stays (lent.ended .signature .params) (lent.ended .kept)
 stayed = (stay-ref (0 ∷ []) tt (plain (λ _. B′.the-row)), (stay-none (λ _. S′.the-row) yes, tt))
 
 -- the machine values of a record, of a step with its operands and of a verdict
-abbrev bookVal : Book → Val
+abbrev bookVal : Record → Val
 bookVal = LL.val B′.the-type BL.the-laws
 
 abbrev stepVal : Step → Val
@@ -84,11 +84,11 @@ module _ {M : Type 1} (𝓤 : URA M) (H : Heap 𝓤) (A : Atoms 𝓤) (mem : Mem
   abbrev Turned : Contract 𝓤
   Turned = tripleOf 𝓤 H A by-value.signature (by-value.spec 𝓤 H A mem run)
 
-  turned-of : (h : Book) (t : Step) (r : Stepped) → ent 𝓤 (ensured 𝓤 H A by-value.ended (by-value.clauses 𝓤 H A mem run) tt (h, (t, tt)) tt r) (fact 𝓤 (r ≡ turnOf h t))
+  turned-of : (h : Record) (t : Step) (r : Stepped) → ent 𝓤 (ensured 𝓤 H A by-value.ended (by-value.clauses 𝓤 H A mem run) tt (h, (t, tt)) tt r) (fact 𝓤 (r ≡ turnOf h t))
   turned-of h t r = exE 𝓤 _ (λ ws. snd∗ 𝓤 (sem 𝓤 H A (lasts by-value.ended tt (h, (t, tt)) ws)) (fact 𝓤 (r ≡ turnOf h t)))
 
-module _ {M : Type 1} (𝓤 : URA M) (H : Heap 𝓤) (A : Atoms 𝓤) (W : Given 𝓤 H A) (at-mem : Memory → SProp 𝓤) (run : Routine → Fun 𝓤) (κ : Lft) (q : Share) (b o : ℕ) (γ : GName) (h : Book) (t : Step) where
-  abbrev x : RefT Book × (Step × Unit {0})
+module _ {M : Type 1} (𝓤 : URA M) (H : Heap 𝓤) (A : Atoms 𝓤) (W : Given 𝓤 H A) (at-mem : Memory → SProp 𝓤) (run : Routine → Fun 𝓤) (κ : Lft) (q : Share) (b o : ℕ) (γ : GName) (h : Record) (t : Step) where
+  abbrev x : RefT Record × (Step × Unit {0})
   x = (record { ptr = (b, o); name = γ; now = h }, (t, tt))
 
   abbrev at : List Val × (List Val × Unit {0})

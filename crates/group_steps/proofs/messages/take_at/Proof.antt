@@ -20,17 +20,17 @@ mul-a c = search needs
 add-e : tie.Need-add-e
 add-e c = search needs
 
-sub-take : tie.Need-sub-take
-sub-take c = search needs
+sub-deliver : tie.Need-sub-deliver
+sub-deliver c = search needs
 
-part-take-start : tie.Need-part-take-start
-part-take-start c = search needs
+part-deliver-start : tie.Need-part-deliver-start
+part-deliver-start c = search needs
 
-part-take-end : tie.Need-part-take-end
-part-take-end c = search needs
+part-deliver-end : tie.Need-part-deliver-end
+part-deliver-end c = search needs
 
-take-requires : tie.Need-take-requires
-take-requires c κs =
+deliver-requires : tie.Need-deliver-requires
+deliver-requires c κs =
     let s = c .before .before .before .before .before in
     part-asks (s .args .all .now) (s .args .p) (s .pre .1) (bookSize * s .args .p + bookSize - bookSize * s .args .p) (omega arith) (s .pre .0) _ (s .pre .4) (s .pre .5) (s .pre .6)
 
@@ -41,7 +41,7 @@ returns : tie.Need-returns
 returns c =
     let s = c .before .before .before .before .before .before .before .before in
     part-taken (s .args .all .now) (s .args .p) (s .pre .1) (bookSize * s .args .p + bookSize - bookSize * s .args .p) (omega arith) _ _ _ (c .before .before .before .before .load-frame .ensures) _ _ _
-    (c .before .before .take .ensures) refl
+    (c .before .before .deliver .ensures) refl
 
 pub take-at-spec : {M : Type 1} → statement M
 take-at-spec =
@@ -51,9 +51,9 @@ take-at-spec =
     load-frame-requires
     mul-a
     add-e
-    sub-take
-    part-take-start
-    part-take-end
-    take-requires
+    sub-deliver
+    part-deliver-start
+    part-deliver-end
+    deliver-requires
     same-length
     returns)

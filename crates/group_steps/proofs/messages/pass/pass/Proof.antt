@@ -22,7 +22,7 @@ use Rattle.group_bytes.proofs.BookBytes.{book-byte}
 use Rattle.group_bytes.proofs.Inside.{waiting-inside}
 use Rattle.group_bytes.proofs.PassGroup.{carriedIn}
 use Rattle.group_steps.proofs.Rows.{ranged, no-member}
-use Rattle.group_steps.proofs.PassLaws.{part-is, seat-is, put-back, pass-refused, pass-accepted, no-carrier, carried-made, none-outgoing, waiting-full, pass-moves, forward-asks}
+use Rattle.group_steps.proofs.PassLaws.{part-is, place-is, put-back, pass-refused, pass-accepted, no-carrier, carried-made, none-outgoing, waiting-full, pass-moves, forward-asks}
 use borrow.Author.Needs.{needs}
 use Rattle.group_steps.proofs.messages.pass.pass.Statement.{statement}
 use Rattle.group_steps.proofs.messages.pass.pass.Tie as tie
@@ -78,7 +78,7 @@ returns-2 c =
     let p = a .p in
     let m = l .before .before .before .if1 .left in
     let b = bookBytes (r .books) p in
-    let s : l .load-seat .result ≡ recordIn b .carrier = seat-is (r .books) p (bookSize * p + bookSize - bookSize * p) (omega arith) _ (l .load-seat .ensures) in
+    let s : l .load-seat .result ≡ recordIn b .carrier = place-is (r .books) p (bookSize * p + bookSize - bookSize * p) (omega arith) _ (l .load-seat .ensures) in
     pass-refused r p NoCarrierView (no-carrier r p h m (sym (ap (λ (z : Seat). z .there) s) ∙ not-true _ (c .if2 .taken)))
 
 add-if3 : tie.Need-add-if3
@@ -106,7 +106,7 @@ returns-3 c =
     let p = a .p in
     let m = l .before .before .before .if1 .left in
     let b = bookBytes (r .books) p in
-    let s : l .load-seat .result ≡ recordIn b .carrier = seat-is (r .books) p (bookSize * p + bookSize - bookSize * p) (omega arith) _ (l .load-seat .ensures) in
+    let s : l .load-seat .result ≡ recordIn b .carrier = place-is (r .books) p (bookSize * p + bookSize - bookSize * p) (omega arith) _ (l .load-seat .ensures) in
     let t : recordIn b .carrier .there ≡ true = sym (ap (λ (z : Seat). z .there) s) ∙ not-false _ (c .before .before .if2 .left) in
     pass-refused r p NoneOutgoing (none-outgoing r p h m t (book-byte (r .books) p outgoingAt (omega arith) ∙ c .if3 .taken))
 
@@ -153,7 +153,7 @@ waiting-at-requires c κs =
     let p = a .p in
     let m = l .before .before .before .if1 .left in
     let b = bookBytes (r .books) p in
-    let s : l .load-seat .result ≡ recordIn b .carrier = seat-is (r .books) p (bookSize * p + bookSize - bookSize * p) (omega arith) _ (l .load-seat .ensures) in
+    let s : l .load-seat .result ≡ recordIn b .carrier = place-is (r .books) p (bookSize * p + bookSize - bookSize * p) (omega arith) _ (l .load-seat .ensures) in
     let t : recordIn b .carrier .there ≡ true = sym (ap (λ (z : Seat). z .there) s) ∙ not-false _ (c .before .before .before .before .before .if2 .left) in
     let i = placeOf (idOf (carriedIn b)) (viewsMade r) in
     let e : c .place .result ≡ i = c .place .ensures ∙ ap (λ (z : Seat). placeOf (idOf (z .view)) (viewsMade r)) s in
@@ -169,7 +169,7 @@ slice-read-if4 c =
     let p = a .p in
     let m = l .before .before .before .if1 .left in
     let b = bookBytes (r .books) p in
-    let s : l .load-seat .result ≡ recordIn b .carrier = seat-is (r .books) p (bookSize * p + bookSize - bookSize * p) (omega arith) _ (l .load-seat .ensures) in
+    let s : l .load-seat .result ≡ recordIn b .carrier = place-is (r .books) p (bookSize * p + bookSize - bookSize * p) (omega arith) _ (l .load-seat .ensures) in
     let t : recordIn b .carrier .there ≡ true = sym (ap (λ (z : Seat). z .there) s) ∙ not-false _ (c .before .before .before .before .before .before .before .if2 .left) in
     let i = placeOf (idOf (carriedIn b)) (viewsMade r) in
     let e : c .before .before .place .result ≡ i = c .before .before .place .ensures ∙ ap (λ (z : Seat). placeOf (idOf (z .view)) (viewsMade r)) s in
@@ -188,7 +188,7 @@ returns-4 c =
     let p = a .p in
     let m = l .before .before .before .if1 .left in
     let b = bookBytes (r .books) p in
-    let s : l .load-seat .result ≡ recordIn b .carrier = seat-is (r .books) p (bookSize * p + bookSize - bookSize * p) (omega arith) _ (l .load-seat .ensures) in
+    let s : l .load-seat .result ≡ recordIn b .carrier = place-is (r .books) p (bookSize * p + bookSize - bookSize * p) (omega arith) _ (l .load-seat .ensures) in
     let t : recordIn b .carrier .there ≡ true = sym (ap (λ (z : Seat). z .there) s) ∙ not-false _ (c .before .before .before .before .before .before .before .before .if2 .left) in
     let o : 0 < getD b outgoingAt 0 = omega (arith, book-byte (r .books) p outgoingAt (omega arith), c .before .before .before .before .before .before .if3 .left) in
     let i = placeOf (idOf (carriedIn b)) (viewsMade r) in
@@ -221,7 +221,7 @@ forward-requires c κs =
     let p = a .p in
     let m = l .before .before .before .if1 .left in
     let b = bookBytes (r .books) p in
-    let s : l .load-seat .result ≡ recordIn b .carrier = seat-is (r .books) p (bookSize * p + bookSize - bookSize * p) (omega arith) _ (l .load-seat .ensures) in
+    let s : l .load-seat .result ≡ recordIn b .carrier = place-is (r .books) p (bookSize * p + bookSize - bookSize * p) (omega arith) _ (l .load-seat .ensures) in
     let t : recordIn b .carrier .there ≡ true = sym (ap (λ (z : Seat). z .there) s) ∙ not-false _ (c .before .before .before .before .before .before .before .before .before .before .if2 .left) in
     let o : 0 < getD b outgoingAt 0 = omega (arith, book-byte (r .books) p outgoingAt (omega arith), c .before .before .before .before .before .before .before .before .if3 .left) in
     let i = placeOf (idOf (carriedIn b)) (viewsMade r) in
@@ -245,7 +245,7 @@ returns-5 c =
     let p = a .p in
     let m = l .before .before .before .if1 .left in
     let b = bookBytes (r .books) p in
-    let s : l .load-seat .result ≡ recordIn b .carrier = seat-is (r .books) p (bookSize * p + bookSize - bookSize * p) (omega arith) _ (l .load-seat .ensures) in
+    let s : l .load-seat .result ≡ recordIn b .carrier = place-is (r .books) p (bookSize * p + bookSize - bookSize * p) (omega arith) _ (l .load-seat .ensures) in
     let t : recordIn b .carrier .there ≡ true = sym (ap (λ (z : Seat). z .there) s) ∙ not-false _ (c .before .before .before .before .before .before .before .before .before .before .before .before .before .before .before .if2 .left) in
     let o : 0 < getD b outgoingAt 0 = omega (arith, book-byte (r .books) p outgoingAt (omega arith), c .before .before .before .before .before .before .before .before .before .before .before .before .before .if3 .left) in
     let i = placeOf (idOf (carriedIn b)) (viewsMade r) in

@@ -24,8 +24,8 @@ refuse-requires c κs = search needs
 enum-told : tie.Need-enum-told
 enum-told c = search needs
 
-take-requires : tie.Need-take-requires
-take-requires c κs = (c .before .before .before .before .before .before .before .pre .0, sender-small _ _ _ (c .before .before .before .before .before .before .before .pre .0) (c .before .before .before .before .before .before .before .pre .1) (frame-sender (c .before .before .before .before .before .before .before .args .b .now) (c .before .before .before .before .before .before .before .args .v) (c .before .before .before .before .before .before .before .args .q .0) (c .before .before .before .before .before .before .before .args .f) (c .before .before .before .before .before .before .before .pre .2) _ (c .before .before .before .answer .ensures) (c .before .enum-told .given .1)), frame-room (c .before .before .before .before .before .before .before .args .b .now) (c .before .before .before .before .before .before .before .args .v) (c .before .before .before .before .before .before .before .args .q .0) (c .before .before .before .before .before .before .before .args .f) (c .before .before .before .before .before .before .before .pre .2) _ (c .before .before .before .answer .ensures) (c .before .enum-told .given .1), carrier-mark _ _ (c .before .before .before .before .before .before .before .pre .1))
+deliver-requires : tie.Need-deliver-requires
+deliver-requires c κs = (c .before .before .before .before .before .before .before .pre .0, sender-small _ _ _ (c .before .before .before .before .before .before .before .pre .0) (c .before .before .before .before .before .before .before .pre .1) (frame-sender (c .before .before .before .before .before .before .before .args .b .now) (c .before .before .before .before .before .before .before .args .v) (c .before .before .before .before .before .before .before .args .q .0) (c .before .before .before .before .before .before .before .args .f) (c .before .before .before .before .before .before .before .pre .2) _ (c .before .before .before .answer .ensures) (c .before .enum-told .given .1)), frame-room (c .before .before .before .before .before .before .before .args .b .now) (c .before .before .before .before .before .before .before .args .v) (c .before .before .before .before .before .before .before .args .q .0) (c .before .before .before .before .before .before .before .args .f) (c .before .before .before .before .before .before .before .pre .2) _ (c .before .before .before .answer .ensures) (c .before .enum-told .given .1), carrier-mark _ _ (c .before .before .before .before .before .before .before .pre .1))
 
 returns : tie.Need-returns
 returns c = frame-refused _ _ _ _ (c .before .before .before .before .before .before .before .before .pre .2) _ (c .before .before .before .before .answer .ensures) _ (c .before .before .verdict .given .1) _ (c .refuse .ensures)
@@ -34,7 +34,7 @@ same-length : tie.Need-same-length
 same-length c = search needs
 
 returns-2 : tie.Need-returns-2
-returns-2 c = frame-taken (c .before .before .before .before .before .before .before .before .before .before .args .b .now) (c .before .before .before .before .before .before .before .before .before .before .args .v) (c .before .before .before .before .before .before .before .before .before .before .args .q .0) (c .before .before .before .before .before .before .before .before .before .before .args .f) (c .before .before .before .before .before .before .before .before .before .before .pre .2) _ (c .before .before .before .before .before .before .answer .ensures) (c .before .before .before .before .enum-told .given .1) _ _ (c .before .before .take .ensures)
+returns-2 c = frame-taken (c .before .before .before .before .before .before .before .before .before .before .args .b .now) (c .before .before .before .before .before .before .before .before .before .before .args .v) (c .before .before .before .before .before .before .before .before .before .before .args .q .0) (c .before .before .before .before .before .before .before .before .before .before .args .f) (c .before .before .before .before .before .before .before .before .before .before .pre .2) _ (c .before .before .before .before .before .before .answer .ensures) (c .before .before .before .before .enum-told .given .1) _ _ (c .before .before .deliver .ensures)
 
 pub deliver-frame-spec : {M : Type 1} → statement M
 deliver-frame-spec =
@@ -46,7 +46,7 @@ deliver-frame-spec =
     enum-known-verdict
     refuse-requires
     enum-told
-    take-requires
+    deliver-requires
     returns
     same-length
     returns-2)

@@ -1,4 +1,4 @@
--- `book_steps::messages::take` meets its contract: the record after the message of the record that was loaded is the rule's.
+-- `book_steps::messages::deliver` meets its contract: the record after the message of the record that was loaded is the rule's.
 use mathlib.Core.Path.{_≡_}
 use native.Mathlib.Omega.{arith}
 use borrow.Author.Needs.{needs}
@@ -8,8 +8,8 @@ use Rattle.book_steps.proofs.Committed.{sound-size, loaded-side}
 use Rattle.book_steps.proofs.Answers.{loaded-few, loaded-taken}
 use Rattle.book_steps.proofs.RoomLaws.{gain-room}
 use Rattle.book_steps.proofs.TakeLaws.{take-done}
-use Rattle.book_steps.proofs.messages.take.Statement.{statement}
-use Rattle.book_steps.proofs.messages.take.Tie as tie
+use Rattle.book_steps.proofs.messages.deliver.Statement.{statement}
+use Rattle.book_steps.proofs.messages.deliver.Tie as tie
 
 load-requires : tie.Need-load-requires
 load-requires c κs = omega (arith, sound-size _ (c .before .before .pre .0))
@@ -33,5 +33,5 @@ returns c =
     let whole : length (l .at) ≡ maxViews = simp length-map at (start .good .1 .1 .0 .1 .1 .1 .1 .0 .1 .1 .1 .0 .1 .0 .1) in
     take-done _ _ (c .before .before .before .before .before .before .load .ensures) _ _ _ (omega (arith, length-take (l .count) (l .at))) _ (c .before .before .before .before .turned .ensures) _ _ (c .before .before .keep .ensures)
 
-pub take-spec : {M : Type 1} → statement M
-take-spec = tie.close (tie.spec load-requires turned-requires keep-requires same-length returns)
+pub deliver-spec : {M : Type 1} → statement M
+deliver-spec = tie.close (tie.spec load-requires turned-requires keep-requires same-length returns)

@@ -12,7 +12,7 @@ ghost use Rattle.rules.specs.Member.{every};
 ghost use Rattle.book_bytes.specs.Records.{seated};
 ghost use Rattle.book_bytes.specs.Books.{layoutFits};
 ghost use Rattle.group_bytes.specs.Places.{orderAt, booksSize, bookBytes};
-ghost use Rattle.group_sound.specs.Parts.{orderedIn, bookKnown, seatSound};
+ghost use Rattle.group_sound.specs.Parts.{orderedIn, bookKnown, memberSound};
 
 // How many messages are ordered in a listed view, or none.
 fn ordered(list: &[u8], queues: &[u8], made: u8, seat: Seat) -> u8
@@ -49,9 +49,9 @@ fn book_known(list: &[u8], b: &[u8], queues: &[u8], made: u8) -> bool
 }
 
 // The book of the member p.
-fn seat_sound(list: &[u8], b: &[u8], queues: &[u8], made: u8, n: u8, p: u8) -> bool
+fn member_sound(list: &[u8], b: &[u8], queues: &[u8], made: u8, n: u8, p: u8) -> bool
     requires { ⌜ (viewSize * made ≤ length (now list)) × (orderAt made ≤ length (now queues)) ⌝ }
-    ensures { λ r. ⌜ r ≡ seatSound (viewsIn (now (list .entry)) 0 made) (now (queues .entry)) n p (now (b .entry)) ⌝ }
+    ensures { λ r. ⌜ r ≡ memberSound (viewsIn (now (list .entry)) 0 made) (now (queues .entry)) n p (now (b .entry)) ⌝ }
 {
     if !book_sound::sound(b) {
         return false;
@@ -66,15 +66,15 @@ fn seat_sound(list: &[u8], b: &[u8], queues: &[u8], made: u8, n: u8, p: u8) -> b
 }
 
 // The books of n members.
-pub fn seats_sound(list: &[u8], books: &[u8], queues: &[u8], made: u8, n: u8) -> bool
+pub fn members_sound(list: &[u8], books: &[u8], queues: &[u8], made: u8, n: u8) -> bool
     requires { ⌜ (viewSize * made ≤ length (now list)) × (length (now books) ≡ booksSize) × (orderAt made ≤ length (now queues)) × (n ≤ maxMembers) ⌝ }
-    ensures { λ r. ⌜ r ≡ every n (λ p. seatSound (viewsIn (now (list .entry)) 0 made) (now (queues .entry)) n p (bookBytes (now (books .entry)) p)) ⌝ }
+    ensures { λ r. ⌜ r ≡ every n (λ p. memberSound (viewsIn (now (list .entry)) 0 made) (now (queues .entry)) n p (bookBytes (now (books .entry)) p)) ⌝ }
 {
     let mut p: u8 = 0;
     while p < n {
         let a = book_bytes::SIZE * (p as usize);
         let e = a + book_bytes::SIZE;
-        if !seat_sound(list, &books[a..e], queues, made, n, p) {
+        if !member_sound(list, &books[a..e], queues, made, n, p) {
             return false;
         }
         p += 1;

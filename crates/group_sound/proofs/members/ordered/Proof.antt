@@ -1,12 +1,12 @@
--- `group_sound::seats::ordered` meets its contract: a listed view has a place, and its count lies within the queues.
+-- `group_sound::members::ordered` meets its contract: a listed view has a place, and its count lies within the queues.
 use native.Mathlib.Omega.{arith}
 use Rattle.wire.specs.Reader.{viewsIn}
 use Rattle.wire.proofs.ReaderLaws.{length-viewsIn}
 use Rattle.group_sound.specs.Parts.{orderedIn}
 use Rattle.group_sound.proofs.Tests.{ordered-place, ordered-there}
 use borrow.Author.Needs.{needs}
-use Rattle.group_sound.proofs.seats.ordered.Statement.{statement}
-use Rattle.group_sound.proofs.seats.ordered.Tie as tie
+use Rattle.group_sound.proofs.members.ordered.Statement.{statement}
+use Rattle.group_sound.proofs.members.ordered.Tie as tie
 
 cast-place : tie.Need-cast-place
 cast-place c = search needs

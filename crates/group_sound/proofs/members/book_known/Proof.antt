@@ -1,4 +1,4 @@
--- `group_sound::seats::book_known` meets its contract: a layout that fits has every part within the bytes, and each is tested where it lies.
+-- `group_sound::members::book_known` meets its contract: a layout that fits has every part within the bytes, and each is tested where it lies.
 use mathlib.Core.Path.{sym, ap, _∙_}
 use Prim.Native.Nat.{ℕ}
 use native.Mathlib.Omega.{arith}
@@ -15,8 +15,8 @@ use Rattle.book_bytes.proofs.LayoutLaws.{layout-says}
 use Rattle.group_sound.specs.Parts.{orderedIn, bookKnown}
 use Rattle.group_sound.proofs.Tests.{record-carrier}
 use borrow.Author.Needs.{needs}
-use Rattle.group_sound.proofs.seats.book_known.Statement.{statement}
-use Rattle.group_sound.proofs.seats.book_known.Tie as tie
+use Rattle.group_sound.proofs.members.book_known.Statement.{statement}
+use Rattle.group_sound.proofs.members.book_known.Tie as tie
 
 record-listed-requires : tie.Need-record-listed-requires
 record-listed-requires c κs = let l = layout-says (c .before .before .before .args .b .now) (c .before .before .before .pre .1) in (c .before .before .before .pre .0, omega (arith, l .size), l .opens)
