@@ -15,9 +15,9 @@ use Rattle.rules.specs.Member.{all}
 use Rattle.rules.specs.Sound.{countFits, orderAt, setFits, opensRise, fromMember, sound}
 use Rattle.rules.specs.Alone.{viewsOf, bookViews, limitIf, setsFit, setFitsIf, bookSound}
 use Rattle.rules.proofs.TestLaws.{both-from, within-from, all-from, _and_, conditions-from}
-use Rattle.rules.proofs.SoundBooks.{BookSound, EntryTests, entry-tests, book-tests}
-use Rattle.rules.proofs.Soundness.{Listed, Sound, sound-says}
-use Rattle.rules.proofs.AloneSound.{Fits, byItself}
+use Rattle.rules.proofs.Sound.Books.{BookSound, EntryTests, entry-tests, book-tests}
+use Rattle.rules.proofs.Sound.{Listed, Sound, sound-says}
+use Rattle.rules.proofs.Alone.{Fits, byItself}
 use Rattle.book_bytes.specs.Books.{bookIn, bytesSound, membersIn, selfIn}
 use Rattle.book_bytes.proofs.LayoutLaws.{layout-from}
 use Rattle.group_bytes.specs.Places.{bookBytes}

@@ -13,9 +13,9 @@ use Rattle.rules.specs.Data.{Member, Book, Group, Result, refused, accepted, ne
 use Rattle.rules.specs.Member.{Done, attempted, joins, attempts, registers, sends, hands, tells, safes, collects}
 use Rattle.rules.specs.Sound.{sound}
 use Rattle.rules.specs.Group.{booked}
-use Rattle.rules.proofs.Soundness.{Sound, sound-says}
+use Rattle.rules.proofs.Sound.{Sound, sound-says}
 use Rattle.rules.proofs.Holding.{Holds, gives, given, need-holds, view-holds}
-use Rattle.rules.proofs.Peculiar.{attempt-short}
+use Rattle.rules.proofs.Alone.Peculiar.{attempt-short}
 use Rattle.book_bytes.specs.Books.{bookIn, bytesSound, membersIn, selfIn}
 use Rattle.book_steps.specs.Acts.{fewOpen, joinBytes, attemptBytes, registerBytes, sendBytes, handBytes, tellBytes, safeBytes, collectBytes}
 use Rattle.book_steps.proofs.Means.{Means, gave}

@@ -21,10 +21,10 @@ use Rattle.rules.specs.Member.{does, clientIsCarrier, delivered}
 use Rattle.rules.specs.Sound.{sound}
 use Rattle.rules.specs.Alone.{viewsOf, infoOf}
 use Rattle.rules.specs.Group.{Next, booked, takeFrom, deliverStep}
-use Rattle.rules.proofs.Soundness.{Sound, EntrySound, entry-from, told-sound}
+use Rattle.rules.proofs.Sound.{Sound, EntrySound, entry-from, told-sound}
 use Rattle.rules.proofs.Holding.{Holds, gives, view-holds, first-holds}
-use Rattle.rules.proofs.QueueLaws.{next-below}
-use Rattle.rules.proofs.Peculiar.{next-sound, info-short}
+use Rattle.rules.proofs.Sound.QueueLaws.{next-below}
+use Rattle.rules.proofs.Alone.Peculiar.{next-sound, info-short}
 use Rattle.slots.specs.Slots.{slotSize, kindIn, numberIn, countIn, infoIn, messageIn, entryIn, entriesIn}
 use Rattle.slots.proofs.Stored.{MessageFits, client-fits, info-fits, registered-fits, told-fits}
 use Rattle.slots.proofs.BytesKept.{SetsAreBytes}

@@ -17,7 +17,7 @@ use Rattle.rules.specs.Data.{Member, Entry, Book, Group, accepted}
 use Rattle.rules.specs.Member.{outgoes, passing}
 use Rattle.rules.specs.Sound.{sound}
 use Rattle.rules.specs.Group.{Next, booked, passStep}
-use Rattle.rules.proofs.Soundness.{sound-says}
+use Rattle.rules.proofs.Sound.{sound-says}
 use Rattle.rules.proofs.Holding.{Holds, gives, need-holds, view-holds, first-holds, then-holds}
 use Rattle.slots.specs.Slots.{slotSize, entryIn, queueIn, slotFits}
 use Rattle.slots.proofs.Outside.{Changed, queue-whole}

@@ -16,8 +16,8 @@ use Rattle.rules.specs.Member.{all}
 use Rattle.rules.specs.Sound.{within, countFits, orderAt, bookCounts, setFits, opensRise, listed, bookListed, infoListed, fromMember}
 use Rattle.rules.specs.Alone.{viewsOf, bookViews, limitIf, setsFit, setFitsIf, bookSound}
 use Rattle.rules.proofs.TestLaws.{_and_, conditions-say, conditions-from, all-at, all-from, listed-in, listed-from, optional-in, optional-from}
-use Rattle.rules.proofs.SoundBooks.{EntryFacts, QueueFacts, BookSound, entry-says, entry-tests, book-says, book-tests}
-use Rattle.rules.proofs.Soundness.{Listed, inGroup, QueueSound}
+use Rattle.rules.proofs.Sound.Books.{EntryFacts, QueueFacts, BookSound, entry-says, entry-tests, book-says, book-tests}
+use Rattle.rules.proofs.Sound.{Listed, inGroup, QueueSound}
 use Rattle.slots.specs.Slots.{queueIn}
 use Rattle.slots.proofs.Lists.{length-entries}
 use Rattle.book_sound.specs.EntryParts.{entrySound}

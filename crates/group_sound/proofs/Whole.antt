@@ -19,8 +19,8 @@ use Rattle.rules.specs.Sound as S
 use Rattle.rules.specs.Sound.{setFits, bookListed, sound}
 use Rattle.rules.specs.Alone.{bookSound}
 use Rattle.rules.proofs.TestLaws.{_and_, both-from, within-says, within-from, every-at, every-from, conditions-say, conditions-from, all-at, all-from, optional-in}
-use Rattle.rules.proofs.SoundBooks.{QueueFacts, BookSound}
-use Rattle.rules.proofs.Soundness.{Listed, inGroup, QueueSound, Sound, sound-says, sound-from}
+use Rattle.rules.proofs.Sound.Books.{QueueFacts, BookSound}
+use Rattle.rules.proofs.Sound.{Listed, inGroup, QueueSound, Sound, sound-says, sound-from}
 use Rattle.slots.specs.Slots.{queueIn}
 use Rattle.slots.proofs.Lists.{length-entries}
 use Rattle.book_bytes.specs.Places.{membersAt, selfAt}

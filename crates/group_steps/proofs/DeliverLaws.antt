@@ -18,7 +18,7 @@ use Rattle.rules.specs.Data.{Member, Message, client, info, registered, told, E
 use Rattle.rules.specs.Member.{does, delivered}
 use Rattle.rules.specs.Alone.{viewsOf, carriedOf, messageOf}
 use Rattle.rules.specs.Group.{booked, takeFrom, deliverStep}
-use Rattle.rules.proofs.Soundness.{sound-says}
+use Rattle.rules.proofs.Sound.{sound-says}
 use Rattle.slots.specs.Slots.{slotSize, kindIn, numberIn, messageIn, entriesIn}
 use Rattle.slots.specs.FrameParts.{framed, frameAt}
 use Rattle.slots.proofs.Lists.{length-entries, entries-next, slots-at}

@@ -18,7 +18,7 @@ use Rattle.views.specs.Refusals.{left}
 use Rattle.rules.specs.Data.{Book, need, withView, withFirst, after}
 use Rattle.rules.specs.Member.{passing as passes}
 use Rattle.rules.specs.Group.{passStep}
-use Rattle.rules.proofs.Soundness.{sound-says}
+use Rattle.rules.proofs.Sound.{sound-says}
 use Rattle.slots.specs.Slots.{slotSize}
 use Rattle.slots.proofs.Lists.{length-entries}
 use Rattle.events.specs.Replies.{verdictOf}

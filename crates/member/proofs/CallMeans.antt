@@ -20,7 +20,7 @@ use Rattle.rules.specs.Member.{Done, Passing, passing, delivered, attempts}
 use Rattle.rules.specs.Sound.{countFits}
 use Rattle.rules.specs.Alone.{Sent, sentOf, alone, joinAlone, passAlone, deliverAlone, attemptAlone}
 use Rattle.rules.proofs.TestLaws.{within-says}
-use Rattle.rules.proofs.Readable.{Carries, reading-readable, reading-fits}
+use Rattle.rules.proofs.Alone.Readable.{Carries, reading-readable, reading-fits}
 use Rattle.slots.proofs.Stored.{MessageFits}
 use Rattle.book_bytes.specs.Places.{takenAt}
 use Rattle.book_bytes.specs.Records.{recordIn}

@@ -14,9 +14,9 @@ use Rattle.rules.specs.Data.{Book as Ruled, Result, refused, accepted}
 use Rattle.rules.specs.Member.{Done, Passing}
 use Rattle.rules.specs.Alone.{Sent, sentOf, deliverAlone}
 use Rattle.rules.proofs.TestLaws.{_and_, conditions-from}
-use Rattle.rules.proofs.AloneKept.{KeptAlone, start-kept, join-kept, pass-kept, attempt-kept, register-kept, send-kept, hand-kept, tell-kept, safe-kept, collect-kept}
-use Rattle.rules.proofs.AloneTaken.{Readable, deliver-kept}
-use Rattle.rules.proofs.Readable.{reading-readable}
+use Rattle.rules.proofs.Alone.Kept.{KeptAlone, start-kept, join-kept, pass-kept, attempt-kept, register-kept, send-kept, hand-kept, tell-kept, safe-kept, collect-kept}
+use Rattle.rules.proofs.Alone.Taken.{Readable, deliver-kept}
+use Rattle.rules.proofs.Alone.Readable.{reading-readable}
 use Rattle.events.specs.Replies.{verdictOf}
 use Rattle.book_bytes.specs.Books.{bookIn, layoutFits, bytesSound, membersIn, selfIn}
 use Rattle.book_bytes.proofs.LayoutLaws.{Layout, layout-from}

@@ -12,9 +12,9 @@ use Rattle.rules.specs.Data.{Member, Group, Step, attempt, accepted, ran
 use Rattle.rules.specs.Group.{start}
 use Rattle.rules.specs.Runs.{lastOf, answersOf, eventsOf, Attempted}
 use Rattle.rules.specs.Promise.{Demand3}
-use Rattle.rules.proofs.RunMoves.{began, runs}
-use Rattle.rules.proofs.Whole as W
-use Rattle.rules.proofs.Whole.{trace, share}
+use Rattle.rules.proofs.Flat.RunMoves.{began, runs}
+use Rattle.rules.proofs.Run.Whole as W
+use Rattle.rules.proofs.Run.Whole.{trace, share}
 
 pub demand3 : Demand3
 demand3 weight n S room s e steps =

@@ -1,4 +1,11 @@
 -- The accepted steps of the flat group as a relation, and its runs with their outward events.
+pub mod States
+pub mod Flatten
+pub mod Changes
+pub mod Moves
+pub mod JointMoves
+pub mod RunMoves
+pub mod Queues
 use mathlib.Core.Path.{_≡_}
 use mathlib.Core.Logic.{_≢_, _⊎_}
 use mathlib.Core.List.{List, [], _∷_, _++_}
@@ -12,7 +19,7 @@ use Rattle.views.specs.Lists.{idOf}
 use Rattle.membership.proofs.Counting.{Most}
 use Rattle.rules.specs.Data.{Item, item, Event, attempt, register, send, hand, safe}
 use Rattle.rules.specs.Figure1.{At}
-pub use Rattle.rules.proofs.FlatStates.{Msg, client, info, registered, told, Ent, ent, Flat, createF, joinF, passF, orderF, infoF, heardF, toldF, inwardF, arriveF, attemptF, queueF, handF, safeF, collectF, Holds, flat0}
+pub use Rattle.rules.proofs.Flat.States.{Msg, client, info, registered, told, Ent, ent, Flat, createF, joinF, passF, orderF, infoF, heardF, toldF, inwardF, arriveF, attemptF, queueF, handF, safeF, collectF, Holds, flat0}
 
 -- the accepted steps, of members below a size and with these weights, each with the outward events it gives
 pub data Move {M : Type 0} (size : ℕ) (weight : ℕ → ℕ) : Flat M → Flat M → List (Event M) → Type 0 where

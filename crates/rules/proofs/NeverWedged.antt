@@ -5,10 +5,10 @@ use Rattle.rules.specs.Data.{Member, Group, Step}
 use Rattle.rules.specs.Group.{step}
 use Rattle.rules.specs.Runs.{lastOf}
 use Rattle.rules.specs.Promise.{NeverWedged}
-use Rattle.rules.proofs.Soundness.{sound-from}
-use Rattle.rules.proofs.Kept.{Kept}
-use Rattle.rules.proofs.SoundViews.{kept-start}
-use Rattle.rules.proofs.SoundSteps.{kept-step}
+use Rattle.rules.proofs.Sound.{sound-from}
+use Rattle.rules.proofs.Sound.Kept.{Kept}
+use Rattle.rules.proofs.Sound.Views.{kept-start}
+use Rattle.rules.proofs.Sound.Steps.{kept-step}
 
 pub kept-last : (weight : Member → ℕ) (s : Group) (l : List Step) → Kept s → Kept (lastOf weight s l)
 unfolding lastOf

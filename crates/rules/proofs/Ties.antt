@@ -1,5 +1,11 @@
 -- The tie: what the flat group, the membership machine and Figure 1 have in common while all three run side by side, one statement at a time, and the
 -- record of them all. The membership machine holds no more than the group does, and forgets nothing; Figure 1 keeps what the group drops as pending.
+pub mod Join
+pub mod Pass
+pub mod Take
+pub mod Attempt
+pub mod Send
+pub mod Hand
 use mathlib.Core.Path.{_≡_}
 use mathlib.Core.List.{List, [], _++_}
 use Prim.Native.Nat.{ℕ, suc, _≤_}
@@ -13,7 +19,7 @@ use Rattle.rules.specs.Data.{Item}
 use Rattle.rules.specs.Figure1.{Outer}
 use Rattle.rules.proofs.Flat as F
 use Rattle.rules.proofs.Flat.{Flat, Msg, Ent, ent}
-use Rattle.rules.proofs.Queues.{clientsOf, itemsOf}
+use Rattle.rules.proofs.Flat.Queues.{clientsOf, itemsOf}
 
 module _ {M : Type 0} where
   -- ---- views

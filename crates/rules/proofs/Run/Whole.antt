@@ -20,10 +20,10 @@ use Rattle.rules.specs.Group.{firstView}
 use Rattle.rules.specs.Figure1.{Outer, Run}
 use Rattle.rules.proofs.Flat.{Flat, Steps}
 use Rattle.rules.proofs.Ties.{Tied, client-is, carrier-is, current-is}
-use Rattle.rules.proofs.Listed.{Listed, listed, Naming, Agrees, naming, naming-agrees, to-named, from-named, same-view}
-use Rattle.rules.proofs.Events.{Attempted, Registered, attempted-created, event-created, event-current, registered-shown, registered-event}
-use Rattle.rules.proofs.Beside.{E, Beside}
-use Rattle.rules.proofs.Trace.{beside}
+use Rattle.rules.proofs.Run.Listed.{Listed, listed, Naming, Agrees, naming, naming-agrees, to-named, from-named, same-view}
+use Rattle.rules.proofs.Run.Events.{Attempted, Registered, attempted-created, event-created, event-current, registered-shown, registered-event}
+use Rattle.rules.proofs.Run.Beside.{E, Beside}
+use Rattle.rules.proofs.Run.Trace.{beside}
 
 -- ---- by the events, the first view both from the start
 module _ {M : Type 0} (S : ℕ) (es : List (Event M)) where

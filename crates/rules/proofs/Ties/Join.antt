@@ -17,7 +17,7 @@ use Rattle.membership.proofs.Machine.{State, createS, joinS}
 use Rattle.rules.specs.Figure1.{Outer}
 use Rattle.rules.proofs.Flat as F
 use Rattle.rules.proofs.Flat.{Flat, Msg, createF, joinF}
-use Rattle.rules.proofs.Queues.{clientsOf, in-snoc}
+use Rattle.rules.proofs.Flat.Queues.{clientsOf, in-snoc}
 use Rattle.rules.proofs.Ties.{Tied, settled-is, ListedMade, MadeListed, CreatedListed, SameCarrier, InfosReceived, RegistrationsReceived, Backed, OutgoingBacked, WaitingBacked, OrderBacked, ToldReached, PendingWhole, PendingNone, TakenWithin, Parts, ClientParts, Halves, CarrierHalves}
 
 module _ {M : Type 0} (a : State) (d : Outer M) (s : Flat M) (r : Tied a d s) where

@@ -19,8 +19,8 @@ use Rattle.views.proofs.Members.{In, top, pop, in-cons}
 use Rattle.views.proofs.ListLaws.{rises-less, find-in, above-in, above-rises, length-above, union-in, union-rises, insert-in, insert-rises}
 use Rattle.rules.specs.Data.{Held}
 use Rattle.rules.specs.Member.{ownOr, settledBy, learned, opened}
-use Rattle.rules.proofs.Soundness.{InfoSound, Listed}
-use Rattle.rules.proofs.ListsWithin.{above-fewer}
+use Rattle.rules.proofs.Sound.{InfoSound, Listed}
+use Rattle.rules.proofs.Sound.ListsWithin.{above-fewer}
 
 -- what is held, however many views are open
 pub record HeldWell (Known : View → Type 0) (h : Held) : Type 0 where

@@ -18,15 +18,15 @@ use Rattle.rules.specs.Data.{Identifier, Member, Entry, entry, Book, Gro
 use Rattle.rules.specs.Member.{passing, attempts}
 use Rattle.rules.specs.Sound.{sound}
 use Rattle.rules.specs.Group.{Next, joinStep, passStep, orderStep, takeFrom, deliverStep, stepOf, settles, step}
-use Rattle.rules.proofs.Soundness.{EntrySound, info-sound, QueueSound, inGroup, _and_}
+use Rattle.rules.proofs.Sound.{EntrySound, info-sound, QueueSound, inGroup, _and_}
 use Rattle.rules.proofs.Holding.{gives, given, need-holds, view-holds, first-holds, after-holds, listed-holds, pick-holds}
-use Rattle.rules.proofs.QueueLaws.{length-snoc, queue-snoc, queue-first, next-in, next-below}
-use Rattle.rules.proofs.HeldLaws.{learned-short, opened-short}
-use Rattle.rules.proofs.BookParts.{BookKept, Keeps}
-use Rattle.rules.proofs.Kept.{Unmade, Kept, KeepsGroup, made, book-kept, kept-changed, books-kept, kept-booked, own-kept}
-use Rattle.rules.proofs.SoundMembers.{Passes, joins-keep, passing-keeps, attempted-kept, attempts-hold, registers-keep, sends-keep, hands-keep, tells-keep, safes-keep, collects-keep}
-use Rattle.rules.proofs.SoundDeliver.{Left, took-kept}
-use Rattle.rules.proofs.SoundViews.{creates-keep}
+use Rattle.rules.proofs.Sound.QueueLaws.{length-snoc, queue-snoc, queue-first, next-in, next-below}
+use Rattle.rules.proofs.Sound.HeldLaws.{learned-short, opened-short}
+use Rattle.rules.proofs.Sound.BookParts.{BookKept, Keeps}
+use Rattle.rules.proofs.Sound.Kept.{Unmade, Kept, KeepsGroup, made, book-kept, kept-changed, books-kept, kept-booked, own-kept}
+use Rattle.rules.proofs.Sound.Members.{Passes, joins-keep, passing-keeps, attempted-kept, attempts-hold, registers-keep, sends-keep, hands-keep, tells-keep, safes-keep, collects-keep}
+use Rattle.rules.proofs.Sound.Deliver.{Left, took-kept}
+use Rattle.rules.proofs.Sound.Views.{creates-keep}
 
 module _ (s : Group) (h : Kept s) where
   -- ---- one queue changed

@@ -16,11 +16,11 @@ use Rattle.rules.specs.Data.{Identifier, Member, EntryOf, BookOf, GroupO
 use Rattle.rules.specs.Member.{DoneOf}
 use Rattle.rules.specs.Sound.{orderAt}
 use Rattle.rules.specs.Group.{NextOf, booked, own}
-use Rattle.rules.proofs.Soundness.{QueueSound, BookSound, Sound, inGroup}
+use Rattle.rules.proofs.Sound.{QueueSound, BookSound, Sound, inGroup}
 use Rattle.rules.proofs.Holding.{Holds, gives, after-holds}
-use Rattle.rules.proofs.ListsWithin.{Within}
-use Rattle.rules.proofs.HeldLaws.{Made}
-use Rattle.rules.proofs.BookParts.{BookKept, Keeps, parts-of, sound-of}
+use Rattle.rules.proofs.Sound.ListsWithin.{Within}
+use Rattle.rules.proofs.Sound.HeldLaws.{Made}
+use Rattle.rules.proofs.Sound.BookParts.{BookKept, Keeps, parts-of, sound-of}
 
 -- ---- the group
 

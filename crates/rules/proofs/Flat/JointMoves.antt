@@ -28,11 +28,11 @@ use Rattle.rules.specs.Figure1.{At}
 use Rattle.rules.specs.Runs.{lastOf, answersOf, eventsOf}
 use Rattle.rules.proofs.Flat as F
 use Rattle.rules.proofs.Flat.{Flat, Move, Steps, flat0}
-use Rattle.rules.proofs.Flatten.{flat, msgOf, entOf, bare}
-use Rattle.rules.proofs.Changes as C
-use Rattle.rules.proofs.Soundness.{Sound, sound-says}
+use Rattle.rules.proofs.Flat.Flatten.{flat, msgOf, entOf, bare}
+use Rattle.rules.proofs.Flat.Changes as C
+use Rattle.rules.proofs.Sound.{Sound, sound-says}
 use Rattle.rules.proofs.Holding.{Holds, gives, given, need-holds, view-holds, first-holds, after-holds, then-holds, listed-holds, pick-holds}
-use Rattle.rules.proofs.Moves.{in-map, map-in, sender, Own, shown, Moved, create-moves, owned, moved, handed-fits, same-view, join-well, attempt-well, register-well, send-well, tell-well, hand-well, safe-well, collect-well}
+use Rattle.rules.proofs.Flat.Moves.{in-map, map-in, sender, Own, shown, Moved, create-moves, owned, moved, handed-fits, same-view, join-well, attempt-well, register-well, send-well, tell-well, hand-well, safe-well, collect-well}
 
 pub map-drop : {A B : Type 0} (f : A → B) (n : ℕ) (l : List A) → drop n (map f l) ≡ map f (drop n l)
 map-drop f zero l = refl

@@ -15,10 +15,10 @@ use Rattle.views.proofs.PointLaws.{upd-ind}
 use Rattle.rules.specs.Data.{Member, MessageOf, client, info, registered, told, entry, Item, item, BookOf}
 use Rattle.rules.specs.Member.{clientIsCarrier, takes, received, learned, delivered}
 use Rattle.rules.specs.Sound.{limitAt}
-use Rattle.rules.proofs.SoundBooks.{Setting, EntryFacts, entry-from, info-sound, told-sound, ItemsFrom}
-use Rattle.rules.proofs.HeldLaws.{held-sound, learned-well}
-use Rattle.rules.proofs.QueueLaws.{length-snoc, items-snoc, limit-le, limit-at, limit-snoc}
-use Rattle.rules.proofs.BookParts.{CarrierSound, ClientSound, BookKept}
+use Rattle.rules.proofs.Sound.Books.{Setting, EntryFacts, entry-from, info-sound, told-sound, ItemsFrom}
+use Rattle.rules.proofs.Sound.HeldLaws.{held-sound, learned-well}
+use Rattle.rules.proofs.Sound.QueueLaws.{length-snoc, items-snoc, limit-le, limit-at, limit-snoc}
+use Rattle.rules.proofs.Sound.BookParts.{CarrierSound, ClientSound, BookKept}
 
 module _ {M : Type 0} where
   -- v is the carrier view of b, in whose order a message is left

@@ -33,10 +33,10 @@ use Rattle.rules.specs.Group.{NextOf, fits, booked, own, creates, joinSt
 use Rattle.rules.specs.Figure1.{At}
 use Rattle.rules.proofs.Flat as F
 use Rattle.rules.proofs.Flat.{Flat, Move}
-use Rattle.rules.proofs.Flatten.{flat, msgOf, entOf, bare, map-snoc, put2}
-use Rattle.rules.proofs.Changes as C
-use Rattle.rules.proofs.Changes.{queuedBook}
-use Rattle.rules.proofs.Soundness.{Sound, BookSound}
+use Rattle.rules.proofs.Flat.Flatten.{flat, msgOf, entOf, bare, map-snoc, put2}
+use Rattle.rules.proofs.Flat.Changes as C
+use Rattle.rules.proofs.Flat.Changes.{queuedBook}
+use Rattle.rules.proofs.Sound.{Sound, BookSound}
 use Rattle.rules.proofs.TestLaws.{every-at, all-at}
 use Rattle.rules.proofs.Holding.{Holds, gives, given, need-holds, view-holds, first-holds, after-holds, listed-holds, pick-holds}
 

@@ -10,7 +10,7 @@ use Rattle.views.specs.declared.View.{View}
 use Rattle.views.proofs.Members.{In, top, pop, in-nil, in-cons, in-append}
 use Rattle.rules.specs.Data.{EntryOf, Item, item}
 use Rattle.rules.specs.Sound.{limitAt}
-use Rattle.rules.proofs.Soundness.{EntryFacts, QueueFacts, ItemsFrom}
+use Rattle.rules.proofs.Sound.{EntryFacts, QueueFacts, ItemsFrom}
 
 -- ---- one more at the end
 

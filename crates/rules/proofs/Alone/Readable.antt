@@ -27,7 +27,7 @@ use Rattle.wire.proofs.RoundTrip.{read-takes-all}
 use Rattle.rules.specs.Data.{Message, accepted}
 use Rattle.rules.specs.Alone.{Sent, viewsOf, carriedOf, messageOf, sentBy, sentOf}
 use Rattle.rules.proofs.TestLaws.{within-says, within-from}
-use Rattle.rules.proofs.AloneTaken.{Readable}
+use Rattle.rules.proofs.Alone.Taken.{Readable}
 
 -- a message within its widths: the identifiers and sets of its views (past the end stands the zero view), its number, its count of views
 pub record Carries (m : Message) : Type 0 where

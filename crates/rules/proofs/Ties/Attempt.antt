@@ -13,7 +13,7 @@ use Rattle.membership.proofs.Updates.{Plus2, Put}
 use Rattle.membership.proofs.Machine.{State, attemptS, collectS}
 use Rattle.rules.specs.Figure1.{Outer}
 use Rattle.rules.proofs.Flat.{Flat, attemptF, collectF}
-use Rattle.rules.proofs.Queues.{itemsOf}
+use Rattle.rules.proofs.Flat.Queues.{itemsOf}
 use Rattle.rules.proofs.Ties.{Tied, CreatedListed, CreatedAttempted, AttemptedCreated, SameClient, SameSettled, OpenedListed, SameCurrent, Parts, ClientParts, Halves, CarrierHalves, ReceivedGiven, SafelyReported, CountsNone}
 
 module _ {M : Type 0} (a : State) (d : Outer M) (s : Flat M) (r : Tied a d s) where

@@ -1,5 +1,9 @@
 -- The member by itself as a setting: every view whose set has members, all of them among the n, is known, and of a view's order 128 messages can be taken.
 -- What refusal 4's test of its book says, as the facts that the laws of a member's steps are about, and back.
+pub mod Kept
+pub mod Taken
+pub mod Readable
+pub mod Peculiar
 use mathlib.Core.Path.{_≡_, refl}
 use mathlib.Core.Bool.{Bool, true}
 use mathlib.Core.Option.{Option, none, some}
@@ -14,8 +18,8 @@ use Rattle.rules.specs.Member.{all}
 use Rattle.rules.specs.Sound.{within, countFits, setFits, opensRise, fromMember}
 use Rattle.rules.specs.Alone.{viewsOf, bookViews, limitIf, setsFit, setFitsIf, bookSound}
 use Rattle.rules.proofs.TestLaws.{all-at, all-from, _and_, conditions-say, conditions-from}
-use Rattle.rules.proofs.SoundBooks.{Setting, viewsIn, EntryTests, entry-says, entry-tests, book-says, book-tests}
-use Rattle.rules.proofs.BookParts.{BookKept, parts-of, sound-of}
+use Rattle.rules.proofs.Sound.Books.{Setting, viewsIn, EntryTests, entry-says, entry-tests, book-says, book-tests}
+use Rattle.rules.proofs.Sound.BookParts.{BookKept, parts-of, sound-of}
 
 abbrev pub Fits : ℕ → View → Type 0
 Fits n v = setFits n v ≡ true

@@ -19,17 +19,17 @@ use Rattle.rules.specs.Figure1 as D
 use Rattle.rules.specs.Figure1.{Outer, Run, outer0}
 use Rattle.rules.proofs.Flat as F
 use Rattle.rules.proofs.Flat.{Flat, Msg, ent, Move, Steps, flat0, orderF}
-use Rattle.rules.proofs.Queues.{clientsOf, itemsOf, place-in}
+use Rattle.rules.proofs.Flat.Queues.{clientsOf, itemsOf, place-in}
 use Rattle.rules.proofs.Ties.{Tied, carrier-is, client-is, settled-is, current-is}
-use Rattle.rules.proofs.TieJoin.{create-tied, join-tied}
-use Rattle.rules.proofs.TiePass.{pass-tied, order-quiet, first-pending, order-client}
-use Rattle.rules.proofs.TieTake.{info-sent, info-tied, heard-tied, told-tied, inward-tied, arrive-tied}
-use Rattle.rules.proofs.TieSend.{register-tied, register-old-tied, tell-tied, send-tied, send-old-tied}
-use Rattle.rules.proofs.TieHand.{hand-at, hand-tied, safe-at, safe-tied}
-use Rattle.rules.proofs.TieAttempt.{collect-tied}
-use Rattle.rules.proofs.Listed.{Naming, Agrees, to-named, from-named, same-view, same-id, find, added, stays}
-use Rattle.rules.proofs.Events.{first-registered, registered-first}
-use Rattle.rules.proofs.Beside.{E, Beside, Acts, nothing, acts, goes-on, Follows, attempt-beside}
+use Rattle.rules.proofs.Ties.Join.{create-tied, join-tied}
+use Rattle.rules.proofs.Ties.Pass.{pass-tied, order-quiet, first-pending, order-client}
+use Rattle.rules.proofs.Ties.Take.{info-sent, info-tied, heard-tied, told-tied, inward-tied, arrive-tied}
+use Rattle.rules.proofs.Ties.Send.{register-tied, register-old-tied, tell-tied, send-tied, send-old-tied}
+use Rattle.rules.proofs.Ties.Hand.{hand-at, hand-tied, safe-at, safe-tied}
+use Rattle.rules.proofs.Ties.Attempt.{collect-tied}
+use Rattle.rules.proofs.Run.Listed.{Naming, Agrees, to-named, from-named, same-view, same-id, find, added, stays}
+use Rattle.rules.proofs.Run.Events.{first-registered, registered-first}
+use Rattle.rules.proofs.Run.Beside.{E, Beside, Acts, nothing, acts, goes-on, Follows, attempt-beside}
 
 module _ (size : ℕ) (weight : ℕ → ℕ) (n : Naming size) {M : Type 0} (S : ℕ) where
   module _ (s : Flat M) (ag : Agrees n (s .views)) (a : State) (d : Outer M) (ra : Reach (E size weight n) a) (r : Tied a d s) where

@@ -17,11 +17,11 @@ use Rattle.rules.specs.Member.{DoneOf, all, learned, delivered}
 use Rattle.rules.specs.Sound.{countFits, setFits, opensRise}
 use Rattle.rules.specs.Alone.{SentOf, viewsOf, deliverAlone}
 use Rattle.rules.proofs.TestLaws.{all-at}
-use Rattle.rules.proofs.SoundBooks.{EntryFacts, entry-says}
+use Rattle.rules.proofs.Sound.Books.{EntryFacts, entry-says}
 use Rattle.rules.proofs.Holding.{gives, need-holds, view-holds}
-use Rattle.rules.proofs.SoundDeliver.{took-kept}
-use Rattle.rules.proofs.AloneSound.{Fits, byItself, KeptAlone}
-use Rattle.rules.proofs.AloneKept.{call-keeps}
+use Rattle.rules.proofs.Sound.Deliver.{took-kept}
+use Rattle.rules.proofs.Alone.{Fits, byItself, KeptAlone}
+use Rattle.rules.proofs.Alone.Kept.{call-keeps}
 
 module _ {M : Type 0} where
   -- what the reader lets through, whatever the bytes: a told count within its limit, an info's open views rising above the settled one, at most 32 views

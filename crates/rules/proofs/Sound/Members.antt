@@ -20,11 +20,11 @@ use Rattle.rules.specs.Data.{Member, MessageOf, client, registered, told
 use Rattle.rules.specs.Member.{DoneOf, clientIsCarrier, isAbove, outgoes, queues, hasRoom, joined, joins, PassingOf, passing, opened, attempted, attempts, noted, registers, sends, moves, hands, tells, safes, collected, collects}
 use Rattle.rules.specs.Sound.{limitAt}
 use Rattle.rules.specs.Group.{firstView, fresh}
-use Rattle.rules.proofs.SoundBooks.{Setting, EntryFacts, clientEntry, infoEntry, registeredEntry, toldEntry, QueueFacts}
+use Rattle.rules.proofs.Sound.Books.{Setting, EntryFacts, clientEntry, infoEntry, registeredEntry, toldEntry, QueueFacts}
 use Rattle.rules.proofs.Holding.{Holds, gives, need-holds, view-holds, first-holds}
-use Rattle.rules.proofs.HeldLaws.{held-sound, opened-well, collected-sound}
-use Rattle.rules.proofs.QueueLaws.{queue-snoc, queue-one, queue-first, next-below, next-taken, limit-le, limit-at}
-use Rattle.rules.proofs.BookParts.{BookKept, Keeps}
+use Rattle.rules.proofs.Sound.HeldLaws.{held-sound, opened-well, collected-sound}
+use Rattle.rules.proofs.Sound.QueueLaws.{queue-snoc, queue-one, queue-first, next-below, next-taken, limit-le, limit-at}
+use Rattle.rules.proofs.Sound.BookParts.{BookKept, Keeps}
 
 first-view : (S : ℕ) (c : Bool) (v : View) → cond c (some (firstView S)) none ≡ some v → firstView S ≡ v
 first-view S true v e = cc

@@ -15,7 +15,7 @@ use Rattle.membership.proofs.Machine.{State, registerS}
 use Rattle.rules.specs.Figure1.{Outer}
 use Rattle.rules.proofs.Flat as F
 use Rattle.rules.proofs.Flat.{Flat, Msg, queueF}
-use Rattle.rules.proofs.Queues.{clientsOf, in-snoc, clients-append}
+use Rattle.rules.proofs.Flat.Queues.{clientsOf, in-snoc, clients-append}
 use Rattle.rules.proofs.Ties.{Tied, RegisteredOutward, RegisteredInward, Backed, OutgoingBacked, WaitingBacked, OrderBacked, Begins, PendingBegins, PendingWhole, PendingNone}
 
 module _ {M : Type 0} (a : State) (d : Outer M) (s : Flat M) (r : Tied a d s) where

@@ -21,11 +21,11 @@ use Rattle.views.proofs.Members.{In, top, pop}
 use Rattle.views.proofs.ListLaws.{rising-unique, find-in, above-keep, union-left, union-right, insert-in, insert-there}
 use Rattle.rules.specs.Data.{Member, info, EntryOf, entry, Held, GroupOf}
 use Rattle.rules.specs.Member.{ownOr, settledBy, learned, opened}
-use Rattle.rules.proofs.Soundness.{EntrySound, info-sound, Listed, Sound}
-use Rattle.rules.proofs.ListsWithin.{Within}
-use Rattle.rules.proofs.HeldLaws.{HeldSound, learned-short, opened-short}
-use Rattle.rules.proofs.QueueLaws.{next-in, next-below}
-use Rattle.rules.proofs.Kept.{made}
+use Rattle.rules.proofs.Sound.{EntrySound, info-sound, Listed, Sound}
+use Rattle.rules.proofs.Sound.ListsWithin.{Within}
+use Rattle.rules.proofs.Sound.HeldLaws.{HeldSound, learned-short, opened-short}
+use Rattle.rules.proofs.Sound.QueueLaws.{next-in, next-below}
+use Rattle.rules.proofs.Sound.Kept.{made}
 
 -- ---- over what is held of a rising list of views
 

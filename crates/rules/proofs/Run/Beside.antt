@@ -23,8 +23,8 @@ use Rattle.rules.specs.Figure1 as D
 use Rattle.rules.specs.Figure1.{Outer, Act, Run, Total, Apart}
 use Rattle.rules.proofs.Flat.{Flat, Holds, attemptF}
 use Rattle.rules.proofs.Ties.{Tied, carrier-is, client-is, settled-is, current-is}
-use Rattle.rules.proofs.TieAttempt.{attempt-tied}
-use Rattle.rules.proofs.Listed.{Naming, Agrees, to-named, from-named, same-view}
+use Rattle.rules.proofs.Ties.Attempt.{attempt-tied}
+use Rattle.rules.proofs.Run.Listed.{Naming, Agrees, to-named, from-named, same-view}
 
 -- what Figure 1 does beside one step: nothing, a step with its events, or a create and then a new view
 pub data Acts {M : Type 0} : Outer M → Outer M → List (Event M) → Type 0 where

@@ -17,7 +17,7 @@ use Rattle.rules.specs.Member.{outgoes, takes, received, moves, noted, j
 use Rattle.rules.specs.Group.{booked}
 use Rattle.rules.proofs.Flat as F
 use Rattle.rules.proofs.Flat.{Msg, Ent, ent, Flat, joinF, passF, orderF, infoF, heardF, toldF, inwardF, arriveF, attemptF, queueF, handF, safeF, collectF}
-use Rattle.rules.proofs.Flatten.{flat, msgOf, entOf, bare, put, put2, keep, map-snoc, take-next, drop-next, carrierF, clientF, settledF, opensF, outgoingF, infosF, regsF, toldsF, takenF, arrivedF, aheadF, givenF, reportedF}
+use Rattle.rules.proofs.Flat.Flatten.{flat, msgOf, entOf, bare, put, put2, keep, map-snoc, take-next, drop-next, carrierF, clientF, settledF, opensF, outgoingF, infosF, regsF, toldsF, takenF, arrivedF, aheadF, givenF, reportedF}
 
 module _ {M : Type 0} where
   -- b with a message more outgoing, and with these two things noted

@@ -18,13 +18,13 @@ use Rattle.rules.specs.Data.{Identifier, Member, EntryOf, GroupOf, accep
 use Rattle.rules.specs.Member.{all}
 use Rattle.rules.specs.Sound.{within}
 use Rattle.rules.specs.Group.{fits, firstView, fresh, started, start, creates}
-use Rattle.rules.proofs.Soundness.{EntryFacts, clientEntry, infoEntry, registeredEntry, toldEntry, QueueFacts, Listed, inGroup, all-at, within-says}
+use Rattle.rules.proofs.Sound.{EntryFacts, clientEntry, infoEntry, registeredEntry, toldEntry, QueueFacts, Listed, inGroup, all-at, within-says}
 use Rattle.rules.proofs.Holding.{Holds, gives, given, need-holds}
-use Rattle.rules.proofs.ListsWithin.{Within, rising-snoc}
-use Rattle.rules.proofs.QueueLaws.{in-snoc, length-snoc}
-use Rattle.rules.proofs.BookParts.{BookKept, sound-of}
-use Rattle.rules.proofs.SoundMembers.{fresh-kept}
-use Rattle.rules.proofs.Kept.{Kept, KeepsGroup, book-kept, book-moves}
+use Rattle.rules.proofs.Sound.ListsWithin.{Within, rising-snoc}
+use Rattle.rules.proofs.Sound.QueueLaws.{in-snoc, length-snoc}
+use Rattle.rules.proofs.Sound.BookParts.{BookKept, sound-of}
+use Rattle.rules.proofs.Sound.Members.{fresh-kept}
+use Rattle.rules.proofs.Sound.Kept.{Kept, KeepsGroup, book-kept, book-moves}
 
 fits-say : (n S : ℕ) → fits n S ≡ true → (isEmpty S ≡ false) × (isBeyond S n ≡ false)
 unfolding fits

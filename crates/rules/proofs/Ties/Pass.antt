@@ -13,7 +13,7 @@ use Rattle.rules.specs.Data.{Item, item}
 use Rattle.rules.specs.Figure1.{Outer}
 use Rattle.rules.proofs.Flat as F
 use Rattle.rules.proofs.Flat.{Flat, Msg, ent, passF, orderF}
-use Rattle.rules.proofs.Queues.{clientsOf, itemsOf, in-snoc, no-first, clients-append, items-append, items-more}
+use Rattle.rules.proofs.Flat.Queues.{clientsOf, itemsOf, in-snoc, no-first, clients-append, items-append, items-more}
 use Rattle.rules.proofs.Ties.{Tied, Backed, OutgoingBacked, WaitingBacked, OrderBacked, SameQueue, Begins, PendingBegins, PendingWhole, PendingNone, TakenWithin, Parts, ClientParts, Halves, CarrierHalves}
 
 module _ {M : Type 0} (a : State) (d : Outer M) (s : Flat M) (r : Tied a d s) where

@@ -15,7 +15,7 @@ use Rattle.rules.specs.Data.{Event}
 use Rattle.rules.specs.Group.{firstView}
 use Rattle.rules.proofs.Flat as F
 use Rattle.rules.proofs.Flat.{Flat, Move, Steps}
-use Rattle.rules.proofs.Queues.{in-snoc}
+use Rattle.rules.proofs.Flat.Queues.{in-snoc}
 
 -- equal views have equal identifiers
 pub same-id : {u v : View} → u ≡ v → idOf u ≡ idOf v

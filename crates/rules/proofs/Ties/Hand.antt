@@ -12,7 +12,7 @@ use Rattle.rules.specs.Data.{Item}
 use Rattle.rules.specs.Figure1.{Outer, At}
 use Rattle.rules.proofs.Flat as F
 use Rattle.rules.proofs.Flat.{Flat, Msg, handF, safeF}
-use Rattle.rules.proofs.Queues.{place-below}
+use Rattle.rules.proofs.Flat.Queues.{place-below}
 use Rattle.rules.proofs.Ties.{Tied, Backed, OutgoingBacked, WaitingBacked, OrderBacked, ToldReached, Parts, ClientParts, ReceivedGiven, SafelyReported, CountsNone}
 
 module _ {M : Type 0} (a : State) (d : Outer M) (s : Flat M) (r : Tied a d s) where

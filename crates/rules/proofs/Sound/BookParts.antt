@@ -8,9 +8,9 @@ use Rattle.views.specs.Limits.{maxOutgoing, maxOrdered}
 use Rattle.rules.specs.Data.{Member, AtCarrierOf, AtClientOf, BookOf, Result, rank}
 use Rattle.rules.specs.Member.{DoneOf}
 use Rattle.rules.specs.Sound.{limitAt, carrierInward}
-use Rattle.rules.proofs.SoundBooks.{Setting, QueueFacts, ItemsFrom, BookSound}
+use Rattle.rules.proofs.Sound.Books.{Setting, QueueFacts, ItemsFrom, BookSound}
 use Rattle.rules.proofs.Holding.{Holds}
-use Rattle.rules.proofs.HeldLaws.{HeldSound}
+use Rattle.rules.proofs.Sound.HeldLaws.{HeldSound}
 
 module _ {M : Type 0} where
   pub record CarrierSound (s : Setting) (c : AtCarrierOf M) : Type 0 where

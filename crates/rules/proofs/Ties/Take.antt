@@ -16,7 +16,7 @@ use Rattle.rules.specs.Data.{Item, item}
 use Rattle.rules.specs.Figure1.{Outer}
 use Rattle.rules.proofs.Flat as F
 use Rattle.rules.proofs.Flat.{Flat, Ent, ent, infoF, heardF, toldF, inwardF, arriveF}
-use Rattle.rules.proofs.Queues.{itemsOf, place-in, place-below, items-next}
+use Rattle.rules.proofs.Flat.Queues.{itemsOf, place-in, place-below, items-next}
 use Rattle.rules.proofs.Ties.{Tied, settled-is, SameSettled, OpenedListed, InfosReceived, RegistrationsReceived, Backed, ToldReached, TakenWithin, Parts, ClientParts, Halves, CarrierHalves}
 
 module _ {M : Type 0} (a : State) (d : Outer M) (s : Flat M) (r : Tied a d s) where

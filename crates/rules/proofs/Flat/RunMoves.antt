@@ -20,11 +20,11 @@ use Rattle.rules.specs.Sound.{sound}
 use Rattle.rules.specs.Group.{Next, fits, stepOf, settles, step, start, started, firstView, fresh}
 use Rattle.rules.specs.Runs.{lastOf, answersOf, eventsOf}
 use Rattle.rules.proofs.Flat.{Flat, Move, Steps, flat0}
-use Rattle.rules.proofs.Flatten.{flat}
-use Rattle.rules.proofs.Soundness.{Sound, sound-says}
+use Rattle.rules.proofs.Flat.Flatten.{flat}
+use Rattle.rules.proofs.Sound.{Sound, sound-says}
 use Rattle.rules.proofs.Holding.{Holds, refuses, gives, given, need-holds, view-holds, first-holds, after-holds, listed-holds, pick-holds}
-use Rattle.rules.proofs.Moves.{true-T, T-true, sender, Own, shown, Moved, create-moves, owned, attempt-well, register-well, send-well, tell-well, hand-well, safe-well, collect-well}
-use Rattle.rules.proofs.JointMoves.{join-moves, pass-moves, order-moves, deliver-moves}
+use Rattle.rules.proofs.Flat.Moves.{true-T, T-true, sender, Own, shown, Moved, create-moves, owned, attempt-well, register-well, send-well, tell-well, hand-well, safe-well, collect-well}
+use Rattle.rules.proofs.Flat.JointMoves.{join-moves, pass-moves, order-moves, deliver-moves}
 
 events-shown : (a : Answer) (l : List Answer) → eventsOf (a ∷ l) ≡ shown a ++ eventsOf l
 unfolding eventsOf shown

@@ -1,5 +1,15 @@
 -- What sound records of a group say, as plain facts, and back: from the test that gives refusal 4 to a record of facts, and from the facts to the test.
 -- The facts of one book and of one queue are those of SoundBooks, with a group as the setting.
+pub mod Books
+pub mod ListsWithin
+pub mod HeldLaws
+pub mod QueueLaws
+pub mod BookParts
+pub mod Kept
+pub mod Members
+pub mod Deliver
+pub mod Views
+pub mod Steps
 use mathlib.Core.Path.{_≡_, refl}
 use mathlib.Core.Bool.{Bool, true, false, not}
 use mathlib.Core.List.{List, _∷_}
@@ -17,8 +27,8 @@ use Rattle.rules.specs.Data.{Member, client, info, registered, told, Ent
 use Rattle.rules.specs.Member.{every, all}
 use Rattle.rules.specs.Sound.{everyBook, everyQueue, everyEntry, countFits, orderAt, bookCounts, counts, setFits, opensRise, listed, bookListed, infoListed, fromMember, itemFromMember, sound}
 pub use Rattle.rules.proofs.TestLaws.{both-from, within-says, within-from, every-at, every-from, all-at, all-from, _and_, Conditions, conditions-say, conditions-from, listed-in, listed-from, optional-in, optional-from}
-pub use Rattle.rules.proofs.SoundBooks.{Setting, InfoSound, EntryFacts, clientEntry, infoEntry, registeredEntry, toldEntry, QueueFacts, ItemsFrom, BookSound, entry-from, info-sound, told-sound}
-use Rattle.rules.proofs.SoundBooks.{viewsIn, EntryTests, entry-says, entry-tests, BookTests, book-says, book-tests}
+pub use Rattle.rules.proofs.Sound.Books.{Setting, InfoSound, EntryFacts, clientEntry, infoEntry, registeredEntry, toldEntry, QueueFacts, ItemsFrom, BookSound, entry-from, info-sound, told-sound}
+use Rattle.rules.proofs.Sound.Books.{viewsIn, EntryTests, entry-says, entry-tests, BookTests, book-says, book-tests}
 
 -- ---- the facts
 

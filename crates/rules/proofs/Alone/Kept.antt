@@ -11,10 +11,10 @@ use Rattle.rules.specs.Sound.{within}
 use Rattle.rules.specs.Group.{fits, fresh}
 use Rattle.rules.specs.Alone.{startAlone, alone, joinAlone, passAlone, attemptAlone}
 use Rattle.rules.proofs.Holding.{Holds, gives, given, need-holds, after-holds, then-holds}
-use Rattle.rules.proofs.BookParts.{BookKept, Keeps}
-use Rattle.rules.proofs.SoundMembers.{fresh-kept, Passes, joins-keep, passing-keeps, attempted-kept, attempts-hold, registers-keep, sends-keep, hands-keep, tells-keep, safes-keep, collects-keep}
-use Rattle.rules.proofs.AloneSound.{byItself, members-within, alone-says, alone-from}
-pub use Rattle.rules.proofs.AloneSound.{KeptAlone}
+use Rattle.rules.proofs.Sound.BookParts.{BookKept, Keeps}
+use Rattle.rules.proofs.Sound.Members.{fresh-kept, Passes, joins-keep, passing-keeps, attempted-kept, attempts-hold, registers-keep, sends-keep, hands-keep, tells-keep, safes-keep, collects-keep}
+use Rattle.rules.proofs.Alone.{byItself, members-within, alone-says, alone-from}
+pub use Rattle.rules.proofs.Alone.{KeptAlone}
 
 module _ {M : Type 0} where
   -- ---- start
