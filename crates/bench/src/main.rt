@@ -1,5 +1,5 @@
-// The bench: a reply to each line of standard input, as document 01's section 'The bench' has it. What a line does is `session`; here are only
-// reading and writing, many lines to a call of the system.
+// The bench: a reply to each line of standard input, as document 01's section 'The bench' has it. What a line does is
+// `session`; here are only reading and writing, many lines to a call of the system.
 mod pieces;
 
 ghost use lib.ListN.{length};
@@ -21,7 +21,8 @@ fn main() {
     run(&mut list, &mut all, &mut queues, &mut input, &mut out);
 }
 
-// Round after round until the input ends. A proved loop has to end, so it counts down from a number that no run uses up.
+// Round after round until the input ends. A proved loop has to end, so it counts down from a number that no run uses
+// up.
 fn run(list: &mut [u8], all: &mut [u8], queues: &mut [u8], input: &mut [u8], out: &mut [u8]) {
     let mut running = false;
     let mut held: usize = 0;

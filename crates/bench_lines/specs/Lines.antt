@@ -73,13 +73,18 @@ unfoldable pub made : Form → Numeral → Numeral → Line
 made f Unfit b = Unreadable
 made f (Number x) Unfit = Unreadable
 made f (Number x) (Number y) =
-    cond (eqb (f .kind) groupKind) (Group (record { members = x; set = y })) (Step (record { kind = f .kind; first = x; second = y }))
+    cond (eqb (f .kind) groupKind) (Group (record { members = x; set = y })) (Step (record {
+      kind = f .kind;
+      first = x;
+      second = y;
+    }))
 
 -- as many words behind the name as the form has operands, each within its width; a missing second operand is 0
 unfoldable pub withOperands : Form → List (List ℕ) → Line
 withOperands f [] = Unreadable
 withOperands f (w ∷ []) = cond (eqb (f .second) 0) (made f (numeralOf (f .first) w) (Number 0)) Unreadable
-withOperands f (w ∷ v ∷ []) = cond (eqb (f .second) 0) Unreadable (made f (numeralOf (f .first) w) (numeralOf (f .second) v))
+withOperands f (w ∷ v ∷ []) =
+    cond (eqb (f .second) 0) Unreadable (made f (numeralOf (f .first) w) (numeralOf (f .second) v))
 withOperands f (w ∷ v ∷ u ∷ ws) = Unreadable
 
 unfoldable pub asks : List (List ℕ) → Line

@@ -27,7 +27,8 @@ numbersText (x ∷ xs) = (space ∷ decimal x) ++ numbersText xs
 abbrev pub spoken : List ℕ → List ℕ → List ℕ
 spoken word xs = (word ++ numbersText xs) ++ (lineFeed ∷ [])
 
--- the member P, the client view I, the set S, the sender Q, the entry number V; an event of any other kind is none, and `ok` is said
+-- the member P, the client view I, the set S, the sender Q, the entry number V; an event of any other kind is none, and
+-- `ok` is said
 unfoldable pub eventLine : Event → List ℕ
 eventLine e =
     let p = e .member .0 in

@@ -1,4 +1,5 @@
--- Lines put to a bench one after another, and what is promised of them: demand 3, of all that the bench says since its last accepted `group`.
+-- Lines put to a bench one after another, and what is promised of them: demand 3, of all that the bench says since its
+-- last accepted `group`.
 use mathlib.Core.Path.{_≡_}
 use mathlib.Core.Bool.{Bool, true, false, not}
 use mathlib.Core.List.{List, [], _∷_}
@@ -40,9 +41,11 @@ starts r (Step c) = false
 -- none of the lines is
 unfoldable pub noneStarts : Bool → Ranges → List Line → Bool
 noneStarts running r [] = true
-noneStarts running r (x ∷ l) = let o = answerTo running r x in both (not (starts r x)) (noneStarts (o .running) (o .ranges) l)
+noneStarts running r (x ∷ l) =
+    let o = answerTo running r x in both (not (starts r x)) (noneStarts (o .running) (o .ranges) l)
 
--- for a bench in any state, as any lines left it: `group n S` accepted, then lines of any bytes, none of them an accepted `group`
+-- for a bench in any state, as any lines left it: `group n S` accepted, then lines of any bytes, none of them an
+-- accepted `group`
 abbrev pub BenchPromise : Type 0
 BenchPromise =
     (running : Bool) (r : Ranges) (n S : ℕ) → starts r (groupLine n S) ≡ true

@@ -46,7 +46,11 @@ unfoldable pub answerTo : Bool → Ranges → Line → Outcome
 answerTo running r Unreadable = unread running r
 answerTo running r (Group s) =
     let v = verdictOf (startResult (s .members) (s .set) r) in
-    record { reply = replied v noEvent; running = nowRunning v running; ranges = leftRanges v (startRanges (s .members) (s .set) r) r }
+    record {
+      reply = replied v noEvent;
+      running = nowRunning v running;
+      ranges = leftRanges v (startRanges (s .members) (s .set) r) r;
+    }
 answerTo running r (Step s) =
     let c = asked (s .kind) (s .first) (s .second) in
     cond running (record { reply = stepReply r c; running = true; ranges = stepRanges r c }) (unread running r)

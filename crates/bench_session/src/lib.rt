@@ -41,7 +41,8 @@ fn begin(
     members: u8,
     set: u8,
 ) -> Answered
-    ensures { λ r. ⌜ Answers running (ranges (now (list .entry)) (now (all .entry)) (now (queues .entry))) (groupLine members set) (ranges (now (list .exit)) (now (all .exit)) (now (queues .exit))) r ⌝ }
+    ensures { λ r. ⌜ Answers running (ranges (now (list .entry)) (now (all .entry)) (now (queues .entry)))
+        (groupLine members set) (ranges (now (list .exit)) (now (all .exit)) (now (queues .exit))) r ⌝ }
 {
     let v = group::start::start(list, all, queues, members, set);
     let reply = group::step::plain(v);
@@ -62,7 +63,8 @@ fn go(
     first: u32,
     second: u64,
 ) -> Answered
-    ensures { λ r. ⌜ Answers running (ranges (now (list .entry)) (now (all .entry)) (now (queues .entry))) (stepLine kind first second) (ranges (now (list .exit)) (now (all .exit)) (now (queues .exit))) r ⌝ }
+    ensures { λ r. ⌜ Answers running (ranges (now (list .entry)) (now (all .entry)) (now (queues .entry)))
+        (stepLine kind first second) (ranges (now (list .exit)) (now (all .exit)) (now (queues .exit))) r ⌝ }
 {
     if !running {
         return unread(false);
@@ -82,7 +84,8 @@ pub fn answer(
     running: bool,
     line: &[u8],
 ) -> Answered
-    ensures { λ r. ⌜ Answers running (ranges (now (list .entry)) (now (all .entry)) (now (queues .entry))) (lineOf (now (line .entry))) (ranges (now (list .exit)) (now (all .exit)) (now (queues .exit))) r ⌝ }
+    ensures { λ r. ⌜ Answers running (ranges (now (list .entry)) (now (all .entry)) (now (queues .entry)))
+        (lineOf (now (line .entry))) (ranges (now (list .exit)) (now (all .exit)) (now (queues .exit))) r ⌝ }
 {
     let asked = bench_lines::lines::read(line);
     match asked {

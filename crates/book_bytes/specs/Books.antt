@@ -10,7 +10,8 @@ use Rattle.rules.specs.Data.{Entry, Item, Member}
 use Rattle.rules.specs.Sound.{conditions}
 use Rattle.rules.specs.Alone.{bookSound}
 use Rattle.slots.specs.Slots.{queueIn, itemsIn, slotsFit}
-use Rattle.book_bytes.specs.Places.{membersAt, carrierAt, clientAt, registeredAt, sideAt, opensAt, outgoingAt, inwardAt, bookSize, selfAt}
+use Rattle.book_bytes.specs.Places.{membersAt, carrierAt, clientAt, registeredAt, sideAt, opensAt, outgoingAt}
+use Rattle.book_bytes.specs.Places.{inwardAt, bookSize, selfAt}
 use Rattle.book_bytes.specs.Records.{recordIn, meaning}
 
 -- the number of members, and the member's own number

@@ -16,7 +16,8 @@ use Rattle.rules.specs.Data as R
 use Rattle.rules.specs.Data.{Entry, Item}
 use Rattle.book_bytes.specs.declared.Seat.{Seat}
 use Rattle.book_bytes.specs.declared.Record.{Record}
-use Rattle.book_bytes.specs.Places.{settledAt, carrierAt, clientAt, registeredAt, handedAt, toldAt, reportedAt, takenAt, infosAt, registrationsAt, toldsAt, sideAt, opensAt}
+use Rattle.book_bytes.specs.Places.{settledAt, carrierAt, clientAt, registeredAt, handedAt, toldAt, reportedAt}
+use Rattle.book_bytes.specs.Places.{takenAt, infosAt, registrationsAt, toldsAt, sideAt, opensAt}
 
 -- ---- which book it is
 
@@ -27,8 +28,22 @@ seated s = cond (s .there) (some (s .view)) none
 abbrev pub meaning : Record → List Entry → List (Item ℕ) → List (Item ℕ) → R.Book
 meaning h out own new = record {
   held = record { settled = h .settled; opens = listOf (h .opens) };
-  carrier = record { view = seated (h .carrier); infos = has (h .infos); registrations = has (h .registrations); tolds = λ q. getD (h .tolds) q 0; taken = h .taken .0; inward = new };
-  client = record { view = seated (h .client); registered = h .registered; inward = own; handed = h .handed .0; told = h .told .0; reported = h .reported .0 };
+  carrier = record {
+    view = seated (h .carrier);
+    infos = has (h .infos);
+    registrations = has (h .registrations);
+    tolds = λ q. getD (h .tolds) q 0;
+    taken = h .taken .0;
+    inward = new;
+  };
+  client = record {
+    view = seated (h .client);
+    registered = h .registered;
+    inward = own;
+    handed = h .handed .0;
+    told = h .told .0;
+    reported = h .reported .0;
+  };
   outgoing = out;
 }
 
@@ -71,10 +86,13 @@ storeSeats b h = storeSeat (storeSeat (storeView b settledAt (h .settled)) carri
 
 unfoldable pub storeCounts : List ℕ → Record → List ℕ
 storeCounts b h =
-    set (set (set (set (set b registeredAt (flag (h .registered))) handedAt (h .handed .0)) toldAt (h .told .0)) reportedAt (h .reported .0)) takenAt (h .taken .0)
+    set (set (set (set (set b registeredAt (flag (h .registered))) handedAt (h .handed .0)) toldAt (h .told .0))
+    reportedAt (h .reported .0)) takenAt (h .taken .0)
 
 unfoldable pub storeNotes : List ℕ → Record → List ℕ
-storeNotes b h = set (paste (set (set b infosAt (h .infos)) registrationsAt (h .registrations)) toldsAt (h .tolds) maxMembers) sideAt (h .side)
+storeNotes b h =
+    set (paste (set (set b infosAt (h .infos)) registrationsAt (h .registrations)) toldsAt (h .tolds) maxMembers)
+    sideAt (h .side)
 
 unfoldable pub storeOpens : List ℕ → Record → List ℕ
 storeOpens b h = storeViews (set b opensAt (h .opens .count)) (opensAt + 1) (listOf (h .opens))

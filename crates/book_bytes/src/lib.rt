@@ -11,7 +11,8 @@ ghost use mathlib.Core.Path.{_≡_};
 ghost use lib.ListN.{length, take, drop};
 ghost use Rattle.views.specs.Limits.{maxMembers, maxOpen};
 ghost use Rattle.book_bytes.specs.Places.{seatSize, bookSize, toldsAt};
-ghost use Rattle.book_bytes.specs.Records.{seatIn, recordIn, flag, storeSeat, storeSeats, storeCounts, storeNotes, storeOpens, storeRecord};
+ghost use Rattle.book_bytes.specs.Records.{seatIn, recordIn, flag, storeSeat, storeSeats, storeCounts};
+ghost use Rattle.book_bytes.specs.Records.{storeNotes, storeOpens, storeRecord};
 
 // A view or none. Without a view, what `view` holds means nothing.
 pub struct Seat {
@@ -33,7 +34,8 @@ pub struct Record {
     pub infos: u8,
     pub registrations: u8,
     pub tolds: [u8; 8],
-    // Which of the two inward lists is the client view's: 0 or 1. The other is the carrier view's while it is not attempted.
+    // Which of the two inward lists is the client view's: 0 or 1. The other is the carrier view's while it is not
+    // attempted.
     pub side: u8,
 }
 

@@ -16,13 +16,15 @@ use Rattle.book_bytes.specs.Records.{seated}
 use Rattle.book_bytes.specs.Places.{carrierAt, clientAt, registeredAt, sideAt, opensAt, outgoingAt, inwardAt}
 use Rattle.book_bytes.specs.Books.{outgoingIn, inwardIn}
 
--- a record of n members, with so many items in the client view's inward list and in that of a carrier view not attempted
+-- a record of n members, with so many items in the client view's inward list and in that of a carrier view not
+-- attempted
 unfoldable pub recordSound : ℕ → Record → ℕ → ℕ → Bool
 recordSound n h own new = conditions (
     within 1 n maxMembers
     ∷ every n (λ q. leb (getD (h .tolds) q 0) maxOrdered)
     ∷ leb (h .taken .0) (limitIf (seated (h .carrier)) maxOrdered)
-    ∷ leb (limitIf (seated (h .carrier)) (cond (eqb (rank (seated (h .client))) (rank (seated (h .carrier)))) own new)) (h .taken .0)
+    ∷ leb (limitIf (seated (h .carrier)) (cond (eqb (rank (seated (h .client))) (rank (seated (h .carrier)))) own new))
+    (h .taken .0)
     ∷ leb (h .handed .0) (limitIf (seated (h .client)) own)
     ∷ leb (h .told .0) (limitIf (seated (h .client)) own)
     ∷ leb (h .reported .0) (limitIf (seated (h .client)) own)
@@ -36,7 +38,8 @@ recordSound n h own new = conditions (
 unfoldable pub takenFits : Record → ℕ → ℕ → Bool
 takenFits h own new = conditions (
     leb (h .taken .0) (limitIf (seated (h .carrier)) maxOrdered)
-    ∷ leb (limitIf (seated (h .carrier)) (cond (eqb (rank (seated (h .client))) (rank (seated (h .carrier)))) own new)) (h .taken .0)
+    ∷ leb (limitIf (seated (h .carrier)) (cond (eqb (rank (seated (h .client))) (rank (seated (h .carrier)))) own new))
+    (h .taken .0)
     ∷ [])
 
 -- of the positions in the client view's inward list

@@ -67,7 +67,8 @@ pub fn rising(b: &[u8], from: usize, count: usize) -> bool
 // Every set fits, and the identifiers rise.
 pub fn sound(b: &[u8], from: usize, count: usize, n: u8) -> bool
     requires { ⌜ from + viewSize * count ≤ length (now b) ⌝ }
-    ensures { λ r. ⌜ r ≡ both (all (setFits n) (viewsIn (now (b .entry)) from count)) (isRising (viewsIn (now (b .entry)) from count)) ⌝ }
+    ensures { λ r. ⌜ r ≡ both (all (setFits n) (viewsIn (now (b .entry)) from count))
+        (isRising (viewsIn (now (b .entry)) from count)) ⌝ }
 {
     if !all_fit(b, from, count, n) {
         return false;

@@ -16,7 +16,8 @@ use Rattle.book_bytes.specs.declared.Record.{Record}
 use Rattle.book_bytes.specs.Places.{sideAt, outgoingAt, inwardAt}
 use Rattle.book_bytes.specs.Records.{recordIn, storeRecord}
 use Rattle.book_bytes.specs.Books.{bookIn}
-use Rattle.record_steps.specs.Turns.{marked, joinedTo, attemptedAt, settledAs, clientTurn, infoTurn, registeredTurn, toldTurn}
+use Rattle.record_steps.specs.Turns.{marked, joinedTo, attemptedAt, settledAs, clientTurn, infoTurn, registeredTurn}
+use Rattle.record_steps.specs.Turns.{toldTurn}
 use Rattle.book_bytes.specs.Books.{selfIn}
 
 -- ---- 43: an attempt, or a message taken, that would leave more than 31 views open
@@ -43,7 +44,8 @@ unfoldable pub joinBytes : View → List ℕ → List ℕ
 joinBytes v b =
     let h = recordIn b in
     let emptied = set b (inwardAt (1 - getD b sideAt 0)) 0 in
-    storeRecord (set (storeMessage emptied (outgoingAt + 1) (selfIn b) (info (h .settled) (listOf (h .opens)))) outgoingAt 1) (joinedTo v h)
+    storeRecord (set (storeMessage emptied (outgoingAt + 1) (selfIn b) (info (h .settled) (listOf (h .opens))))
+    outgoingAt 1) (joinedTo v h)
 
 -- ---- 3. pass: the first outgoing message goes
 
@@ -65,28 +67,33 @@ takeBytes q (told k) b = storeRecord b (toldTurn q k (recordIn b))
 -- ---- 6. attempt: the old inward list goes, and the record's side is now the other
 
 unfoldable pub attemptBytes : List ℕ → List ℕ
-attemptBytes b = let h = recordIn b in storeRecord (set b (inwardAt (getD b sideAt 0)) 0) (attemptedAt (h .carrier .view) h)
+attemptBytes b =
+    let h = recordIn b in storeRecord (set b (inwardAt (getD b sideAt 0)) 0) (attemptedAt (h .carrier .view) h)
 
 -- ---- 7 to 11. register, send, hand, tell, safe
 
 unfoldable pub registerBytes : List ℕ → List ℕ
 registerBytes b =
     let h = recordIn b in
-    storeRecord (queuedIf (clientIsCarrier (bookIn b)) registered b) (marked true (h .handed .0) (h .told .0) (h .reported .0) h)
+    storeRecord (queuedIf (clientIsCarrier (bookIn b)) registered b)
+    (marked true (h .handed .0) (h .told .0) (h .reported .0) h)
 
 unfoldable pub sendBytes : ℕ → List ℕ → List ℕ
 sendBytes x b = queuedIf (clientIsCarrier (bookIn b)) (client x) b
 
 unfoldable pub handBytes : List ℕ → List ℕ
-handBytes b = let h = recordIn b in storeRecord b (marked (h .registered) (h .handed .0 + 1) (h .told .0) (h .reported .0) h)
+handBytes b =
+    let h = recordIn b in storeRecord b (marked (h .registered) (h .handed .0 + 1) (h .told .0) (h .reported .0) h)
 
 unfoldable pub tellBytes : List ℕ → List ℕ
 tellBytes b =
     let h = recordIn b in
-    storeRecord (queuedIf (clientIsCarrier (bookIn b)) (told (h .handed .0)) b) (marked (h .registered) (h .handed .0) (h .handed .0) (h .reported .0) h)
+    storeRecord (queuedIf (clientIsCarrier (bookIn b)) (told (h .handed .0)) b)
+    (marked (h .registered) (h .handed .0) (h .handed .0) (h .reported .0) h)
 
 unfoldable pub safeBytes : List ℕ → List ℕ
-safeBytes b = let h = recordIn b in storeRecord b (marked (h .registered) (h .handed .0) (h .told .0) (h .reported .0 + 1) h)
+safeBytes b =
+    let h = recordIn b in storeRecord b (marked (h .registered) (h .handed .0) (h .told .0) (h .reported .0 + 1) h)
 
 -- ---- 12. collect
 

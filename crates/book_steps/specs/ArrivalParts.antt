@@ -24,7 +24,8 @@ use Rattle.record_steps.specs.Turns.{bookOf, clientTurn, infoTurn, registeredTu
 
 -- no inward list of a carrier view not attempted, and one info of p outgoing with what the record holds
 unfoldable pub announced : Member → Record → List ℕ → List ℕ
-announced p h b = set (storeInfo (set b (inwardAt (1 - h .side)) 0) (outgoingAt + 1) p (h .settled ∷ listOf (h .opens))) outgoingAt 1
+announced p h b =
+    set (storeInfo (set b (inwardAt (1 - h .side)) 0) (outgoingAt + 1) p (h .settled ∷ listOf (h .opens))) outgoingAt 1
 
 -- ---- a message taken
 

@@ -33,13 +33,15 @@ spoken h kind x = record { there = clientIsCarrier (bookOf h 0 0); kind = kind; 
 unfoldable pub saidBytes : Said → List ℕ → List ℕ
 saidBytes m b =
     let n = getD b outgoingAt 0 in
-    cond (m .there) (set (storeShort b (outgoingAt + 1 + slotSize * n) (selfIn b) (m .kind) (m .number)) outgoingAt (n + 1)) b
+    cond (m .there) (set (storeShort b (outgoingAt + 1 + slotSize * n) (selfIn b) (m .kind) (m .number)) outgoingAt
+    (n + 1)) b
 
 -- the event of item k of the inward list with its count at c, in the client view; no event past its end
 unfoldable pub itemEvent : List ℕ → ℕ → ℕ → ℕ → Record → Event
 itemEvent b c k kind h =
     let i = c + 1 + itemSize * k in
-    cond (leb (getD b c 0) k) noEvent (happened kind (selfIn b) (named (idOf (h .client .view))) (getD b i 0) (get b (i + itemNumber) numberSize))
+    cond (leb (getD b c 0) k) noEvent
+    (happened kind (selfIn b) (named (idOf (h .client .view))) (getD b i 0) (get b (i + itemNumber) numberSize))
 
 unfoldable pub attemptEvent : Record → Member → Event
 attemptEvent h p = happened attemptKind p (h .carrier .view) 0 0

@@ -25,7 +25,8 @@ ghost use Rattle.book_steps.specs.ArrivalParts.{announced};
 ghost use Rattle.book_steps.specs.Acts.{joinBytes, fewOpen, attemptBytes, collectBytes};
 ghost use Rattle.book_steps.specs.Parts.{fewStepped, attemptEvent};
 
-// The inward list of a carrier view not attempted goes, and outgoing holds one info of the member p with what the record holds.
+// The inward list of a carrier view not attempted goes, and outgoing holds one info of the member p with what the
+// record holds.
 fn announce(b: &mut [u8], p: Member, h: Record)
     requires { ⌜ (bookSize ≤ length (now b)) × (h .side ≤ 1) × (h .opens .count ≤ maxOpen) ⌝ }
     ensures { λ _. ⌜ now (b .exit) ≡ announced (p .0) h (now (b .entry)) ⌝ }
@@ -40,9 +41,11 @@ fn announce(b: &mut [u8], p: Member, h: Record)
 
 // What was held is announced and the record after the turn stored, where the turn is accepted.
 fn enter(b: &mut [u8], p: Member, h: Record, s: Stepped) -> Reply
-    requires { ⌜ (bookSize ≤ length (now b)) × (h .side ≤ 1) × (h .opens .count ≤ maxOpen) × (s .book .opens .count ≤ maxOpen) ⌝ }
+    requires { ⌜ (bookSize ≤ length (now b)) × (h .side ≤ 1) × (h .opens .count ≤ maxOpen)
+        × (s .book .opens .count ≤ maxOpen) ⌝ }
     ensures { λ r. ⌜ (r ≡ replied (s .verdict) noEvent)
-        × (now (b .exit) ≡ left (s .verdict) (storeRecord (announced (p .0) h (now (b .entry))) (s .book)) (now (b .entry))) ⌝ }
+        × (now (b .exit) ≡ left (s .verdict) (storeRecord (announced (p .0) h (now (b .entry))) (s .book))
+        (now (b .entry))) ⌝ }
 {
     let verdict = s.verdict;
     match verdict {
@@ -63,7 +66,8 @@ fn enter(b: &mut [u8], p: Member, h: Record, s: Stepped) -> Reply
 pub fn join(b: &mut [u8], v: View) -> Reply
     requires { ⌜ bytesSound (now b) ≡ true ⌝ }
     ensures { λ r. ⌜ (r ≡ replyOf (joins (selfIn (now (b .entry))) v (bookIn (now (b .entry)))))
-        × (now (b .exit) ≡ left (verdictOf (joins (selfIn (now (b .entry))) v (bookIn (now (b .entry))))) (joinBytes v (now (b .entry))) (now (b .entry))) ⌝ }
+        × (now (b .exit) ≡ left (verdictOf (joins (selfIn (now (b .entry))) v (bookIn (now (b .entry)))))
+        (joinBytes v (now (b .entry))) (now (b .entry))) ⌝ }
 {
     let h = book_bytes::load(b);
     let p = Member(b[book_bytes::SELF]);
@@ -112,8 +116,11 @@ fn empty(b: &mut [u8], side: u8)
 // The carrier view becomes open and becomes the client view; the old inward list goes.
 pub fn attempt(b: &mut [u8]) -> Reply
     requires { ⌜ bytesSound (now b) ≡ true ⌝ }
-    ensures { λ r. ⌜ (r ≡ replyOf (fewOpen (attempts one (membersIn (now (b .entry))) (selfIn (now (b .entry))) (bookIn (now (b .entry))))))
-        × (now (b .exit) ≡ left (verdictOf (fewOpen (attempts one (membersIn (now (b .entry))) (selfIn (now (b .entry))) (bookIn (now (b .entry)))))) (attemptBytes (now (b .entry))) (now (b .entry))) ⌝ }
+    ensures { λ r. ⌜ (r ≡ replyOf
+        (fewOpen (attempts one (membersIn (now (b .entry))) (selfIn (now (b .entry))) (bookIn (now (b .entry))))))
+        × (now (b .exit) ≡ left
+        (verdictOf (fewOpen (attempts one (membersIn (now (b .entry))) (selfIn (now (b .entry)))
+        (bookIn (now (b .entry)))))) (attemptBytes (now (b .entry))) (now (b .entry))) ⌝ }
 {
     let h = book_bytes::load(b);
     let s = few_open(
@@ -140,7 +147,8 @@ pub fn attempt(b: &mut [u8]) -> Reply
 pub fn collect(b: &mut [u8]) -> Reply
     requires { ⌜ bytesSound (now b) ≡ true ⌝ }
     ensures { λ r. ⌜ (r ≡ replyOf (collects (membersIn (now (b .entry))) (bookIn (now (b .entry)))))
-        × (now (b .exit) ≡ left (verdictOf (collects (membersIn (now (b .entry))) (bookIn (now (b .entry))))) (collectBytes (now (b .entry))) (now (b .entry))) ⌝ }
+        × (now (b .exit) ≡ left (verdictOf (collects (membersIn (now (b .entry))) (bookIn (now (b .entry)))))
+        (collectBytes (now (b .entry))) (now (b .entry))) ⌝ }
 {
     let h = book_bytes::load(b);
     let s = record_steps::carrier_view::collect(b[book_bytes::MEMBERS], h);

@@ -1,5 +1,5 @@
-// The steps in the client view, in a sound book's bytes: register, send and tell, which put a message at the end of outgoing; hand and safe, which
-// change the record alone.
+// The steps in the client view, in a sound book's bytes: register, send and tell, which put a message at the end of
+// outgoing; hand and safe, which change the record alone.
 use crate::Said;
 use book_bytes::Record;
 use events::Event;
@@ -54,7 +54,8 @@ fn in_client(h: Record, kind: u8, p: Member, entry: u64) -> Event
 pub fn register(b: &mut [u8]) -> Reply
     requires { ⌜ bytesSound (now b) ≡ true ⌝ }
     ensures { λ r. ⌜ (r ≡ replyOf (registers (selfIn (now (b .entry))) (bookIn (now (b .entry)))))
-        × (now (b .exit) ≡ left (verdictOf (registers (selfIn (now (b .entry))) (bookIn (now (b .entry))))) (registerBytes (now (b .entry))) (now (b .entry))) ⌝ }
+        × (now (b .exit) ≡ left (verdictOf (registers (selfIn (now (b .entry))) (bookIn (now (b .entry)))))
+        (registerBytes (now (b .entry))) (now (b .entry))) ⌝ }
 {
     let h = book_bytes::load(b);
     let p = Member(b[book_bytes::SELF]);
@@ -68,7 +69,8 @@ pub fn register(b: &mut [u8]) -> Reply
 pub fn send(b: &mut [u8], entry: u64) -> Reply
     requires { ⌜ bytesSound (now b) ≡ true ⌝ }
     ensures { λ r. ⌜ (r ≡ replyOf (sends (selfIn (now (b .entry))) entry (bookIn (now (b .entry)))))
-        × (now (b .exit) ≡ left (verdictOf (sends (selfIn (now (b .entry))) entry (bookIn (now (b .entry))))) (sendBytes entry (now (b .entry))) (now (b .entry))) ⌝ }
+        × (now (b .exit) ≡ left (verdictOf (sends (selfIn (now (b .entry))) entry (bookIn (now (b .entry)))))
+        (sendBytes entry (now (b .entry))) (now (b .entry))) ⌝ }
 {
     let h = book_bytes::load(b);
     let p = Member(b[book_bytes::SELF]);
@@ -115,7 +117,8 @@ fn of_item(b: &[u8], at: usize, k: u8, kind: u8, h: Record) -> Event
 pub fn hand(b: &mut [u8]) -> Reply
     requires { ⌜ bytesSound (now b) ≡ true ⌝ }
     ensures { λ r. ⌜ (r ≡ replyOf (hands (selfIn (now (b .entry))) (bookIn (now (b .entry)))))
-        × (now (b .exit) ≡ left (verdictOf (hands (selfIn (now (b .entry))) (bookIn (now (b .entry))))) (handBytes (now (b .entry))) (now (b .entry))) ⌝ }
+        × (now (b .exit) ≡ left (verdictOf (hands (selfIn (now (b .entry))) (bookIn (now (b .entry)))))
+        (handBytes (now (b .entry))) (now (b .entry))) ⌝ }
 {
     let h = book_bytes::load(b);
     let at = book_bytes::INWARD + book_bytes::APART * (h.side as usize);
@@ -128,7 +131,8 @@ pub fn hand(b: &mut [u8]) -> Reply
 pub fn tell(b: &mut [u8]) -> Reply
     requires { ⌜ bytesSound (now b) ≡ true ⌝ }
     ensures { λ r. ⌜ (r ≡ replyOf (tells (selfIn (now (b .entry))) (bookIn (now (b .entry)))))
-        × (now (b .exit) ≡ left (verdictOf (tells (selfIn (now (b .entry))) (bookIn (now (b .entry))))) (tellBytes (now (b .entry))) (now (b .entry))) ⌝ }
+        × (now (b .exit) ≡ left (verdictOf (tells (selfIn (now (b .entry))) (bookIn (now (b .entry)))))
+        (tellBytes (now (b .entry))) (now (b .entry))) ⌝ }
 {
     let h = book_bytes::load(b);
     let s = record_steps::client_view::tell(h, b[book_bytes::OUTGOING]);
@@ -140,8 +144,11 @@ pub fn tell(b: &mut [u8]) -> Reply
 // The next handed message not yet reported is reported, once every member of the view told of it.
 pub fn safe(b: &mut [u8]) -> Reply
     requires { ⌜ bytesSound (now b) ≡ true ⌝ }
-    ensures { λ r. ⌜ (r ≡ replyOf (safes (membersIn (now (b .entry))) (selfIn (now (b .entry))) (bookIn (now (b .entry)))))
-        × (now (b .exit) ≡ left (verdictOf (safes (membersIn (now (b .entry))) (selfIn (now (b .entry))) (bookIn (now (b .entry))))) (safeBytes (now (b .entry))) (now (b .entry))) ⌝ }
+    ensures { λ r. ⌜ (r ≡ replyOf
+        (safes (membersIn (now (b .entry))) (selfIn (now (b .entry))) (bookIn (now (b .entry)))))
+        × (now (b .exit) ≡ left
+        (verdictOf (safes (membersIn (now (b .entry))) (selfIn (now (b .entry))) (bookIn (now (b .entry)))))
+        (safeBytes (now (b .entry))) (now (b .entry))) ⌝ }
 {
     let h = book_bytes::load(b);
     let at = book_bytes::INWARD + book_bytes::APART * (h.side as usize);

@@ -1,4 +1,5 @@
-// A member's steps in a sound book's bytes. Each loads the small record, turns it by value, and writes only where it is accepted; here is what they share.
+// A member's steps in a sound book's bytes. Each loads the small record, turns it by value, and writes only where it is
+// accepted; here is what they share.
 pub mod carrier_view;
 pub mod client_view;
 pub mod info;
@@ -47,8 +48,11 @@ pub fn say(b: &mut [u8], m: Said)
 
 // The message is queued and the record stored, where the step is accepted.
 pub fn commit(b: &mut [u8], s: Stepped, m: Said, e: events::Event) -> events::Reply
-    requires { ⌜ (bookSize ≤ length (now b)) × (s .book .opens .count ≤ maxOpen) × (s .verdict ≡ Accepted → m .there ≡ true → getD (now b) outgoingAt 0 < maxOutgoing) ⌝ }
-    ensures { λ r. ⌜ (r ≡ replied (s .verdict) e) × (now (b .exit) ≡ left (s .verdict) (storeRecord (saidBytes m (now (b .entry))) (s .book)) (now (b .entry))) ⌝ }
+    requires { ⌜ (bookSize ≤ length (now b)) × (s .book .opens .count ≤ maxOpen)
+        × (s .verdict ≡ Accepted → m .there ≡ true → getD (now b) outgoingAt 0 < maxOutgoing) ⌝ }
+    ensures { λ r. ⌜ (r ≡ replied (s .verdict) e)
+        × (now (b .exit) ≡ left (s .verdict) (storeRecord (saidBytes m (now (b .entry))) (s .book))
+        (now (b .entry))) ⌝ }
 {
     let verdict = s.verdict;
     match verdict {
@@ -68,7 +72,8 @@ pub fn commit(b: &mut [u8], s: Stepped, m: Said, e: events::Event) -> events::Re
 // The same of a step that says nothing.
 pub fn keep(b: &mut [u8], s: Stepped, e: events::Event) -> events::Reply
     requires { ⌜ (bookSize ≤ length (now b)) × (s .book .opens .count ≤ maxOpen) ⌝ }
-    ensures { λ r. ⌜ (r ≡ replied (s .verdict) e) × (now (b .exit) ≡ left (s .verdict) (storeRecord (now (b .entry)) (s .book)) (now (b .entry))) ⌝ }
+    ensures { λ r. ⌜ (r ≡ replied (s .verdict) e)
+        × (now (b .exit) ≡ left (s .verdict) (storeRecord (now (b .entry)) (s .book)) (now (b .entry))) ⌝ }
 {
     let m = Said {
         there: false,

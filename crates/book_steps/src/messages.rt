@@ -29,7 +29,8 @@ pub struct Entry {
     pub message: Message,
 }
 
-// The record after an entry, with an info's views beside it. More than 31 views may be open then: that is for the caller to refuse.
+// The record after an entry, with an info's views beside it. More than 31 views may be open then: that is for the
+// caller to refuse.
 fn turned(e: Entry, list: Views, h: Record) -> Record
     requires { ⌜ (e .sender .0 < maxMembers) × (h .taken .0 < 255) × (h .opens .count ≤ maxOpen) ⌝ }
     ensures { λ r. ⌜ r ≡ turned (e .sender .0) (e .message) (listOf list) h ⌝ }
@@ -78,7 +79,8 @@ fn receive(b: &mut [u8], e: Entry, h: Record)
 fn keep(b: &mut [u8], e: Entry, h: Record, next: Record) -> Reply
     requires { ⌜ (bookSize ≤ length (now b)) × (h .side ≤ 1) × (getD (now b) (gainingOf h) 0 < maxOrdered) ⌝ }
     ensures { λ r. ⌜ (r ≡ replied (openVerdict next) noEvent)
-        × (now (b .exit) ≡ left (openVerdict next) (storeRecord (gainedBy (e .message) (gainingOf h) (e .sender .0) (now (b .entry))) next) (now (b .entry))) ⌝ }
+        × (now (b .exit) ≡ left (openVerdict next)
+        (storeRecord (gainedBy (e .message) (gainingOf h) (e .sender .0) (now (b .entry))) next) (now (b .entry))) ⌝ }
 {
     if limits::OPEN < next.opens.count {
         return events::refuse(Refusal::TooManyOpen);
@@ -93,9 +95,12 @@ fn keep(b: &mut [u8], e: Entry, h: Record, next: Record) -> Reply
 
 // The message of the sender q is taken; 43 where more than 31 views would be open then.
 pub fn deliver(b: &mut [u8], q: Member, f: Frame) -> Reply
-    requires { ⌜ (bytesSound (now b) ≡ true) × (q .0 < maxMembers) × (getD (now b) takenAt 0 < maxOrdered) × (getD (now b) carrierAt 0 ≡ 1) ⌝ }
-    ensures { λ r. ⌜ (r ≡ replyOf (taking (q .0) (messageOf (f .message) (listOf (f .views))) (bookIn (now (b .entry)))))
-        × (now (b .exit) ≡ left (verdictOf (taking (q .0) (messageOf (f .message) (listOf (f .views))) (bookIn (now (b .entry)))))
+    requires { ⌜ (bytesSound (now b) ≡ true) × (q .0 < maxMembers) × (getD (now b) takenAt 0 < maxOrdered)
+        × (getD (now b) carrierAt 0 ≡ 1) ⌝ }
+    ensures { λ r. ⌜ (r ≡ replyOf
+        (taking (q .0) (messageOf (f .message) (listOf (f .views))) (bookIn (now (b .entry)))))
+        × (now (b .exit) ≡ left
+        (verdictOf (taking (q .0) (messageOf (f .message) (listOf (f .views))) (bookIn (now (b .entry)))))
         (takeBytes (q .0) (messageOf (f .message) (listOf (f .views))) (now (b .entry))) (now (b .entry))) ⌝ }
 {
     let h = book_bytes::load(b);

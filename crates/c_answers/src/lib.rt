@@ -1,5 +1,5 @@
-// Answers as numbers and lent bytes: a verdict's number; the bytes of an event, which the calls of the C interface and the answers of a run share,
-// and of a message's length; and numbers of 32 bits taken in a byte.
+// Answers as numbers and lent bytes: a verdict's number; the bytes of an event, which the calls of the C interface and
+// the answers of a run share, and of a message's length; and numbers of 32 bits taken in a byte.
 use events::Event;
 use events::Reply;
 use views::refusal;
@@ -67,7 +67,8 @@ pub fn put_event(out: &mut [u8], e: Event)
 // The number of a call that gives an event out: a refusal leaves the bytes.
 pub fn answer(out: &mut [u8], r: Reply) -> u32
     requires { ⌜ length (now out) ≡ eventSize ⌝ }
-    ensures { λ x. ⌜ (x ≡ codeOf (r .verdict)) × (now (out .exit) ≡ left (r .verdict) (eventBytes (r .event)) (now (out .entry))) ⌝ }
+    ensures { λ x. ⌜ (x ≡ codeOf (r .verdict))
+        × (now (out .exit) ≡ left (r .verdict) (eventBytes (r .event)) (now (out .entry))) ⌝ }
 {
     let v = r.verdict;
     match v {

@@ -1,4 +1,5 @@
--- What a call that lends a book and an event gives and leaves: x is the number given, b and e the book and the event before it, b' and e' after it.
+-- What a call that lends a book and an event gives and leaves: x is the number given, b and e the book and the event
+-- before it, b' and e' after it.
 use mathlib.Core.Path.{_≡_}
 use mathlib.Core.List.{List}
 use Prim.Native.Nat.{ℕ}

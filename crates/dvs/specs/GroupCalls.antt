@@ -1,4 +1,5 @@
--- What start and step of the whole group give and leave: x is the number given, r the three ranges before the call and d after it, e and e' the event.
+-- What start and step of the whole group give and leave: x is the number given, r the three ranges before the call and
+-- d after it, e and e' the event.
 use mathlib.Core.Path.{_≡_}
 use mathlib.Core.List.{List}
 use Prim.Native.Nat.{ℕ}

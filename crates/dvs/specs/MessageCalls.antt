@@ -1,5 +1,5 @@
--- What pass, read and write give and leave: x is the number given, b the book, o the buffer, l the bytes of a length, m the message's record,
--- each before the call, and with a ' after it.
+-- What pass, read and write give and leave: x is the number given, b the book, o the buffer, l the bytes of a length, m
+-- the message's record, each before the call, and with a ' after it.
 use mathlib.Core.Path.{_≡_}
 use mathlib.Core.List.{List}
 use Prim.Native.Nat.{ℕ}

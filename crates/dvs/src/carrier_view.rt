@@ -10,7 +10,8 @@ ghost use Rattle.dvs.specs.EventCalls.{Shows};
 // The carrier gave this member a view: it becomes the carrier view.
 #[no_mangle]
 pub extern "C" fn dvs_join(book: &mut [u8], view: u32, set: u32) -> u32
-    ensures { λ r. ⌜ Gives (verdictOf (joinCall (viewOf view set) (now (book .entry)))) (joinBytes (viewOf view set) (now (book .entry))) (now (book .entry)) (now (book .exit)) r ⌝ }
+    ensures { λ r. ⌜ Gives (verdictOf (joinCall (viewOf view set) (now (book .entry))))
+        (joinBytes (viewOf view set) (now (book .entry))) (now (book .entry)) (now (book .exit)) r ⌝ }
 {
     let r = member::carrier_view::join(book, view, c_answers::narrow(set, 0));
     let v = r.verdict;
@@ -20,7 +21,8 @@ pub extern "C" fn dvs_join(book: &mut [u8], view: u32, set: u32) -> u32
 // The carrier view is attempted: it becomes the client view.
 #[no_mangle]
 pub extern "C" fn dvs_attempt(book: &mut [u8], event: &mut [u8]) -> u32
-    ensures { λ r. ⌜ Shows (attemptCall (now (book .entry))) (attemptBytes (now (book .entry))) (now (book .entry)) (now (book .exit)) (now (event .entry)) (now (event .exit)) r ⌝ }
+    ensures { λ r. ⌜ Shows (attemptCall (now (book .entry))) (attemptBytes (now (book .entry))) (now (book .entry))
+        (now (book .exit)) (now (event .entry)) (now (event .exit)) r ⌝ }
 {
     if event.len() != c_answers::EVENT {
         return c_answers::refused(Refusal::RecordsUnsound);
@@ -32,7 +34,8 @@ pub extern "C" fn dvs_attempt(book: &mut [u8], event: &mut [u8]) -> u32
 // The carrier view, registered by all its members, becomes settled.
 #[no_mangle]
 pub extern "C" fn dvs_collect(book: &mut [u8]) -> u32
-    ensures { λ r. ⌜ Gives (verdictOf (collectCall (now (book .entry)))) (collectBytes (now (book .entry))) (now (book .entry)) (now (book .exit)) r ⌝ }
+    ensures { λ r. ⌜ Gives (verdictOf (collectCall (now (book .entry)))) (collectBytes (now (book .entry)))
+        (now (book .entry)) (now (book .exit)) r ⌝ }
 {
     let r = member::carrier_view::collect(book);
     let v = r.verdict;

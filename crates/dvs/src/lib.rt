@@ -1,5 +1,6 @@
-// The C interface: plain numbers and byte ranges, 0 for accepted or the refusal's number. docs/LAYOUT.md has the bytes of what a call gives out, and
-// include/dvs.h says the same to a C or C++ host. Numbers come in 32 bits, so that nothing is cut off silently.
+// The C interface: plain numbers and byte ranges, 0 for accepted or the refusal's number. docs/LAYOUT.md has the bytes
+// of what a call gives out, and include/dvs.h says the same to a C or C++ host. Numbers come in 32 bits, so that
+// nothing is cut off silently.
 pub mod carrier_view;
 pub mod client_view;
 pub mod messages;

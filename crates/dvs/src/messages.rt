@@ -1,4 +1,5 @@
-// Messages and the bytes that go over the line: a member gives one out and takes one in, and any message is read into a record and written from one.
+// Messages and the bytes that go over the line: a member gives one out and takes one in, and any message is read into a
+// record and written from one.
 use views::refusal::Refusal;
 use views::refusal::Verdict;
 use wire::format;
@@ -10,7 +11,8 @@ ghost use Rattle.dvs.specs.BookCalls.{Gives};
 // The first outgoing message goes to the front of the buffer, and its length to `length`.
 #[no_mangle]
 pub extern "C" fn dvs_pass(book: &mut [u8], buffer: &mut [u8], length: &mut [u8]) -> u32
-    ensures { λ r. ⌜ Passes (now (book .entry)) (now (book .exit)) (now (buffer .entry)) (now (buffer .exit)) (now (length .entry)) (now (length .exit)) r ⌝ }
+    ensures { λ r. ⌜ Passes (now (book .entry)) (now (book .exit)) (now (buffer .entry)) (now (buffer .exit))
+        (now (length .entry)) (now (length .exit)) r ⌝ }
 {
     if length.len() != c_answers::LENGTH {
         return c_answers::refused(Refusal::RecordsUnsound);
@@ -23,7 +25,8 @@ pub extern "C" fn dvs_pass(book: &mut [u8], buffer: &mut [u8], length: &mut [u8]
 // The next message of the carrier view's order is taken.
 #[no_mangle]
 pub extern "C" fn dvs_deliver(book: &mut [u8], bytes: &[u8], sender: u32) -> u32
-    ensures { λ r. ⌜ Gives (verdictOf (deliverCall (now (bytes .entry)) sender (now (book .entry)))) (deliverBytes (now (bytes .entry)) sender (now (book .entry))) (now (book .entry)) (now (book .exit)) r ⌝ }
+    ensures { λ r. ⌜ Gives (verdictOf (deliverCall (now (bytes .entry)) sender (now (book .entry))))
+        (deliverBytes (now (bytes .entry)) sender (now (book .entry))) (now (book .entry)) (now (book .exit)) r ⌝ }
 {
     let r = member::messages::deliver::deliver(book, bytes, c_answers::narrow(sender, 255));
     let v = r.verdict;
@@ -53,7 +56,8 @@ pub extern "C" fn dvs_read(bytes: &[u8], message: &mut [u8]) -> u32
 // The record's message goes to the front of the buffer, and its length to `length`.
 #[no_mangle]
 pub extern "C" fn dvs_write(message: &[u8], buffer: &mut [u8], length: &mut [u8]) -> u32
-    ensures { λ r. ⌜ Writes (now (message .entry)) (now (buffer .entry)) (now (buffer .exit)) (now (length .entry)) (now (length .exit)) r ⌝ }
+    ensures { λ r. ⌜ Writes (now (message .entry)) (now (buffer .entry)) (now (buffer .exit)) (now (length .entry))
+        (now (length .exit)) r ⌝ }
 {
     if message.len() != wire::record::RECORD {
         return c_answers::refused(Refusal::RecordsUnsound);

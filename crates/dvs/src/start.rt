@@ -7,7 +7,8 @@ ghost use Rattle.events.specs.Replies.{verdictOf};
 // The book of member `own` in a group of `members`, with the first view, identifier 0, of `first_set`.
 #[no_mangle]
 pub extern "C" fn dvs_start(book: &mut [u8], members: u32, first_set: u32, own: u32) -> u32
-    ensures { λ r. ⌜ Gives (verdictOf (startCall members «first_set» own (now (book .entry)))) (startBytes members «first_set» own (now (book .entry))) (now (book .entry)) (now (book .exit)) r ⌝ }
+    ensures { λ r. ⌜ Gives (verdictOf (startCall members «first_set» own (now (book .entry))))
+        (startBytes members «first_set» own (now (book .entry))) (now (book .entry)) (now (book .exit)) r ⌝ }
 {
     let r = member::start(
         book,

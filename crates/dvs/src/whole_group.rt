@@ -13,7 +13,8 @@ pub extern "C" fn dvs_group_start(
     members: u32,
     first_set: u32,
 ) -> u32
-    ensures { λ r. ⌜ Begins (ranges (now (list .entry)) (now (books .entry)) (now (queues .entry))) members «first_set» (ranges (now (list .exit)) (now (books .exit)) (now (queues .exit))) r ⌝ }
+    ensures { λ r. ⌜ Begins (ranges (now (list .entry)) (now (books .entry)) (now (queues .entry))) members «first_set»
+        (ranges (now (list .exit)) (now (books .exit)) (now (queues .exit))) r ⌝ }
 {
     let v = group::start::start(
         list,
@@ -36,7 +37,9 @@ pub extern "C" fn dvs_group_step(
     second: u64,
     event: &mut [u8],
 ) -> u32
-    ensures { λ r. ⌜ Steps (ranges (now (list .entry)) (now (books .entry)) (now (queues .entry))) (asked kind first second) (ranges (now (list .exit)) (now (books .exit)) (now (queues .exit))) (now (event .entry)) (now (event .exit)) r ⌝ }
+    ensures { λ r. ⌜ Steps (ranges (now (list .entry)) (now (books .entry)) (now (queues .entry)))
+        (asked kind first second) (ranges (now (list .exit)) (now (books .exit)) (now (queues .exit)))
+        (now (event .entry)) (now (event .exit)) r ⌝ }
 {
     if event.len() != c_answers::EVENT {
         return c_answers::refused(Refusal::RecordsUnsound);

@@ -1,11 +1,13 @@
--- What a call gives, in numbers: the verdict, and the event of an accepted step that has one. What an event does not have is 0.
+-- What a call gives, in numbers: the verdict, and the event of an accepted step that has one. What an event does not
+-- have is 0.
 use Prim.Native.Nat.{ℕ}
 use Rattle.views.specs.declared.View.{View}
 use Rattle.views.specs.declared.refusal.Verdict.{Verdict}
 use Rattle.views.specs.declared.refusal.Verdict.the-variants.{Accepted, Refused}
 use Rattle.events.specs.Kinds.{attemptKind, registerKind, sendKind, handKind, safeKind}
 use Rattle.views.specs.Lists.{noView}
-use Rattle.rules.specs.Data.{Identifier, Member, item, Event as Outward, attempt, register, send, hand, safe, Answer, ok, event, refusal, Result, refused, accepted}
+use Rattle.rules.specs.Data.{Identifier, Member, item, Event as Outward, attempt, register, send, hand, safe, Answer}
+use Rattle.rules.specs.Data.{ok, event, refusal, Result, refused, accepted}
 use Rattle.rules.specs.Member.{Done}
 use Rattle.events.specs.declared.Event.{Event}
 use Rattle.events.specs.declared.Reply.{Reply}

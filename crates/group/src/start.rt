@@ -78,7 +78,8 @@ fn long(list: usize, all: usize, queues: usize) -> bool
 
 // The verdict of a start.
 fn startable(list: &[u8], all: &[u8], queues: &[u8], members: u8, first: u8) -> Verdict
-    ensures { λ r. ⌜ r ≡ verdictOf (startResult members first (ranges (now (list .entry)) (now (all .entry)) (now (queues .entry)))) ⌝ }
+    ensures { λ r. ⌜ r ≡ verdictOf
+        (startResult members first (ranges (now (list .entry)) (now (all .entry)) (now (queues .entry)))) ⌝ }
 {
     if !long(list.len(), all.len(), queues.len()) {
         return Verdict::Refused(Refusal::RecordsUnsound);
@@ -108,7 +109,8 @@ fn startable(list: &[u8], all: &[u8], queues: &[u8], members: u8, first: u8) -> 
 
 // A group of so many members with a first view begins.
 pub fn start(list: &mut [u8], all: &mut [u8], queues: &mut [u8], members: u8, first: u8) -> Verdict
-    ensures { λ r. ⌜ Began (ranges (now (list .entry)) (now (all .entry)) (now (queues .entry))) members first (ranges (now (list .exit)) (now (all .exit)) (now (queues .exit))) r ⌝ }
+    ensures { λ r. ⌜ Began (ranges (now (list .entry)) (now (all .entry)) (now (queues .entry))) members first
+        (ranges (now (list .exit)) (now (all .exit)) (now (queues .exit))) r ⌝ }
 {
     let v = startable(list, all, queues, members, first);
     match v {

@@ -32,7 +32,8 @@ fn dispatch(
     second: u64,
 ) -> Reply
     requires { ⌜ rangesSound (ranges (now list) (now all) (now queues)) ≡ true ⌝ }
-    ensures { λ r. ⌜ Went (ranges (now (list .entry)) (now (all .entry)) (now (queues .entry))) (asked kind first second) (ranges (now (list .exit)) (now (all .exit)) (now (queues .exit))) r ⌝ }
+    ensures { λ r. ⌜ Went (ranges (now (list .entry)) (now (all .entry)) (now (queues .entry)))
+        (asked kind first second) (ranges (now (list .exit)) (now (all .exit)) (now (queues .exit))) r ⌝ }
 {
     match kind {
         kinds::CREATE => plain(group_steps::carrier_view::create::create(
@@ -72,7 +73,8 @@ pub fn step(
     first: u32,
     second: u64,
 ) -> Reply
-    ensures { λ r. ⌜ Went (ranges (now (list .entry)) (now (all .entry)) (now (queues .entry))) (asked kind first second) (ranges (now (list .exit)) (now (all .exit)) (now (queues .exit))) r ⌝ }
+    ensures { λ r. ⌜ Went (ranges (now (list .entry)) (now (all .entry)) (now (queues .entry)))
+        (asked kind first second) (ranges (now (list .exit)) (now (all .exit)) (now (queues .exit))) r ⌝ }
 {
     if !group_sound::sound(list, all, queues) {
         return events::refuse(Refusal::RecordsUnsound);

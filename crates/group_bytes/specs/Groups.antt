@@ -50,7 +50,8 @@ waitingIn r p g = let i = placeOf g (viewsMade r) in
     cond (both (ltb p (membersOf r)) (ltb i (madeOf r))) (queueIn (r .queues) (waitingAt i p) (waitingAt i p + 1)) []
 
 unfoldable pub orderIn : Ranges → Identifier → List Entry
-orderIn r g = let i = placeOf g (viewsMade r) in cond (ltb i (madeOf r)) (queueIn (r .queues) (orderAt i) (orderAt i + 1)) []
+orderIn r g =
+    let i = placeOf g (viewsMade r) in cond (ltb i (madeOf r)) (queueIn (r .queues) (orderAt i) (orderAt i + 1)) []
 
 -- the book of the member p; of no member the book that a start gives one outside the first view
 unfoldable pub bookOf : Ranges → Member → Book

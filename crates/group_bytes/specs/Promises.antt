@@ -1,4 +1,5 @@
--- Demand 3 of what the code does to the lent ranges: for every start that was accepted, on ranges of any content, and every list of steps.
+-- Demand 3 of what the code does to the lent ranges: for every start that was accepted, on ranges of any content, and
+-- every list of steps.
 use mathlib.Core.Path.{_≡_}
 use mathlib.Core.Bool.{true, cond}
 use mathlib.Core.List.{List, [], _∷_, _++_}
@@ -18,7 +19,8 @@ use Rattle.group_bytes.specs.Groups.{Ranges, rangesSound}
 use Rattle.group_bytes.specs.Starts.{startRanges}
 use Rattle.group_bytes.specs.Steps.{startResult, lastRanges, repliesOf}
 
--- the outward event that a reply shows, if it shows one: attempt P I S, register P I, send P I V, hand P I Q V, safe P I Q V
+-- the outward event that a reply shows, if it shows one: attempt P I S, register P I, send P I V, hand P I Q V, safe P
+-- I Q V
 unfoldable pub shown : Event → List (Outward ℕ)
 shown e =
     let k = e .kind in

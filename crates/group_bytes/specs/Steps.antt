@@ -18,7 +18,8 @@ use Rattle.events.specs.Replies.{verdictOf}
 use Rattle.book_steps.specs.Acts.{attemptBytes, registerBytes, sendBytes, handBytes, tellBytes, safeBytes, collectBytes}
 use Rattle.group_bytes.specs.Places.{roomOf, booksSize, bookBytes, queuesSize}
 use Rattle.group_bytes.specs.Groups.{Ranges, groupIn, rangesSound}
-use Rattle.group_bytes.specs.Moves.{viewAt, rebooked, createRanges, joinRanges, passRanges, orderRanges, deliverRanges}
+use Rattle.group_bytes.specs.Moves.{viewAt, rebooked, createRanges, joinRanges, passRanges, orderRanges}
+use Rattle.group_bytes.specs.Moves.{deliverRanges}
 use Rattle.group_bytes.specs.Answers.{nextReply}
 
 -- ---- start: 4 for ranges not of their lengths, then 1, 2, 3

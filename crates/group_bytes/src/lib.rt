@@ -1,4 +1,5 @@
-// A group's records in three lent ranges, the list, the books and the queues: where they stand. docs/LAYOUT.md has the tables.
+// A group's records in three lent ranges, the list, the books and the queues: where they stand. docs/LAYOUT.md has the
+// tables.
 use views::limits;
 use views::sizes;
 ghost use Prim.Native.Nat.{_*_, _+_, _≤_};

@@ -1,4 +1,5 @@
--- What the calls with a list of view records give and leave: as those with the list's bytes, of which the records are the views.
+-- What the calls with a list of view records give and leave: as those with the list's bytes, of which the records are
+-- the views.
 use mathlib.Core.Path.{_≡_}
 use mathlib.Core.List.{List}
 use Prim.Native.Nat.{ℕ}
@@ -19,7 +20,8 @@ use Rattle.group_listed.specs.Creates.{leftViews}
 abbrev pub rangesOf : List View → List ℕ → List ℕ → Ranges
 rangesOf l books queues = ranges (viewsBytes l) books queues
 
--- a start of the list l, the books b and the queues q with n members and the first set S gave the verdict v and left the list k, the books d and the queues e
+-- a start of the list l, the books b and the queues q with n members and the first set S gave the verdict v and left
+-- the list k, the books d and the queues e
 pub record Began (l : List View) (b q : List ℕ) (n S : ℕ) (k : List View) (d e : List ℕ) (v : Verdict) : Type 0 where
   pub verdict : v ≡ verdictOf (startResult n S (rangesOf l b q))
   pub list : k ≡ leftViews v (viewsIn (startRanges n S (rangesOf l b q) .list) 0 (length l)) l

@@ -24,7 +24,14 @@ roomIn l = min (length l) maxViews
 
 -- the rule of create, of a group with these members, room and views; it looks at nothing else
 unfoldable pub creating : ℕ → ℕ → List View → Identifier → ℕ → Result Next
-creating n room views g S = creates (record { members = n; room = room; views = views; books = fresh S; waiting = λ p h. []; order = λ h. [] }) g S
+creating n room views g S = creates (record {
+  members = n;
+  room = room;
+  views = views;
+  books = fresh S;
+  waiting = λ p h. [];
+  order = λ h. [];
+}) g S
 
 -- the place that is filled; past the end of a list of k records where nothing is
 abbrev pub atOf : Verdict → ℕ → ℕ → ℕ

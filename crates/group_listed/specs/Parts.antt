@@ -35,7 +35,8 @@ rangesIn l books queues = ranges (bytesIn l) books queues
 unfoldable pub viewOr : List ℕ → ℕ → View
 viewOr b i = cond (ltb i (roomOf b)) (viewIn b (viewSize * i)) noView
 
--- the place behind the views made, the only one that a step fills; past the end of a list of n views that is too long for a group
+-- the place behind the views made, the only one that a step fills; past the end of a list of n views that is too long
+-- for a group
 unfoldable pub nextOf : ℕ → List ℕ → ℕ
 nextOf n queues = cond (ltb maxViews n) n (getD queues madeAt 0)
 
@@ -55,7 +56,9 @@ pub record SteppedBy (l : Views) (b q : List ℕ) (c : Step) (d e : List ℕ) (x
 -- a start with n members and the first set S gave x and left the books d and the queues e
 pub record BegunBy (l : Views) (b q : List ℕ) (n S : ℕ) (d e : List ℕ) (x : Begun) : Type 0 where
   pub verdict : x .verdict ≡ verdictOf (startResult n S (rangesIn l b q))
-  pub books : d ≡ leftRanges (verdictOf (startResult n S (rangesIn l b q))) (startRanges n S (rangesIn l b q)) (rangesIn l b q) .books
-  pub queues : e ≡ leftRanges (verdictOf (startResult n S (rangesIn l b q))) (startRanges n S (rangesIn l b q)) (rangesIn l b q) .queues
+  pub books : d ≡ leftRanges (verdictOf (startResult n S (rangesIn l b q))) (startRanges n S (rangesIn l b q))
+      (rangesIn l b q) .books
+  pub queues : e ≡ leftRanges (verdictOf (startResult n S (rangesIn l b q))) (startRanges n S (rangesIn l b q))
+      (rangesIn l b q) .queues
   pub at : x .at ≡ fromOf (verdictOf (startResult n S (rangesIn l b q)))
   pub view : x .view ≡ firstView S

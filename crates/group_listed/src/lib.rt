@@ -1,5 +1,5 @@
-// The whole group with its list as a slice of records, the books and the queues as lent bytes: its start, and one step of any kind.
-// The list is taken by value and put to the group as bytes; what a step or a start does to it is put back.
+// The whole group with its list as a slice of records, the books and the queues as lent bytes: its start, and one step
+// of any kind. The list is taken by value and put to the group as bytes; what a step or a start does to it is put back.
 pub mod list;
 pub mod slice;
 
@@ -88,7 +88,8 @@ fn step_by(
     first: u32,
     second: u64,
 ) -> Stepped
-    ensures { λ r. ⌜ SteppedBy l (now (books .entry)) (now (queues .entry)) (asked kind first second) (now (books .exit)) (now (queues .exit)) r ⌝ }
+    ensures { λ r. ⌜ SteppedBy l (now (books .entry)) (now (queues .entry)) (asked kind first second)
+        (now (books .exit)) (now (queues .exit)) r ⌝ }
 {
     let at = next(l.count, queues);
     let mut bytes = spread(l);
@@ -110,7 +111,8 @@ fn from(v: Verdict) -> usize
 
 // A start, with the list by value.
 fn start_by(l: Views, books: &mut [u8], queues: &mut [u8], members: u8, first: u8) -> Begun
-    ensures { λ r. ⌜ BegunBy l (now (books .entry)) (now (queues .entry)) members first (now (books .exit)) (now (queues .exit)) r ⌝ }
+    ensures { λ r. ⌜ BegunBy l (now (books .entry)) (now (queues .entry)) members first (now (books .exit))
+        (now (queues .exit)) r ⌝ }
 {
     let mut bytes = spread(l);
     let e = long(l);
@@ -132,7 +134,8 @@ pub fn step(
     first: u32,
     second: u64,
 ) -> Reply
-    ensures { λ r. ⌜ Went (now (list .entry)) (now (books .entry)) (now (queues .entry)) (asked kind first second) (now (list .exit)) (now (books .exit)) (now (queues .exit)) r ⌝ }
+    ensures { λ r. ⌜ Went (now (list .entry)) (now (books .entry)) (now (queues .entry)) (asked kind first second)
+        (now (list .exit)) (now (books .exit)) (now (queues .exit)) r ⌝ }
 {
     let l = crate::slice::listed(list);
     let s = step_by(l, books, queues, kind, first, second);
@@ -148,7 +151,8 @@ pub fn start(
     members: u8,
     first: u8,
 ) -> Verdict
-    ensures { λ r. ⌜ Began (now (list .entry)) (now (books .entry)) (now (queues .entry)) members first (now (list .exit)) (now (books .exit)) (now (queues .exit)) r ⌝ }
+    ensures { λ r. ⌜ Began (now (list .entry)) (now (books .entry)) (now (queues .entry)) members first
+        (now (list .exit)) (now (books .exit)) (now (queues .exit)) r ⌝ }
 {
     let l = crate::slice::listed(list);
     let s = start_by(l, books, queues, members, first);

@@ -1,5 +1,5 @@
-// The list by itself, as a slice of records of which the first ones are made: a view is looked up by its identifier, and the
-// next view is filled. Of a list that is too long for a group the first 32 records count.
+// The list by itself, as a slice of records of which the first ones are made: a view is looked up by its identifier,
+// and the next view is filled. Of a list that is too long for a group the first 32 records count.
 use views::View;
 use views::ViewId;
 use views::list;

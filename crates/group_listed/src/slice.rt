@@ -1,5 +1,6 @@
-// A list of views that the host lends as a slice of records: one view of it read or put, the whole list by value, and a list laid afresh.
-// A function that takes such a slice is proved by a walk of its own; what can be done by value is done in others.
+// A list of views that the host lends as a slice of records: one view of it read or put, the whole list by value, and a
+// list laid afresh. A function that takes such a slice is proved by a walk of its own; what can be done by value is
+// done in others.
 use views::View;
 use views::ViewId;
 use views::limits;

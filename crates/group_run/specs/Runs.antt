@@ -1,4 +1,5 @@
--- What a run gives and leaves: every lent byte of it, and what is promised of the answers that the host sees and of the ranges.
+-- What a run gives and leaves: every lent byte of it, and what is promised of the answers that the host sees and of the
+-- ranges.
 use mathlib.Core.Path.{_≡_}
 use mathlib.Core.Bool.{Bool, true}
 use mathlib.Core.List.{List, [], _∷_}
@@ -28,15 +29,18 @@ paired steps answers = conditions (
 
 -- 4 for records that do not pair, then the start's refusals; what a step is refused by stands in its answer
 unfoldable pub runVerdict : ℕ → ℕ → Ranges → List ℕ → List ℕ → Verdict
-runVerdict n S r steps answers = require (paired (length steps) (length answers)) RecordsUnsound (verdictOf (startResult n S r))
+runVerdict n S r steps answers =
+    require (paired (length steps) (length answers)) RecordsUnsound (verdictOf (startResult n S r))
 
--- a run of these steps, by n members with the first set S, in the ranges r, gave the verdict v; it left the ranges d, and made the answers a into e
+-- a run of these steps, by n members with the first set S, in the ranges r, gave the verdict v; it left the ranges d,
+-- and made the answers a into e
 pub record Ran (n S : ℕ) (r : Ranges) (steps a : List ℕ) (d : Ranges) (e : List ℕ) (v : Verdict) : Type 0 where
   pub verdict : v ≡ runVerdict n S r steps a
   -- the ranges that the steps lead to from a start; a refused run changes nothing
   pub list : d .list ≡ leftRanges (runVerdict n S r steps a) (lastRanges (startRanges n S r) (stepsIn steps)) r .list
   pub books : d .books ≡ leftRanges (runVerdict n S r steps a) (lastRanges (startRanges n S r) (stepsIn steps)) r .books
-  pub queues : d .queues ≡ leftRanges (runVerdict n S r steps a) (lastRanges (startRanges n S r) (stepsIn steps)) r .queues
+  pub queues : d .queues
+      ≡ leftRanges (runVerdict n S r steps a) (lastRanges (startRanges n S r) (stepsIn steps)) r .queues
   -- each step's reply in its record
   pub answers : e ≡ left (runVerdict n S r steps a) (answersBytes (repliesOf (startRanges n S r) (stepsIn steps))) a
   -- demand 3: the events that the answers show are those of a run of Figure 1, and attempted views intersect

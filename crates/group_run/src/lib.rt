@@ -1,5 +1,5 @@
-// A run: a start, and a list of steps put to the group one after another, with an answer to each. What is promised of the answers, demand 3, is
-// part of its contract.
+// A run: a start, and a list of steps put to the group one after another, with an answer to each. What is promised of
+// the answers, demand 3, is part of its contract.
 mod turns;
 
 use views::refusal::Refusal;
@@ -47,7 +47,9 @@ pub fn run(
     steps: &[u8],
     answers: &mut [u8],
 ) -> Verdict
-    ensures { λ r. ⌜ Ran members first (ranges (now (list .entry)) (now (all .entry)) (now (queues .entry))) (now (steps .entry)) (now (answers .entry)) (ranges (now (list .exit)) (now (all .exit)) (now (queues .exit))) (now (answers .exit)) r ⌝ }
+    ensures { λ r. ⌜ Ran members first (ranges (now (list .entry)) (now (all .entry)) (now (queues .entry)))
+        (now (steps .entry)) (now (answers .entry)) (ranges (now (list .exit)) (now (all .exit)) (now (queues .exit)))
+        (now (answers .exit)) r ⌝ }
 {
     if !pair(steps.len(), answers.len()) {
         return Verdict::Refused(Refusal::RecordsUnsound);

@@ -22,7 +22,8 @@ fn put(b: &mut [u8], at: usize, x: Reply)
 // The step in the record at a place is put to the group.
 fn ask(list: &mut [u8], all: &mut [u8], queues: &mut [u8], steps: &[u8], at: usize) -> Reply
     requires { ⌜ at + stepSize ≤ length (now steps) ⌝ }
-    ensures { λ r. ⌜ Asked (ranges (now (list .entry)) (now (all .entry)) (now (queues .entry))) (stepAt (now (steps .entry)) at) (ranges (now (list .exit)) (now (all .exit)) (now (queues .exit))) r ⌝ }
+    ensures { λ r. ⌜ Asked (ranges (now (list .entry)) (now (all .entry)) (now (queues .entry)))
+        (stepAt (now (steps .entry)) at) (ranges (now (list .exit)) (now (all .exit)) (now (queues .exit))) r ⌝ }
 {
     let kind = steps[at];
     let first = numbers::get_number(steps, at + crate::FIRST, sizes::IDENTIFIER) as u32;
@@ -39,8 +40,11 @@ fn one(
     answers: &mut [u8],
     i: usize,
 )
-    requires { ⌜ (stepSize * i + stepSize ≤ length (now steps)) × (answerSize * i + answerSize ≤ length (now answers)) ⌝ }
-    ensures { λ _. ⌜ Turned (ranges (now (list .entry)) (now (all .entry)) (now (queues .entry))) (stepAt (now (steps .entry)) (stepSize * i)) (now (answers .entry)) (answerSize * i) (ranges (now (list .exit)) (now (all .exit)) (now (queues .exit))) (now (answers .exit)) ⌝ }
+    requires { ⌜ (stepSize * i + stepSize ≤ length (now steps))
+        × (answerSize * i + answerSize ≤ length (now answers)) ⌝ }
+    ensures { λ _. ⌜ Turned (ranges (now (list .entry)) (now (all .entry)) (now (queues .entry)))
+        (stepAt (now (steps .entry)) (stepSize * i)) (now (answers .entry)) (answerSize * i)
+        (ranges (now (list .exit)) (now (all .exit)) (now (queues .exit))) (now (answers .exit)) ⌝ }
 {
     let x = ask(list, all, queues, steps, crate::STEP * i);
     put(answers, crate::ANSWER * i, x);
@@ -49,7 +53,8 @@ fn one(
 // Every step in turn.
 pub fn each(list: &mut [u8], all: &mut [u8], queues: &mut [u8], steps: &[u8], answers: &mut [u8])
     requires { ⌜ length (now answers) ≡ answerSize * (length (now steps) / stepSize) ⌝ }
-    ensures { λ _. ⌜ Turns (ranges (now (list .entry)) (now (all .entry)) (now (queues .entry))) (now (steps .entry)) (ranges (now (list .exit)) (now (all .exit)) (now (queues .exit))) (now (answers .exit)) ⌝ }
+    ensures { λ _. ⌜ Turns (ranges (now (list .entry)) (now (all .entry)) (now (queues .entry))) (now (steps .entry))
+        (ranges (now (list .exit)) (now (all .exit)) (now (queues .exit))) (now (answers .exit)) ⌝ }
 {
     let n = steps.len() / crate::STEP;
     let mut i = 0;

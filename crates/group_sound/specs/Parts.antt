@@ -1,5 +1,5 @@
--- The parts in which three ranges are tested for a sound group: the sizes, the list, each member's book, the queues of each view made. Here `views` is
--- the list of views made, and n the number of members.
+-- The parts in which three ranges are tested for a sound group: the sizes, the list, each member's book, the queues of
+-- each view made. Here `views` is the list of views made, and n the number of members.
 use mathlib.Core.Bool.{Bool, true}
 use mathlib.Core.Option.{Option, none, some}
 use mathlib.Core.List.{List, [], _∷_}
@@ -67,7 +67,8 @@ memberSound views q n p b = conditions (
 
 -- the slot at a place: of known kind, its entry sound, its views listed
 unfoldable pub entryKnown : List View → ℕ → List ℕ → ℕ → Bool
-entryKnown views n q at = conditions (slotFits q at ∷ entrySound n (entryIn q at) ∷ infoListed views (entryIn q at) ∷ [])
+entryKnown views n q at =
+    conditions (slotFits q at ∷ entrySound n (entryIn q at) ∷ infoListed views (entryIn q at) ∷ [])
 
 -- k slots from a place on
 unfoldable pub entriesKnown : List View → ℕ → List ℕ → ℕ → ℕ → Bool

@@ -52,8 +52,10 @@ fn numbers_fit(n: u8, made: u8, room: usize) -> bool
 
 // The list, the books and the queues, with so many views made.
 fn records_sound(list: &[u8], books: &[u8], queues: &[u8], made: u8, n: u8) -> bool
-    requires { ⌜ (viewSize * made ≤ length (now list)) × (length (now books) ≡ booksSize) × (orderAt made ≤ length (now queues)) × (n ≤ maxMembers) ⌝ }
-    ensures { λ r. ⌜ r ≡ recordsSound (viewsIn (now (list .entry)) 0 made) n (now (books .entry)) (now (queues .entry)) ⌝ }
+    requires { ⌜ (viewSize * made ≤ length (now list)) × (length (now books) ≡ booksSize)
+        × (orderAt made ≤ length (now queues)) × (n ≤ maxMembers) ⌝ }
+    ensures { λ r. ⌜ r ≡ recordsSound (viewsIn (now (list .entry)) 0 made) n (now (books .entry))
+        (now (queues .entry)) ⌝ }
 {
     if !book_sound::views_at::sound(list, 0, made as usize, n) {
         return false;
@@ -66,7 +68,8 @@ fn records_sound(list: &[u8], books: &[u8], queues: &[u8], made: u8, n: u8) -> b
 
 // The ranges are a sound group.
 pub fn sound(list: &[u8], books: &[u8], queues: &[u8]) -> bool
-    ensures { λ r. ⌜ r ≡ rangesSound (record { list = now (list .entry); books = now (books .entry); queues = now (queues .entry) }) ⌝ }
+    ensures { λ r. ⌜ r ≡ rangesSound
+        (record { list = now (list .entry); books = now (books .entry); queues = now (queues .entry) }) ⌝ }
 {
     if !sizes_fit(list.len(), books.len(), queues.len()) {
         return false;

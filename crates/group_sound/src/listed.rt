@@ -66,7 +66,8 @@ pub fn info_listed(list: &[u8], b: &[u8], made: u8, at: usize) -> bool
 
 // The views of every info of a queue.
 pub fn infos_listed(list: &[u8], b: &[u8], made: u8, at: usize, count: usize) -> bool
-    requires { ⌜ (viewSize * made ≤ length (now list)) × (at + slotSize * count ≤ length (now b)) × (slotsFit (now b) at count ≡ true) ⌝ }
+    requires { ⌜ (viewSize * made ≤ length (now list)) × (at + slotSize * count ≤ length (now b))
+        × (slotsFit (now b) at count ≡ true) ⌝ }
     ensures { λ r. ⌜ r ≡ all (infoListed (viewsIn (now (list .entry)) 0 made)) (entriesIn (now (b .entry)) at count) ⌝ }
 {
     let mut i = 0;

@@ -1,4 +1,5 @@
-// The members' books, each in its place: sound by itself, its member's own, and with nothing that the group does not have.
+// The members' books, each in its place: sound by itself, its member's own, and with nothing that the group does not
+// have.
 use book_bytes::Seat;
 ghost use mathlib.Core.Bool.{true};
 ghost use mathlib.Core.Path.{_≡_};
@@ -16,7 +17,8 @@ ghost use Rattle.group_sound.specs.Parts.{orderedIn, bookKnown, memberSo
 
 // How many messages are ordered in a listed view, or none.
 fn ordered(list: &[u8], queues: &[u8], made: u8, seat: Seat) -> u8
-    requires { ⌜ (viewSize * made ≤ length (now list)) × (orderAt made ≤ length (now queues)) × (listedIf (viewsIn (now list) 0 made) (seated seat) ≡ true) ⌝ }
+    requires { ⌜ (viewSize * made ≤ length (now list)) × (orderAt made ≤ length (now queues))
+        × (listedIf (viewsIn (now list) 0 made) (seated seat) ≡ true) ⌝ }
     ensures { λ r. ⌜ r ≡ orderedIn (viewsIn (now (list .entry)) 0 made) (now (queues .entry)) (seated seat) ⌝ }
 {
     if seat.there {
@@ -67,8 +69,11 @@ fn member_sound(list: &[u8], b: &[u8], queues: &[u8], made: u8, n: u8, p: u8) ->
 
 // The books of n members.
 pub fn members_sound(list: &[u8], books: &[u8], queues: &[u8], made: u8, n: u8) -> bool
-    requires { ⌜ (viewSize * made ≤ length (now list)) × (length (now books) ≡ booksSize) × (orderAt made ≤ length (now queues)) × (n ≤ maxMembers) ⌝ }
-    ensures { λ r. ⌜ r ≡ every n (λ p. memberSound (viewsIn (now (list .entry)) 0 made) (now (queues .entry)) n p (bookBytes (now (books .entry)) p)) ⌝ }
+    requires { ⌜ (viewSize * made ≤ length (now list)) × (length (now books) ≡ booksSize)
+        × (orderAt made ≤ length (now queues)) × (n ≤ maxMembers) ⌝ }
+    ensures { λ r. ⌜ r ≡ every n
+        (λ p. memberSound (viewsIn (now (list .entry)) 0 made) (now (queues .entry)) n p
+        (bookBytes (now (books .entry)) p)) ⌝ }
 {
     let mut p: u8 = 0;
     while p < n {

@@ -1,4 +1,5 @@
--- The carrier's steps on the three ranges: create, pass, order. What each gives is the group's rule of the group that the ranges are.
+-- The carrier's steps on the three ranges: create, pass, order. What each gives is the group's rule of the group that
+-- the ranges are.
 use mathlib.Core.Path.{_≡_}
 use mathlib.Core.Bool.{Bool}
 use mathlib.Core.List.{List}

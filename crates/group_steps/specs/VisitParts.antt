@@ -1,4 +1,5 @@
--- What comes to a member of a group: the view it joins, the message it takes. What each gives is the group's rule of the group that the ranges are.
+-- What comes to a member of a group: the view it joins, the message it takes. What each gives is the group's rule of
+-- the group that the ranges are.
 use mathlib.Core.Path.{_≡_}
 use mathlib.Core.List.{List}
 use Prim.Native.Nat.{ℕ}

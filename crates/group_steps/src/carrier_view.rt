@@ -1,5 +1,5 @@
-// The steps that change which views there are and which a member has: create, in a file of its own, join, attempt, collect. Attempt and collect are
-// the member's own, on its book among the eight: 6, then the step.
+// The steps that change which views there are and which a member has: create, in a file of its own, join, attempt,
+// collect. Attempt and collect are the member's own, on its book among the eight: 6, then the step.
 pub mod create;
 
 use events::Reply;
@@ -21,8 +21,10 @@ ghost use Rattle.group_steps.specs.VisitParts.{Joined};
 
 // The view at a place of the list becomes the carrier view of the member p.
 fn enter(list: &[u8], all: &mut [u8], p: u32, i: u8) -> Reply
-    requires { ⌜ HasBook (now all) p × (p < getD (now all) membersAt 0) × (viewSize * i + viewSize ≤ length (now list)) ⌝ }
-    ensures { λ r. ⌜ OwnStep p (ofMember (now (all .entry)) p (λ b. joins (selfIn b) (viewIn (now (list .entry)) (viewSize * i)) (bookIn b)))
+    requires { ⌜ HasBook (now all) p × (p < getD (now all) membersAt 0)
+        × (viewSize * i + viewSize ≤ length (now list)) ⌝ }
+    ensures { λ r. ⌜ OwnStep p
+        (ofMember (now (all .entry)) p (λ b. joins (selfIn b) (viewIn (now (list .entry)) (viewSize * i)) (bookIn b)))
         (joinBytes (viewIn (now (list .entry)) (viewSize * i))) (now (all .entry)) (now (all .exit)) r ⌝ }
 {
     let v = wire::reader::load_view(list, group_bytes::VIEW * (i as usize));
@@ -34,7 +36,9 @@ fn enter(list: &[u8], all: &mut [u8], p: u32, i: u8) -> Reply
 // The view with the identifier becomes the carrier view of the member p.
 pub fn join(list: &[u8], all: &mut [u8], queues: &[u8], p: u32, id: u64) -> Reply
     requires { ⌜ rangesSound (record { list = now list; books = now all; queues = now queues }) ≡ true ⌝ }
-    ensures { λ r. ⌜ Joined (record { list = now (list .entry); books = now (all .entry); queues = now (queues .entry) }) p id (now (all .exit)) r ⌝ }
+    ensures { λ r. ⌜ Joined
+        (record { list = now (list .entry); books = now (all .entry); queues = now (queues .entry) }) p id
+        (now (all .exit)) r ⌝ }
 {
     if all[book_bytes::MEMBERS] as u32 <= p {
         return events::refuse(Refusal::NoSuchMember);
@@ -50,7 +54,9 @@ pub fn join(list: &[u8], all: &mut [u8], queues: &[u8], p: u32, id: u64) -> Repl
 // The carrier view becomes open and becomes the client view.
 pub fn attempt(all: &mut [u8], p: u32) -> Reply
     requires { ⌜ HasBook (now all) p ⌝ }
-    ensures { λ r. ⌜ OwnStep p (ofMember (now (all .entry)) p (λ b. fewOpen (attempts one (membersIn b) (selfIn b) (bookIn b)))) attemptBytes (now (all .entry)) (now (all .exit)) r ⌝ }
+    ensures { λ r. ⌜ OwnStep p
+        (ofMember (now (all .entry)) p (λ b. fewOpen (attempts one (membersIn b) (selfIn b) (bookIn b)))) attemptBytes
+        (now (all .entry)) (now (all .exit)) r ⌝ }
 {
     if all[book_bytes::MEMBERS] as u32 <= p {
         return events::refuse(Refusal::NoSuchMember);
@@ -63,7 +69,8 @@ pub fn attempt(all: &mut [u8], p: u32) -> Reply
 // The carrier view becomes settled; only open views above it remain.
 pub fn collect(all: &mut [u8], p: u32) -> Reply
     requires { ⌜ HasBook (now all) p ⌝ }
-    ensures { λ r. ⌜ OwnStep p (ofMember (now (all .entry)) p (λ b. collects (membersIn b) (bookIn b))) collectBytes (now (all .entry)) (now (all .exit)) r ⌝ }
+    ensures { λ r. ⌜ OwnStep p (ofMember (now (all .entry)) p (λ b. collects (membersIn b) (bookIn b))) collectBytes
+        (now (all .entry)) (now (all .exit)) r ⌝ }
 {
     if all[book_bytes::MEMBERS] as u32 <= p {
         return events::refuse(Refusal::NoSuchMember);

@@ -9,7 +9,8 @@ ghost use Rattle.group_steps.specs.OwnParts.{HasBook, ofMember, OwnStep}
 // Noted for the client view; outgoing gains a registered message.
 pub fn register(all: &mut [u8], p: u32) -> Reply
     requires { ⌜ HasBook (now all) p ⌝ }
-    ensures { λ r. ⌜ OwnStep p (ofMember (now (all .entry)) p (λ b. registers (selfIn b) (bookIn b))) registerBytes (now (all .entry)) (now (all .exit)) r ⌝ }
+    ensures { λ r. ⌜ OwnStep p (ofMember (now (all .entry)) p (λ b. registers (selfIn b) (bookIn b))) registerBytes
+        (now (all .entry)) (now (all .exit)) r ⌝ }
 {
     if all[book_bytes::MEMBERS] as u32 <= p {
         return events::refuse(Refusal::NoSuchMember);
@@ -22,7 +23,8 @@ pub fn register(all: &mut [u8], p: u32) -> Reply
 // Outgoing gains a client message.
 pub fn send(all: &mut [u8], p: u32, entry: u64) -> Reply
     requires { ⌜ HasBook (now all) p ⌝ }
-    ensures { λ r. ⌜ OwnStep p (ofMember (now (all .entry)) p (λ b. sends (selfIn b) entry (bookIn b))) (sendBytes entry) (now (all .entry)) (now (all .exit)) r ⌝ }
+    ensures { λ r. ⌜ OwnStep p (ofMember (now (all .entry)) p (λ b. sends (selfIn b) entry (bookIn b)))
+        (sendBytes entry) (now (all .entry)) (now (all .exit)) r ⌝ }
 {
     if all[book_bytes::MEMBERS] as u32 <= p {
         return events::refuse(Refusal::NoSuchMember);
@@ -35,7 +37,8 @@ pub fn send(all: &mut [u8], p: u32, entry: u64) -> Reply
 // The next of the client view's inward list is given out.
 pub fn hand(all: &mut [u8], p: u32) -> Reply
     requires { ⌜ HasBook (now all) p ⌝ }
-    ensures { λ r. ⌜ OwnStep p (ofMember (now (all .entry)) p (λ b. hands (selfIn b) (bookIn b))) handBytes (now (all .entry)) (now (all .exit)) r ⌝ }
+    ensures { λ r. ⌜ OwnStep p (ofMember (now (all .entry)) p (λ b. hands (selfIn b) (bookIn b))) handBytes
+        (now (all .entry)) (now (all .exit)) r ⌝ }
 {
     if all[book_bytes::MEMBERS] as u32 <= p {
         return events::refuse(Refusal::NoSuchMember);
@@ -48,7 +51,8 @@ pub fn hand(all: &mut [u8], p: u32) -> Reply
 // Outgoing gains told, with the number handed out in the client view.
 pub fn tell(all: &mut [u8], p: u32) -> Reply
     requires { ⌜ HasBook (now all) p ⌝ }
-    ensures { λ r. ⌜ OwnStep p (ofMember (now (all .entry)) p (λ b. tells (selfIn b) (bookIn b))) tellBytes (now (all .entry)) (now (all .exit)) r ⌝ }
+    ensures { λ r. ⌜ OwnStep p (ofMember (now (all .entry)) p (λ b. tells (selfIn b) (bookIn b))) tellBytes
+        (now (all .entry)) (now (all .exit)) r ⌝ }
 {
     if all[book_bytes::MEMBERS] as u32 <= p {
         return events::refuse(Refusal::NoSuchMember);
@@ -61,7 +65,8 @@ pub fn tell(all: &mut [u8], p: u32) -> Reply
 // The next handed message not yet reported is reported.
 pub fn safe(all: &mut [u8], p: u32) -> Reply
     requires { ⌜ HasBook (now all) p ⌝ }
-    ensures { λ r. ⌜ OwnStep p (ofMember (now (all .entry)) p (λ b. safes (membersIn b) (selfIn b) (bookIn b))) safeBytes (now (all .entry)) (now (all .exit)) r ⌝ }
+    ensures { λ r. ⌜ OwnStep p (ofMember (now (all .entry)) p (λ b. safes (membersIn b) (selfIn b) (bookIn b)))
+        safeBytes (now (all .entry)) (now (all .exit)) r ⌝ }
 {
     if all[book_bytes::MEMBERS] as u32 <= p {
         return events::refuse(Refusal::NoSuchMember);

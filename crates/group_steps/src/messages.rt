@@ -1,4 +1,5 @@
-// The way of a message: pass and order, which are the carrier's, each in a file of its own, and deliver, in which a member takes it.
+// The way of a message: pass and order, which are the carrier's, each in a file of its own, and deliver, in which a
+// member takes it.
 pub mod order;
 pub mod pass;
 
@@ -28,8 +29,10 @@ ghost use Rattle.group_steps.specs.VisitParts.{Delivered};
 
 // Where the order of the view with the identifier stands.
 fn order_of(list: &[u8], queues: &[u8], g: ViewId) -> usize
-    requires { ⌜ (madeAt < length (now queues)) × (viewSize * getD (now queues) madeAt 0 ≤ length (now list)) × (getD (now queues) madeAt 0 ≤ maxViews) ⌝ }
-    ensures { λ r. ⌜ r ≡ orderAt (placeOf (g .0) (viewsIn (now (list .entry)) 0 (getD (now (queues .entry)) madeAt 0))) ⌝ }
+    requires { ⌜ (madeAt < length (now queues)) × (viewSize * getD (now queues) madeAt 0 ≤ length (now list))
+        × (getD (now queues) madeAt 0 ≤ maxViews) ⌝ }
+    ensures { λ r. ⌜ r ≡ orderAt
+        (placeOf (g .0) (viewsIn (now (list .entry)) 0 (getD (now (queues .entry)) madeAt 0))) ⌝ }
 {
     let i = group_bytes::place(list, queues[group_bytes::MADE], g.0 as u64);
     group_bytes::order_at(i)
@@ -37,12 +40,16 @@ fn order_of(list: &[u8], queues: &[u8], g: ViewId) -> usize
 
 // The member p takes the entry in the slot at a place, sent in the view g.
 fn take_at(all: &mut [u8], queues: &[u8], p: u32, at: usize, g: ViewId) -> Reply
-    requires { ⌜ HasBook (now all) p × (p < getD (now all) membersAt 0) × (at + slotSize ≤ length (now queues)) × (framed (now queues) at ≤ maxViews)
-        × (getD (now queues) at 0 < maxMembers) × (getD (bookBytes (now all) p) takenAt 0 < maxOrdered) × (getD (bookBytes (now all) p) carrierAt 0 ≡ 1) ⌝ }
+    requires { ⌜ HasBook (now all) p × (p < getD (now all) membersAt 0) × (at + slotSize ≤ length (now queues))
+        × (framed (now queues) at ≤ maxViews)
+        × (getD (now queues) at 0 < maxMembers) × (getD (bookBytes (now all) p) takenAt 0 < maxOrdered)
+        × (getD (bookBytes (now all) p) carrierAt 0 ≡ 1) ⌝ }
     ensures { λ r. ⌜ OwnStep p (ofMember (now (all .entry)) p (λ b. taking (getD (now (queues .entry)) at 0)
-        (messageOf (frameAt (now (queues .entry)) at (g .0) .message) (listOf (frameAt (now (queues .entry)) at (g .0) .views))) (bookIn b)))
+        (messageOf (frameAt (now (queues .entry)) at (g .0) .message)
+        (listOf (frameAt (now (queues .entry)) at (g .0) .views))) (bookIn b)))
         (takeBytes (getD (now (queues .entry)) at 0)
-        (messageOf (frameAt (now (queues .entry)) at (g .0) .message) (listOf (frameAt (now (queues .entry)) at (g .0) .views))))
+        (messageOf (frameAt (now (queues .entry)) at (g .0) .message)
+        (listOf (frameAt (now (queues .entry)) at (g .0) .views))))
         (now (all .entry)) (now (all .exit)) r ⌝ }
 {
     let q = Member(queues[at]);
@@ -54,9 +61,13 @@ fn take_at(all: &mut [u8], queues: &[u8], p: u32, at: usize, g: ViewId) -> Reply
 
 // The member p takes the next message of its carrier view, which has the identifier g.
 fn next(list: &[u8], all: &mut [u8], queues: &[u8], p: u32, g: ViewId) -> Reply
-    requires { ⌜ (rangesSound (record { list = now list; books = now all; queues = now queues }) ≡ true) × (p < getD (now all) membersAt 0)
-        × (seatIn (bookBytes (now all) p) carrierAt .there ≡ true) × (g ≡ seatIn (bookBytes (now all) p) carrierAt .view .id) ⌝ }
-    ensures { λ r. ⌜ Delivered (record { list = now (list .entry); books = now (all .entry); queues = now (queues .entry) }) p (now (all .exit)) r ⌝ }
+    requires { ⌜ (rangesSound (record { list = now list; books = now all; queues = now queues }) ≡ true)
+        × (p < getD (now all) membersAt 0)
+        × (seatIn (bookBytes (now all) p) carrierAt .there ≡ true)
+        × (g ≡ seatIn (bookBytes (now all) p) carrierAt .view .id) ⌝ }
+    ensures { λ r. ⌜ Delivered
+        (record { list = now (list .entry); books = now (all .entry); queues = now (queues .entry) }) p
+        (now (all .exit)) r ⌝ }
 {
     let c = order_of(list, queues, g);
     let k = all[book_bytes::SIZE * (p as usize) + book_bytes::TAKEN];
@@ -69,7 +80,9 @@ fn next(list: &[u8], all: &mut [u8], queues: &[u8], p: u32, g: ViewId) -> Reply
 // The member p takes the next message of its carrier view's order.
 pub fn deliver(list: &[u8], all: &mut [u8], queues: &[u8], p: u32) -> Reply
     requires { ⌜ rangesSound (record { list = now list; books = now all; queues = now queues }) ≡ true ⌝ }
-    ensures { λ r. ⌜ Delivered (record { list = now (list .entry); books = now (all .entry); queues = now (queues .entry) }) p (now (all .exit)) r ⌝ }
+    ensures { λ r. ⌜ Delivered
+        (record { list = now (list .entry); books = now (all .entry); queues = now (queues .entry) }) p
+        (now (all .exit)) r ⌝ }
 {
     if all[book_bytes::MEMBERS] as u32 <= p {
         return events::refuse(Refusal::NoSuchMember);

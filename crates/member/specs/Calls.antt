@@ -1,5 +1,6 @@
--- The member by itself, on a lent book of any length and content: what each call gives, and what it leaves in every lent byte.
--- A call's result is that of rules/specs/Alone on the book that the bytes are; 4 comes first, for what only bytes can hold.
+-- The member by itself, on a lent book of any length and content: what each call gives, and what it leaves in every
+-- lent byte. A call's result is that of rules/specs/Alone on the book that the bytes are; 4 comes first, for what only
+-- bytes can hold.
 use mathlib.Core.Path.{_≡_}
 use mathlib.Core.List.{List}
 use Prim.Native.Nat.{ℕ}
@@ -14,7 +15,8 @@ use Rattle.wire.specs.Reader.{readOf}
 use Rattle.wire.specs.Writer.{overwritten}
 use Rattle.rules.specs.Data.{Identifier, Member, Book as Ruled, Result, refused, accepted, need}
 use Rattle.rules.specs.Member.{Done, Passing, registers, sends, hands, tells, safes, collects}
-use Rattle.rules.specs.Alone.{Sent, sentOf, alone, startAlone, joinAlone, passedBytes, passAlone, deliverAlone, attemptAlone}
+use Rattle.rules.specs.Alone.{Sent, sentOf, alone, startAlone, joinAlone, passedBytes, passAlone, deliverAlone}
+use Rattle.rules.specs.Alone.{attemptAlone}
 use Rattle.book_bytes.specs.Places.{bookSize}
 use Rattle.book_bytes.specs.Books.{bookIn, layoutFits, membersIn, selfIn}
 use Rattle.events.specs.declared.Reply.{Reply}

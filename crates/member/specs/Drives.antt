@@ -1,4 +1,5 @@
--- A host that drives a member: its calls with their operands, and the book's bytes after any list of them, refused or not.
+-- A host that drives a member: its calls with their operands, and the book's bytes after any list of them, refused or
+-- not.
 use mathlib.Core.Path.{_≡_}
 use mathlib.Core.Bool.{true}
 use mathlib.Core.List.{List, [], _∷_}
@@ -9,9 +10,11 @@ use Rattle.views.specs.Refusals.{left}
 use Rattle.rules.specs.Data.{Identifier, Member, Book, accepted}
 use Rattle.events.specs.Replies.{verdictOf}
 use Rattle.book_bytes.specs.Books.{bytesSound}
-use Rattle.book_steps.specs.Acts.{joinBytes, passBytes, attemptBytes, registerBytes, sendBytes, handBytes, tellBytes, safeBytes, collectBytes}
+use Rattle.book_steps.specs.Acts.{joinBytes, passBytes, attemptBytes, registerBytes, sendBytes, handBytes, tellBytes}
+use Rattle.book_steps.specs.Acts.{safeBytes, collectBytes}
 use Rattle.book_bytes.specs.Starts.{startBytes}
-use Rattle.member.specs.Calls.{joinCall, passCall, deliverCall, deliverBytes, attemptCall, registerCall, sendCall, handCall, tellCall, safeCall, collectCall, startCall}
+use Rattle.member.specs.Calls.{joinCall, passCall, deliverCall, deliverBytes, attemptCall, registerCall, sendCall}
+use Rattle.member.specs.Calls.{handCall, tellCall, safeCall, collectCall, startCall}
 
 pub data Call : Type 0 where
   join : Identifier → ℕ → Call  -- the view's identifier and set

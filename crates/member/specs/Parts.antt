@@ -1,11 +1,13 @@
--- The parts in which the code does a call: 4 and 6, which come before all else; what follows them in join, pass and deliver.
+-- The parts in which the code does a call: 4 and 6, which come before all else; what follows them in join, pass and
+-- deliver.
 use mathlib.Core.Bool.{cond}
 use mathlib.Core.Path.{_≡_}
 use mathlib.Core.List.{List}
 use Prim.Native.Nat.{ℕ}
 use lib.Dec.{eqb, leb, ltb}
 use lib.ListN.{length}
-use Rattle.views.specs.declared.refusal.Refusal.the-variants.{RecordsUnsound, NoSuchMember, SetUnfit, NoCarrierView, OrderFull, BufferTooShort, AnotherView, SenderNotInView}
+use Rattle.views.specs.declared.refusal.Refusal.the-variants.{RecordsUnsound, NoSuchMember, SetUnfit, NoCarrierView}
+use Rattle.views.specs.declared.refusal.Refusal.the-variants.{OrderFull, BufferTooShort, AnotherView, SenderNotInView}
 use Rattle.views.specs.declared.refusal.Verdict.{Verdict}
 use Rattle.views.specs.declared.refusal.Verdict.the-variants.{Accepted, Refused}
 use Rattle.views.specs.declared.View.{View}
@@ -26,7 +28,8 @@ use Rattle.member.specs.declared.Passed.{Passed}
 
 -- 4, then 6
 unfoldable pub admitted : List ℕ → Verdict
-admitted b = cond (bytesSound b) (cond (ltb (selfIn b) (membersIn b)) Accepted (Refused NoSuchMember)) (Refused RecordsUnsound)
+admitted b =
+    cond (bytesSound b) (cond (ltb (selfIn b) (membersIn b)) Accepted (Refused NoSuchMember)) (Refused RecordsUnsound)
 
 -- ---- join, after 4 and 6
 

@@ -1,4 +1,5 @@
-// The calls that change the views that the member holds: attempt and collect as the member's steps stand, where 4 and 6 let them, and join, where 7 does too.
+// The calls that change the views that the member holds: attempt and collect as the member's steps stand, where 4 and 6
+// let them, and join, where 7 does too.
 use crate::admit;
 use events::Reply;
 use views::View;
@@ -18,8 +19,11 @@ ghost use Rattle.member.specs.Calls.{Gave, joinCall, attemptCall, collec
 // The view v becomes the carrier view of a sound book: 7, 11, 12.
 fn join_view(b: &mut [u8], v: View) -> Reply
     requires { ⌜ bytesSound (now b) ≡ true ⌝ }
-    ensures { λ r. ⌜ (r ≡ replyOf (joining (membersIn (now (b .entry))) (selfIn (now (b .entry))) v (bookIn (now (b .entry)))))
-        × (now (b .exit) ≡ left (verdictOf (joining (membersIn (now (b .entry))) (selfIn (now (b .entry))) v (bookIn (now (b .entry))))) (joinBytes v (now (b .entry))) (now (b .entry))) ⌝ }
+    ensures { λ r. ⌜ (r ≡ replyOf
+        (joining (membersIn (now (b .entry))) (selfIn (now (b .entry))) v (bookIn (now (b .entry)))))
+        × (now (b .exit) ≡ left
+        (verdictOf (joining (membersIn (now (b .entry))) (selfIn (now (b .entry))) v (bookIn (now (b .entry)))))
+        (joinBytes v (now (b .entry))) (now (b .entry))) ⌝ }
 {
     if !book_sound::views_at::set_fits(b[book_bytes::MEMBERS], v) {
         return events::refuse(Refusal::SetUnfit);
@@ -29,7 +33,8 @@ fn join_view(b: &mut [u8], v: View) -> Reply
 
 // The view becomes the carrier view.
 pub fn join(b: &mut [u8], id: u32, set: u8) -> Reply
-    ensures { λ r. ⌜ Gave (joinCall (viewOf id set) (now (b .entry))) (joinBytes (viewOf id set) (now (b .entry))) (now (b .entry)) (now (b .exit)) r ⌝ }
+    ensures { λ r. ⌜ Gave (joinCall (viewOf id set) (now (b .entry))) (joinBytes (viewOf id set) (now (b .entry)))
+        (now (b .entry)) (now (b .exit)) r ⌝ }
 {
     let v = admit(b);
     match v {
@@ -46,7 +51,8 @@ pub fn join(b: &mut [u8], id: u32, set: u8) -> Reply
 
 // The carrier view becomes open and becomes the client view.
 pub fn attempt(b: &mut [u8]) -> Reply
-    ensures { λ r. ⌜ Gave (attemptCall (now (b .entry))) (attemptBytes (now (b .entry))) (now (b .entry)) (now (b .exit)) r ⌝ }
+    ensures { λ r. ⌜ Gave (attemptCall (now (b .entry))) (attemptBytes (now (b .entry))) (now (b .entry))
+        (now (b .exit)) r ⌝ }
 {
     let v = admit(b);
     match v {
@@ -57,7 +63,8 @@ pub fn attempt(b: &mut [u8]) -> Reply
 
 // The carrier view becomes settled; only open views above it remain.
 pub fn collect(b: &mut [u8]) -> Reply
-    ensures { λ r. ⌜ Gave (collectCall (now (b .entry))) (collectBytes (now (b .entry))) (now (b .entry)) (now (b .exit)) r ⌝ }
+    ensures { λ r. ⌜ Gave (collectCall (now (b .entry))) (collectBytes (now (b .entry))) (now (b .entry))
+        (now (b .exit)) r ⌝ }
 {
     let v = admit(b);
     match v {

@@ -7,7 +7,8 @@ ghost use Rattle.member.specs.Calls.{Gave, registerCall, sendCall, handC
 
 // Noted for the client view; outgoing gains a registered message.
 pub fn register(b: &mut [u8]) -> Reply
-    ensures { λ r. ⌜ Gave (registerCall (now (b .entry))) (registerBytes (now (b .entry))) (now (b .entry)) (now (b .exit)) r ⌝ }
+    ensures { λ r. ⌜ Gave (registerCall (now (b .entry))) (registerBytes (now (b .entry))) (now (b .entry))
+        (now (b .exit)) r ⌝ }
 {
     let v = admit(b);
     match v {
@@ -18,7 +19,8 @@ pub fn register(b: &mut [u8]) -> Reply
 
 // Outgoing gains a client message.
 pub fn send(b: &mut [u8], entry: u64) -> Reply
-    ensures { λ r. ⌜ Gave (sendCall entry (now (b .entry))) (sendBytes entry (now (b .entry))) (now (b .entry)) (now (b .exit)) r ⌝ }
+    ensures { λ r. ⌜ Gave (sendCall entry (now (b .entry))) (sendBytes entry (now (b .entry))) (now (b .entry))
+        (now (b .exit)) r ⌝ }
 {
     let v = admit(b);
     match v {
@@ -29,7 +31,8 @@ pub fn send(b: &mut [u8], entry: u64) -> Reply
 
 // The next of the client view's inward list is given out.
 pub fn hand(b: &mut [u8]) -> Reply
-    ensures { λ r. ⌜ Gave (handCall (now (b .entry))) (handBytes (now (b .entry))) (now (b .entry)) (now (b .exit)) r ⌝ }
+    ensures { λ r. ⌜ Gave (handCall (now (b .entry))) (handBytes (now (b .entry))) (now (b .entry)) (now (b .exit))
+        r ⌝ }
 {
     let v = admit(b);
     match v {
@@ -40,7 +43,8 @@ pub fn hand(b: &mut [u8]) -> Reply
 
 // Outgoing gains told, with the number handed out in the client view.
 pub fn tell(b: &mut [u8]) -> Reply
-    ensures { λ r. ⌜ Gave (tellCall (now (b .entry))) (tellBytes (now (b .entry))) (now (b .entry)) (now (b .exit)) r ⌝ }
+    ensures { λ r. ⌜ Gave (tellCall (now (b .entry))) (tellBytes (now (b .entry))) (now (b .entry)) (now (b .exit))
+        r ⌝ }
 {
     let v = admit(b);
     match v {
@@ -51,7 +55,8 @@ pub fn tell(b: &mut [u8]) -> Reply
 
 // The next handed message not yet reported is reported, once every member of the view told of it.
 pub fn safe(b: &mut [u8]) -> Reply
-    ensures { λ r. ⌜ Gave (safeCall (now (b .entry))) (safeBytes (now (b .entry))) (now (b .entry)) (now (b .exit)) r ⌝ }
+    ensures { λ r. ⌜ Gave (safeCall (now (b .entry))) (safeBytes (now (b .entry))) (now (b .entry)) (now (b .exit))
+        r ⌝ }
 {
     let v = admit(b);
     match v {

@@ -1,4 +1,5 @@
-// The member by itself: a host lends its book and calls start, then the member's steps, on any bytes. What is no sound book gets 4 before anything else.
+// The member by itself: a host lends its book and calls start, then the member's steps, on any bytes. What is no sound
+// book gets 4 before anything else.
 pub mod carrier_view;
 pub mod client_view;
 pub mod messages;
@@ -61,7 +62,8 @@ fn startable(b: &[u8], members: u8, set: u8, own: u8) -> Verdict
 // The member is given the members, the first set and its number.
 pub fn start(b: &mut [u8], members: u8, set: u8, own: u8) -> Reply
     ensures { λ r. ⌜ (r ≡ startReply (startCall members set own (now (b .entry))))
-        × (now (b .exit) ≡ left (verdictOf (startCall members set own (now (b .entry)))) (startBytes members set own (now (b .entry))) (now (b .entry))) ⌝ }
+        × (now (b .exit) ≡ left (verdictOf (startCall members set own (now (b .entry))))
+        (startBytes members set own (now (b .entry))) (now (b .entry))) ⌝ }
 {
     let v = startable(b, members, set, own);
     match v {

@@ -1,1 +1,2 @@
-// The membership machine: views alone, without queues. It has no code; proofs/ shows that its attempted views intersect.
+// The membership machine: views alone, without queues. It has no code; proofs/ shows that its attempted views
+// intersect.

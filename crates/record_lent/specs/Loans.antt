@@ -1,4 +1,5 @@
--- One step of the member on its small record, lent with its operands: the verdict, and the record after it. Then the same on a book's bytes.
+-- One step of the member on its small record, lent with its operands: the verdict, and the record after it. Then the
+-- same on a book's bytes.
 use mathlib.Core.Bool.{Bool, cond}
 use mathlib.Core.List.{List}
 use Prim.Native.Nat.{ℕ}
@@ -18,7 +19,8 @@ use Rattle.book_bytes.specs.Places.{sideAt, outgoingAt, inwardAt}
 use Rattle.book_bytes.specs.Records.{recordIn, storeRecord}
 use Rattle.book_bytes.specs.Books.{bytesSound, membersIn, selfIn}
 use Rattle.record_steps.specs.declared.Stepped.{Stepped}
-use Rattle.record_steps.specs.Turns.{stepped, joinTurn, attemptTurn, registerTurn, sendTurn, handTurn, tellTurn, safeTurn, collectTurn}
+use Rattle.record_steps.specs.Turns.{stepped, joinTurn, attemptTurn, registerTurn, sendTurn, handTurn, tellTurn}
+use Rattle.record_steps.specs.Turns.{safeTurn, collectTurn}
 use Rattle.book_steps.specs.Parts.{fewStepped}
 use Rattle.record_lent.specs.declared.Step.{Step}
 
@@ -55,8 +57,8 @@ turnOf h t = cond (withinLimits h) (turnBy (t .kind) h t) (unturned RecordsUnsou
 
 -- ---- on a book's bytes
 
--- the step of a kind's number and a view, with what the book says of itself: its members, its own number, and how many stand in its outgoing queue
--- and in the client view's inward list
+-- the step of a kind's number and a view, with what the book says of itself: its members, its own number, and how many
+-- stand in its outgoing queue and in the client view's inward list
 unfoldable pub stepIn : List ℕ → ℕ → View → Step
 stepIn b kind v = record {
   kind = kind;

@@ -1,4 +1,5 @@
-// The step on a book's bytes: the record is loaded, lent, and stored where the step was accepted. The queues stay as they are.
+// The step on a book's bytes: the record is loaded, lent, and stored where the step was accepted. The queues stay as
+// they are.
 use crate::Step;
 use crate::lend;
 use views::Member;
@@ -31,7 +32,8 @@ fn asked(b: &[u8], kind: u8, view: View) -> Step
 
 // One step of any kind number on the record of any bytes; the view is for a join.
 pub fn change(b: &mut [u8], kind: u8, id: u32, set: u8) -> Verdict
-    ensures { λ r. ⌜ (r ≡ changeOf (now (b .entry)) kind (viewOf id set) .verdict) × (now (b .exit) ≡ changeBytes (now (b .entry)) kind (viewOf id set)) ⌝ }
+    ensures { λ r. ⌜ (r ≡ changeOf (now (b .entry)) kind (viewOf id set) .verdict)
+        × (now (b .exit) ≡ changeBytes (now (b .entry)) kind (viewOf id set)) ⌝ }
 {
     if !book_sound::sound(b) {
         return Verdict::Refused(Refusal::RecordsUnsound);

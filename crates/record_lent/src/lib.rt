@@ -18,7 +18,8 @@ ghost use Rattle.record_lent.specs.Loans.{entering, turnBy, turnOf};
 // A step: its kind's number, and its operands. A step that has no use for an operand does not look at it.
 pub struct Step {
     pub kind: u8,
-    // How many members there are, and which of them the record is of. The record has no number, so 6 is for the caller to ask.
+    // How many members there are, and which of them the record is of. The record has no number, so 6 is for the caller
+    // to ask.
     pub members: u8,
     pub member: Member,
     // The view to join.

@@ -1,4 +1,5 @@
--- The member's steps on its small record: the verdict is that of the rules on the book it is, and the record after an accepted step.
+-- The member's steps on its small record: the verdict is that of the rules on the book it is, and the record after an
+-- accepted step.
 use mathlib.Core.Bool.{Bool, true, false, cond}
 use mathlib.Core.List.{List, []}
 use Prim.Native.Nat.{ℕ, _+_, _-_, _^_}
@@ -14,7 +15,8 @@ use Rattle.views.specs.Sets.{one}
 use Rattle.views.specs.Lists.{idOf, listOf, placed, insertOf, aboveOf}
 use Rattle.rules.specs.Data as R
 use Rattle.rules.specs.Data.{Entry, entry, Item, item}
-use Rattle.rules.specs.Member.{joins, attempts, registers, sends, hands, tells, safes, collects, settledBy, learned, hasRoom}
+use Rattle.rules.specs.Member.{joins, attempts, registers, sends, hands, tells, safes, collects, settledBy, learned}
+use Rattle.rules.specs.Member.{hasRoom}
 use Rattle.book_bytes.specs.declared.Seat.{Seat}
 use Rattle.book_bytes.specs.declared.Record.{Record}
 use Rattle.book_bytes.specs.Records.{meaning}
@@ -154,19 +156,26 @@ unfoldable pub roomFor : Record → ℕ → Bool
 roomFor h out = hasRoom (bookOf h out 0)
 
 unfoldable pub registerTurn : Record → ℕ → Stepped
-registerTurn h out = stepped (verdictOf (registers 0 (bookOf h out 0))) (marked true (h .handed .0) (h .told .0) (h .reported .0) h) h
+registerTurn h out =
+    stepped (verdictOf (registers 0 (bookOf h out 0))) (marked true (h .handed .0) (h .told .0) (h .reported .0) h) h
 
 unfoldable pub sendTurn : Record → ℕ → Stepped
 sendTurn h out = stepped (verdictOf (sends 0 0 (bookOf h out 0))) h h
 
 unfoldable pub handTurn : Record → ℕ → Stepped
-handTurn h own = stepped (verdictOf (hands 0 (bookOf h 0 own))) (marked (h .registered) (h .handed .0 + 1) (h .told .0) (h .reported .0) h) h
+handTurn h own =
+    stepped (verdictOf (hands 0 (bookOf h 0 own)))
+    (marked (h .registered) (h .handed .0 + 1) (h .told .0) (h .reported .0) h) h
 
 unfoldable pub tellTurn : Record → ℕ → Stepped
-tellTurn h out = stepped (verdictOf (tells 0 (bookOf h out 0))) (marked (h .registered) (h .handed .0) (h .handed .0) (h .reported .0) h) h
+tellTurn h out =
+    stepped (verdictOf (tells 0 (bookOf h out 0)))
+    (marked (h .registered) (h .handed .0) (h .handed .0) (h .reported .0) h) h
 
 unfoldable pub safeTurn : ℕ → Record → ℕ → Stepped
-safeTurn n h own = stepped (verdictOf (safes n 0 (bookOf h 0 own))) (marked (h .registered) (h .handed .0) (h .told .0) (h .reported .0 + 1) h) h
+safeTurn n h own =
+    stepped (verdictOf (safes n 0 (bookOf h 0 own)))
+    (marked (h .registered) (h .handed .0) (h .told .0) (h .reported .0 + 1) h) h
 
 -- ---- collect
 

@@ -42,7 +42,8 @@ pub fn join(p: Member, v: View, h: Record) -> Stepped
     }
 }
 
-// The carrier view becomes open and becomes the client view. More than 31 may be open then: that is for the caller to refuse.
+// The carrier view becomes open and becomes the client view. More than 31 may be open then: that is for the caller to
+// refuse.
 pub fn attempt(n: u8, h: Record) -> Stepped
     requires { ⌜ h .side ≤ 1 ⌝ }
     ensures { λ r. ⌜ r ≡ attemptTurn n h ⌝ }

@@ -1,5 +1,5 @@
-// The steps in the client view, each of which a member without one is refused: register, send, hand, tell and safe, by value. The numbers
-// beside the record are the lengths of its queues.
+// The steps in the client view, each of which a member without one is refused: register, send, hand, tell and safe, by
+// value. The numbers beside the record are the lengths of its queues.
 use crate::Stepped;
 use book_bytes::Record;
 use views::Position;

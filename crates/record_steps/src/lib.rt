@@ -1,4 +1,5 @@
-// A member's steps on its small record, by value: what each gives, beside the definitions and the laws that each is the rule.
+// A member's steps on its small record, by value: what each gives, beside the definitions and the laws that each is the
+// rule.
 pub mod carrier_view;
 pub mod client_view;
 pub mod messages;

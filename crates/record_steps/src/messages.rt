@@ -9,7 +9,8 @@ use views::list::Views;
 ghost use mathlib.Core.Path.{_≡_};
 ghost use Prim.Native.Nat.{_<_, _≤_};
 ghost use Rattle.views.specs.Limits.{maxMembers, maxOpen};
-ghost use Rattle.record_steps.specs.Turns.{withMember, clientTurn, settledView, infoTurn, registeredTurn, toldTurn};
+ghost use Rattle.record_steps.specs.Turns.{withMember, clientTurn, settledView, infoTurn, registeredTurn};
+ghost use Rattle.record_steps.specs.Turns.{toldTurn};
 
 // The set with the member in it.
 pub fn with_member(members: u8, q: Member) -> u8

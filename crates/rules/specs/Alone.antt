@@ -1,4 +1,5 @@
--- The member by itself: its part called with the same rules, on its own book. n is the number of members, p its own number.
+-- The member by itself: its part called with the same rules, on its own book. n is the number of members, p its own
+-- number.
 use mathlib.Core.Bool.{Bool, true}
 use mathlib.Core.Option.{Option, none, some}
 use mathlib.Core.List.{List, [], _∷_}
@@ -6,7 +7,9 @@ use Prim.Native.Nat.{ℕ}
 use lib.Dec.{eqb, ltb, leb}
 use lib.ListN.{length}
 use Rattle.views.specs.declared.View.{View}
-use Rattle.views.specs.declared.refusal.Refusal.the-variants.{MembersOutOfRange, FirstSetUnfit, RecordsUnsound, NoSuchMember, SetUnfit, NoCarrierView, OrderFull, BufferTooShort, AnotherView, SenderNotInView, TooManyOpen}
+use Rattle.views.specs.declared.refusal.Refusal.the-variants.{MembersOutOfRange, FirstSetUnfit, RecordsUnsound}
+use Rattle.views.specs.declared.refusal.Refusal.the-variants.{NoSuchMember, SetUnfit, NoCarrierView, OrderFull}
+use Rattle.views.specs.declared.refusal.Refusal.the-variants.{BufferTooShort, AnotherView, SenderNotInView, TooManyOpen}
 use Rattle.views.specs.declared.refusal.Verdict.{Verdict}
 use Rattle.views.specs.declared.refusal.Verdict.the-variants.{Accepted, Refused}
 use Rattle.views.specs.Limits.{maxMembers, maxOpen, maxOutgoing, maxOrdered}
@@ -17,9 +20,11 @@ use Rattle.wire.specs.declared.Message.the-variants.{Client, Info, Registered, 
 use Rattle.wire.specs.declared.Frame.{Frame}
 use Rattle.wire.specs.declared.Reading.{Reading}
 use Rattle.wire.specs.Format.{bytesOf}
-use Rattle.rules.specs.Data.{Identifier, Member, MessageOf, Message, client, info, registered, told, EntryOf, Entry, entry, BookOf, Book, ok, Result, refused, accepted, need, withView, after}
+use Rattle.rules.specs.Data.{Identifier, Member, MessageOf, Message, client, info, registered, told, EntryOf}
+use Rattle.rules.specs.Data.{Entry, entry, BookOf, Book, ok, Result, refused, accepted, need, withView, after}
 use Rattle.rules.specs.Member.{DoneOf, does, all, joins, Passing, passing, delivered, attempts}
-use Rattle.rules.specs.Sound.{within, conditions, countFits, bookCounts, setFits, opensRise, fromMember, itemFromMember}
+use Rattle.rules.specs.Sound.{within, conditions, countFits, bookCounts, setFits, opensRise, fromMember}
+use Rattle.rules.specs.Sound.{itemFromMember}
 use Rattle.rules.specs.Group.{fits, fresh}
 
 -- ---- messages in bytes
@@ -148,4 +153,5 @@ deliverAlone n p read q b =
 
 unfoldable pub attemptAlone : {M : Type 0} → (Member → ℕ) → ℕ → Member → BookOf M → Result (DoneOf M)
 attemptAlone weight n p b =
-    alone n p b (after (attempts weight n p b) (λ d. need (leb (length (d .book .held .opens)) maxOpen) TooManyOpen (accepted d)))
+    alone n p b (after (attempts weight n p b)
+    (λ d. need (leb (length (d .book .held .opens)) maxOpen) TooManyOpen (accepted d)))

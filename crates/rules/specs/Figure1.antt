@@ -50,7 +50,8 @@ Total d x = In x (d .created) × ((p : Member) → T (has (x .set) p) → T (d .
 abbrev pub Apart : {M : Type 0} → Outer M → View → View → Type 0
 Apart d v w =
     ((p : Member) × T (has (v .set) p) × T (has (w .set) p))
-    ⊎ (((x : View) × Total d x × (idOf w < idOf x) × (idOf x < idOf v)) ⊎ ((x : View) × Total d x × (idOf v < idOf x) × (idOf x < idOf w)))
+    ⊎ (((x : View) × Total d x × (idOf w < idOf x) × (idOf x < idOf v))
+    ⊎ ((x : View) × Total d x × (idOf v < idOf x) × (idOf x < idOf w)))
 
 -- ---- its steps, each with what it is fed
 
@@ -110,7 +111,8 @@ pub data Act {M : Type 0} : Outer M → Outer M → List (Event M) → Type 0 wh
         safely = d .safely;
       }) (send p g m ∷ [])
   -- the sender and message at place received + 1 of the queue
-  receives : {d : Outer M} (p : Member) (g : Identifier) (x : Item M) → d .current p ≡ suc g → At (d .queue g) (d .received p g) x
+  receives : {d : Outer M} (p : Member) (g : Identifier) (x : Item M) → d .current p ≡ suc g
+      → At (d .queue g) (d .received p g) x
       → Act d (record {
         created = d .created;
         current = d .current;
@@ -122,7 +124,8 @@ pub data Act {M : Type 0} : Outer M → Outer M → List (Event M) → Type 0 wh
       }) (hand p g x ∷ [])
   -- those at place safe + 1, once every member of the view has received that place
   safes : {d : Outer M} (p : Member) (v : View) (x : Item M) → d .current p ≡ suc (idOf v) → In v (d .created)
-      → At (d .queue (idOf v)) (d .safely p (idOf v)) x → ((q : Member) → T (has (v .set) q) → d .safely p (idOf v) < d .received q (idOf v))
+      → At (d .queue (idOf v)) (d .safely p (idOf v)) x
+      → ((q : Member) → T (has (v .set) q) → d .safely p (idOf v) < d .received q (idOf v))
       → Act d (record {
         created = d .created;
         current = d .current;

@@ -8,13 +8,18 @@ use lib.ListN.{length, drop}
 use Rattle.views.specs.declared.View.{View}
 use Rattle.views.specs.declared.list.Lookup.{Lookup}
 use Rattle.views.specs.declared.list.Lookup.the-variants.{Found, Missing}
-use Rattle.views.specs.declared.refusal.Refusal.the-variants.{MembersOutOfRange, FirstSetUnfit, ListLength, RecordsUnsound, UnknownStep, NoSuchMember, SetUnfit, IdentifierNotAbove, ListFull, NoSuchView, WaitingFull, NoneWaiting, OrderFull, NoCarrierView, NoneToDeliver}
+use Rattle.views.specs.declared.refusal.Refusal.the-variants.{MembersOutOfRange, FirstSetUnfit, ListLength}
+use Rattle.views.specs.declared.refusal.Refusal.the-variants.{RecordsUnsound, UnknownStep, NoSuchMember, SetUnfit}
+use Rattle.views.specs.declared.refusal.Refusal.the-variants.{IdentifierNotAbove, ListFull, NoSuchView, WaitingFull}
+use Rattle.views.specs.declared.refusal.Refusal.the-variants.{NoneWaiting, OrderFull, NoCarrierView, NoneToDeliver}
 use Rattle.views.specs.Limits.{maxMembers, maxViews, maxWaiting, maxOrdered}
 use Rattle.views.specs.Sets.{both, has, isEmpty, isBeyond}
 use Rattle.views.specs.Points.{at, at2}
 use Rattle.views.specs.Lists.{idOf, findOf}
-use Rattle.rules.specs.Data.{Identifier, Member, EntryOf, entry, BookOf, GroupOf, Group, Step, AnswerOf, ok, refusal, Result, refused, accepted, need, withView, withFirst, after}
-use Rattle.rules.specs.Member.{DoneOf, all, joins, passing, delivered, attempts, registers, sends, hands, tells, safes, collects}
+use Rattle.rules.specs.Data.{Identifier, Member, EntryOf, entry, BookOf, GroupOf, Group, Step, AnswerOf, ok}
+use Rattle.rules.specs.Data.{refusal, Result, refused, accepted, need, withView, withFirst, after}
+use Rattle.rules.specs.Member.{DoneOf, all, joins, passing, delivered, attempts, registers, sends, hands, tells}
+use Rattle.rules.specs.Member.{safes, collects}
 use Rattle.rules.specs.Sound.{sound}
 
 -- ---- words
@@ -43,7 +48,14 @@ firstView S = record { id = record { 0 = 0 }; set = S }
 module _ {M : Type 0} where
   -- the group with another book for the member p
   unfoldable pub booked : GroupOf M → Member → BookOf M → GroupOf M
-  booked s p b = record { members = s .members; room = s .room; views = s .views; books = at p b (s .books); waiting = s .waiting; order = s .order }
+  booked s p b = record {
+    members = s .members;
+    room = s .room;
+    views = s .views;
+    books = at p b (s .books);
+    waiting = s .waiting;
+    order = s .order;
+  }
 
   -- a step of the member p alone
   unfoldable pub own : GroupOf M → Member → Result (DoneOf M) → Result (NextOf M)
@@ -55,8 +67,22 @@ module _ {M : Type 0} where
   unfoldable pub fresh : ℕ → Member → BookOf M
   fresh S p = record {
     held = record { settled = firstView S; opens = [] };
-    carrier = record { view = cond (has S p) (some (firstView S)) none; infos = λ q. false; registrations = λ q. false; tolds = λ q. 0; taken = 0; inward = [] };
-    client = record { view = cond (has S p) (some (firstView S)) none; registered = has S p; inward = []; handed = 0; told = 0; reported = 0 };
+    carrier = record {
+      view = cond (has S p) (some (firstView S)) none;
+      infos = λ q. false;
+      registrations = λ q. false;
+      tolds = λ q. 0;
+      taken = 0;
+      inward = [];
+    };
+    client = record {
+      view = cond (has S p) (some (firstView S)) none;
+      registered = has S p;
+      inward = [];
+      handed = 0;
+      told = 0;
+      reported = 0;
+    };
     outgoing = [];
   }
 

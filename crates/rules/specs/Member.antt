@@ -1,5 +1,6 @@
--- The member's rules, over its book b: p is its own number, n the number of members. The group's steps and the member by itself use these.
--- M is what a client sends. Each rule is its row of the refusal table from left to right, then what the step does.
+-- The member's rules, over its book b: p is its own number, n the number of members. The group's steps and the member
+-- by itself use these. M is what a client sends. Each rule is its row of the refusal table from left to right, then
+-- what the step does.
 use mathlib.Core.Bool.{Bool, true, false, cond, not, _||_}
 use mathlib.Core.Option.{Option, some}
 use mathlib.Core.List.{List, [], _∷_, _++_}
@@ -9,12 +10,18 @@ use lib.ListN.{length, take, drop}
 use Rattle.views.specs.declared.View.{View}
 use Rattle.views.specs.declared.list.Lookup.{Lookup}
 use Rattle.views.specs.declared.list.Lookup.the-variants.{Found, Missing}
-use Rattle.views.specs.declared.refusal.Refusal.the-variants.{NotInSet, NotAboveCarrier, NoCarrierView, NoneOutgoing, NotAboveClient, InfoMissing, TestFailed, NoClientView, AlreadyRegistered, OutgoingFull, NoneToHand, ClientNotCarrier, NothingNewToTell, NoneToReport, ToldTooLow, NotAboveSettled, RegistrationMissing}
+use Rattle.views.specs.declared.refusal.Refusal.the-variants.{NotInSet, NotAboveCarrier, NoCarrierView, NoneOutgoing}
+use Rattle.views.specs.declared.refusal.Refusal.the-variants.{NotAboveClient, InfoMissing, TestFailed, NoClientView}
+use Rattle.views.specs.declared.refusal.Refusal.the-variants.{AlreadyRegistered, OutgoingFull, NoneToHand}
+use Rattle.views.specs.declared.refusal.Refusal.the-variants.{ClientNotCarrier, NothingNewToTell, NoneToReport}
+use Rattle.views.specs.declared.refusal.Refusal.the-variants.{ToldTooLow, NotAboveSettled, RegistrationMissing}
 use Rattle.views.specs.Limits.{maxMembers, maxOutgoing}
 use Rattle.views.specs.Sets.{both, has, inCommon, weigh}
 use Rattle.views.specs.Points.{at}
 use Rattle.views.specs.Lists.{idOf, findOf, insertOf, unionOf, aboveOf}
-use Rattle.rules.specs.Data.{Identifier, Member, MessageOf, client, info, registered, told, EntryOf, entry, Item, item, Held, AtCarrierOf, AtClientOf, BookOf, attempt, register, send, hand, safe, AnswerOf, ok, event, Result, accepted, need, withView, withFirst, rank}
+use Rattle.rules.specs.Data.{Identifier, Member, MessageOf, client, info, registered, told, EntryOf, entry, Item}
+use Rattle.rules.specs.Data.{item, Held, AtCarrierOf, AtClientOf, BookOf, attempt, register, send, hand, safe}
+use Rattle.rules.specs.Data.{AnswerOf, ok, event, Result, accepted, need, withView, withFirst, rank}
 
 -- ---- what a rule gives
 
@@ -55,9 +62,11 @@ everyOf n v f = every n (λ q. not (has (v .set) q) || f q)
 abbrev pub isAbove : Identifier → Option View → Bool
 isAbove g o = leb (rank o) g
 
--- Test: twice the weight in common exceeds the weight of the held view. Every member weighs 1: then it is the members that are counted.
+-- Test: twice the weight in common exceeds the weight of the held view. Every member weighs 1: then it is the members
+-- that are counted.
 unfoldable pub passes : (Member → ℕ) → View → View → Bool
-passes weight v held = ltb (weigh weight (has (held .set)) maxMembers) (2 * weigh weight (has (inCommon (v .set) (held .set))) maxMembers)
+passes weight v held =
+    ltb (weigh weight (has (held .set)) maxMembers) (2 * weigh weight (has (inCommon (v .set) (held .set))) maxMembers)
 
 -- ---- what is held, after an info was taken and after an attempt
 
@@ -76,7 +85,10 @@ learned x l h = record { settled = settledBy x h; opens = aboveOf (idOf (settled
 
 -- a view not above the settled one, or whose identifier is open already, opens nothing
 unfoldable pub opened : View → Held → Held
-opened v h = record { settled = h .settled; opens = cond (ltb (idOf (h .settled)) (idOf v)) (insertOf v (h .opens)) (h .opens) }
+opened v h = record {
+  settled = h .settled;
+  opens = cond (ltb (idOf (h .settled)) (idOf v)) (insertOf v (h .opens)) (h .opens);
+}
 
 module _ {M : Type 0} where
   -- accepted: the answer, and the book that is left
@@ -106,7 +118,14 @@ module _ {M : Type 0} where
   unfoldable pub joined : Member → View → BookOf M → BookOf M
   joined p v b = record {
     held = b .held;
-    carrier = record { view = some v; infos = λ q. false; registrations = λ q. false; tolds = λ q. 0; taken = 0; inward = [] };
+    carrier = record {
+      view = some v;
+      infos = λ q. false;
+      registrations = λ q. false;
+      tolds = λ q. 0;
+      taken = 0;
+      inward = [];
+    };
     client = b .client;
     outgoing = entry p (info (b .held .settled) (b .held .opens)) ∷ [];
   }
@@ -132,26 +151,65 @@ module _ {M : Type 0} where
   takes i r t l c = record { view = c .view; infos = i; registrations = r; tolds = t; taken = c .taken + 1; inward = l }
 
   unfoldable pub received : Item M → AtClientOf M → AtClientOf M
-  received x c = record { view = c .view; registered = c .registered; inward = c .inward ++ (x ∷ []); handed = c .handed; told = c .told; reported = c .reported }
+  received x c = record {
+    view = c .view;
+    registered = c .registered;
+    inward = c .inward ++ (x ∷ []);
+    handed = c .handed;
+    told = c .told;
+    reported = c .reported;
+  }
 
   unfoldable pub delivered : Member → MessageOf M → BookOf M → BookOf M
   delivered q (client x) b = let c = b .carrier in
       cond (clientIsCarrier b)
-      (record { held = b .held; carrier = takes (c .infos) (c .registrations) (c .tolds) (c .inward) c; client = received (item q x) (b .client); outgoing = b .outgoing })
-      (record { held = b .held; carrier = takes (c .infos) (c .registrations) (c .tolds) (c .inward ++ (item q x ∷ [])) c; client = b .client; outgoing = b .outgoing })
+      (record {
+        held = b .held;
+        carrier = takes (c .infos) (c .registrations) (c .tolds) (c .inward) c;
+        client = received (item q x) (b .client);
+        outgoing = b .outgoing;
+      })
+      (record {
+        held = b .held;
+        carrier = takes (c .infos) (c .registrations) (c .tolds) (c .inward ++ (item q x ∷ [])) c;
+        client = b .client;
+        outgoing = b .outgoing;
+      })
   delivered q (info s l) b = let c = b .carrier in
-      record { held = learned s l (b .held); carrier = takes (at q true (c .infos)) (c .registrations) (c .tolds) (c .inward) c; client = b .client; outgoing = b .outgoing }
+      record {
+        held = learned s l (b .held);
+        carrier = takes (at q true (c .infos)) (c .registrations) (c .tolds) (c .inward) c;
+        client = b .client;
+        outgoing = b .outgoing;
+      }
   delivered q registered b = let c = b .carrier in
-      record { held = b .held; carrier = takes (c .infos) (at q true (c .registrations)) (c .tolds) (c .inward) c; client = b .client; outgoing = b .outgoing }
+      record {
+        held = b .held;
+        carrier = takes (c .infos) (at q true (c .registrations)) (c .tolds) (c .inward) c;
+        client = b .client;
+        outgoing = b .outgoing;
+      }
   delivered q (told k) b = let c = b .carrier in
-      record { held = b .held; carrier = takes (c .infos) (c .registrations) (at q k (c .tolds)) (c .inward) c; client = b .client; outgoing = b .outgoing }
+      record {
+        held = b .held;
+        carrier = takes (c .infos) (c .registrations) (at q k (c .tolds)) (c .inward) c;
+        client = b .client;
+        outgoing = b .outgoing;
+      }
 
   -- ---- 6. attempt: the carrier view becomes open and becomes the client view
 
   unfoldable pub attempted : View → BookOf M → BookOf M
   attempted v b = let c = b .carrier in record {
     held = opened v (b .held);
-    carrier = record { view = c .view; infos = c .infos; registrations = c .registrations; tolds = c .tolds; taken = c .taken; inward = [] };
+    carrier = record {
+      view = c .view;
+      infos = c .infos;
+      registrations = c .registrations;
+      tolds = c .tolds;
+      taken = c .taken;
+      inward = [];
+    };
     client = record { view = some v; registered = false; inward = c .inward; handed = 0; told = 0; reported = 0 };
     outgoing = b .outgoing;
   }
@@ -170,7 +228,14 @@ module _ {M : Type 0} where
   noted b = let c = b .client in record {
     held = b .held;
     carrier = b .carrier;
-    client = record { view = c .view; registered = true; inward = c .inward; handed = c .handed; told = c .told; reported = c .reported };
+    client = record {
+      view = c .view;
+      registered = true;
+      inward = c .inward;
+      handed = c .handed;
+      told = c .told;
+      reported = c .reported;
+    };
     outgoing = b .outgoing;
   }
 
@@ -196,7 +261,14 @@ module _ {M : Type 0} where
   moves h t r b = let c = b .client in record {
     held = b .held;
     carrier = b .carrier;
-    client = record { view = c .view; registered = c .registered; inward = c .inward; handed = h; told = t; reported = r };
+    client = record {
+      view = c .view;
+      registered = c .registered;
+      inward = c .inward;
+      handed = h;
+      told = t;
+      reported = r;
+    };
     outgoing = b .outgoing;
   }
 
@@ -214,7 +286,8 @@ module _ {M : Type 0} where
       need (clientIsCarrier b) ClientNotCarrier (
       need (both (not (eqb (b .client .handed) (b .client .told))) (not (eqb (b .client .handed) 0))) NothingNewToTell (
       need (hasRoom b) OutgoingFull (
-      does ok (queues p (told (b .client .handed)) (moves (b .client .handed) (b .client .handed) (b .client .reported) b))))))
+      does ok (queues p (told (b .client .handed))
+      (moves (b .client .handed) (b .client .handed) (b .client .reported) b))))))
 
   -- ---- 11. safe: the next handed message not yet reported is reported, once every member of the view told of it
 

@@ -1,4 +1,5 @@
--- What the service promises: demand 3, for every accepted start and every list of steps, and that no list of steps leads to records that 4 refuses.
+-- What the service promises: demand 3, for every accepted start and every list of steps, and that no list of steps
+-- leads to records that 4 refuses.
 use mathlib.Core.Path.{_≡_}
 use mathlib.Core.Bool.{true}
 use mathlib.Core.List.{List}
@@ -17,11 +18,13 @@ use Rattle.rules.specs.Runs.{lastOf, answersOf, eventsOf, Attempted, Non
 pub record Promised {M : Type 0} (weight : Member → ℕ) (S : ℕ) (l : List (Event M)) : Type 0 where
   -- they are exactly those of some run of Figure 1, first to last
   pub run : (d : Outer M) × Run (firstView S) d l
-  -- two attempted views with no totally registered view between their identifiers share a server that weighs more than 0
+  -- two attempted views with no totally registered view between their identifiers share a server that weighs more than
+  -- 0
   pub share : (v w : View) → Attempted S l v → Attempted S l w → idOf w < idOf v → NoneBetween S l (idOf w) (idOf v)
       → (p : Member) × T (has (v .set) p) × T (has (w .set) p) × (0 < weight p)
 
--- any members, first set and list length that start accepts; any steps, refused ones among them, of any kind number and operands
+-- any members, first set and list length that start accepts; any steps, refused ones among them, of any kind number and
+-- operands
 abbrev pub Demand3 : Type 0
 Demand3 =
     (weight : Member → ℕ) (n S room : ℕ) (s : Group) → start n S room ≡ accepted s → (steps : List Step)

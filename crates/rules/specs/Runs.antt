@@ -1,4 +1,5 @@
--- A list of steps put to a group one after another: the answers, the events, and what they say was attempted and totally registered.
+-- A list of steps put to a group one after another: the answers, the events, and what they say was attempted and
+-- totally registered.
 use mathlib.Core.Path.{_≡_}
 use mathlib.Core.Logic.{_⊎_}
 use mathlib.Core.List.{List, [], _∷_}
@@ -8,7 +9,8 @@ use Rattle.views.specs.declared.View.{View}
 use Rattle.views.specs.Members.{In}
 use Rattle.views.specs.Sets.{has}
 use Rattle.views.specs.Lists.{idOf}
-use Rattle.rules.specs.Data.{Identifier, Member, Group, Step, Event, attempt, register, AnswerOf, Answer, ok, event, refusal}
+use Rattle.rules.specs.Data.{Identifier, Member, Group, Step, Event, attempt, register, AnswerOf, Answer, ok}
+use Rattle.rules.specs.Data.{event, refusal}
 use Rattle.rules.specs.Group.{step, firstView}
 
 -- ---- a list of steps

@@ -1,5 +1,6 @@
--- Refusal 4: records that no step may touch. The parts stand in the order and words of the refusal table. What only bytes can hold (a count beyond
--- its places, an entry of unknown kind, a range not of its length) is the layout's part of it.
+-- Refusal 4: records that no step may touch. The parts stand in the order and words of the refusal table. What only
+-- bytes can hold (a count beyond its places, an entry of unknown kind, a range not of its length) is the layout's part
+-- of it.
 use mathlib.Core.Bool.{Bool, true, false, cond, not}
 use mathlib.Core.Option.{Option, none, some}
 use mathlib.Core.List.{List, [], _∷_}
@@ -48,14 +49,16 @@ listedIf l (some v) = listed l v
 module _ {M : Type 0} where
   -- ---- where the records' parts are
 
-  -- every book, every queued entry (outgoing, waiting in a made view, ordered in a made view), every item of an inward list
+  -- every book, every queued entry (outgoing, waiting in a made view, ordered in a made view), every item of an inward
+  -- list
   unfoldable pub everyBook : GroupOf M → (BookOf M → Bool) → Bool
   everyBook s f = every (s .members) (λ p. f (s .books p))
 
   unfoldable pub everyQueue : GroupOf M → (ℕ → List (EntryOf M) → Bool) → Bool
   everyQueue s f =
       both (every (s .members) (λ p. f maxOutgoing (s .books p .outgoing)))
-      (all (λ v. both (every (s .members) (λ p. f maxWaiting (s .waiting p (idOf v)))) (f maxOrdered (s .order (idOf v)))) (s .views))
+      (all (λ v. both (every (s .members) (λ p. f maxWaiting (s .waiting p (idOf v))))
+      (f maxOrdered (s .order (idOf v)))) (s .views))
 
   abbrev pub everyEntry : GroupOf M → (EntryOf M → Bool) → Bool
   everyEntry s f = everyQueue s (λ limit l. all f l)
@@ -145,5 +148,6 @@ module _ {M : Type 0} where
       ∷ everyBook s (bookListed (s .views))
       ∷ everyEntry s (infoListed (s .views))
       ∷ everyEntry s (fromMember (s .members))
-      ∷ everyBook s (λ b. both (all (itemFromMember (s .members)) (b .client .inward)) (all (itemFromMember (s .members)) (b .carrier .inward)))
+      ∷ everyBook s (λ b. both (all (itemFromMember (s .members)) (b .client .inward))
+      (all (itemFromMember (s .members)) (b .carrier .inward)))
       ∷ [])

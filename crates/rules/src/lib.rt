@@ -1,1 +1,2 @@
-// The rules of the service: the member, the carrier, the group and the outward machine. They are definitions alone, in specs/.
+// The rules of the service: the member, the carrier, the group and the outward machine. They are definitions alone, in
+// specs/.

@@ -41,4 +41,6 @@ popped b c s = set (moved b (s + slotSize) s (slotSize * (getD b c 0 - 1))) c (g
 
 -- the inward list with its count at c and its items from c + 1 on gains an item at its end
 unfoldable pub gained : List ℕ → ℕ → ℕ → ℕ → List ℕ
-gained b c q x = set (put (set b (c + 1 + itemSize * getD b c 0) q) (c + 1 + itemSize * getD b c 0 + itemNumber) numberSize x) c (getD b c 0 + 1)
+gained b c q x =
+    set (put (set b (c + 1 + itemSize * getD b c 0) q) (c + 1 + itemSize * getD b c 0 + itemNumber) numberSize x) c
+    (getD b c 0 + 1)

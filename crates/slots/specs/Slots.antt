@@ -1,5 +1,5 @@
--- Queue entries and inward items as bytes: what stands at a place. A queue is a count byte and slots of one size; only the first slots, as many as
--- the count says, are used.
+-- Queue entries and inward items as bytes: what stands at a place. A queue is a count byte and slots of one size; only
+-- the first slots, as many as the count says, are used.
 use mathlib.Core.Bool.{Bool, true, false, cond}
 use mathlib.Core.List.{List, [], _∷_}
 use Prim.Native.Nat.{ℕ, zero, suc, _+_, _*_, min}
@@ -81,7 +81,9 @@ itemsIn b at (suc n) = itemIn b at ∷ itemsIn b (at + itemSize) n
 -- ---- what only bytes can hold: an entry of unknown kind, an info's count beyond its places
 
 unfoldable pub slotFits : List ℕ → ℕ → Bool
-slotFits b at = both (isKnown (kindIn b at)) (cond (eqb (kindIn b at) infoKind) (both (leb 1 (countIn b at)) (leb (countIn b at) maxViews)) true)
+slotFits b at =
+    both (isKnown (kindIn b at))
+    (cond (eqb (kindIn b at) infoKind) (both (leb 1 (countIn b at)) (leb (countIn b at) maxViews)) true)
 
 unfoldable pub slotsFit : List ℕ → ℕ → ℕ → Bool
 slotsFit b at zero = true

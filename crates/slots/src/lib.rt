@@ -1,5 +1,5 @@
-// Queue entries and inward items in lent bytes, worked on in place. The places are given by whoever lays the records out, and each function asks that
-// what it touches lies within the bytes.
+// Queue entries and inward items in lent bytes, worked on in place. The places are given by whoever lays the records
+// out, and each function asks that what it touches lies within the bytes.
 use views::Member;
 use views::ViewId;
 use views::limits;

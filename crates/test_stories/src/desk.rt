@@ -1,5 +1,5 @@
-// What is remembered about each book: how many of its bytes are lent, the own number of its last accepted start, and the
-// length of what it last passed.
+// What is remembered about each book: how many of its bytes are lent, the own number of its last accepted start, and
+// the length of what it last passed.
 use events::Reply;
 use member::Passed;
 use views::refusal::Verdict;

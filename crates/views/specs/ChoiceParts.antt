@@ -13,4 +13,5 @@ choice v l r = record { view = v; left = l; right = r }
 abbrev pub choiceOf : Bool → View → Bool → View → Choice
 choiceOf false x hy y = choice y 0 1
 choiceOf true x false y = choice x 1 0
-choiceOf true x true y = cond (ltb (idOf y) (idOf x)) (choice y 0 1) (cond (eqb (idOf x) (idOf y)) (choice x 1 1) (choice x 1 0))
+choiceOf true x true y =
+    cond (ltb (idOf y) (idOf x)) (choice y 0 1) (cond (eqb (idOf x) (idOf y)) (choice x 1 1) (choice x 1 0))

@@ -26,7 +26,7 @@ maxWaiting = 8
 abbrev pub maxOrdered : ℕ
 maxOrdered = 128
 
--- bytes of the longest message, an info of 32 views: its kind, the identifier of the view sent in, the count of views and
--- the views, and the count of numbers, of which it has none
+-- bytes of the longest message, an info of 32 views: its kind, the identifier of the view sent in, the count of views
+-- and the views, and the count of numbers, of which it has none
 abbrev pub longest : ℕ
 longest = 1 + identifierSize + 1 + viewSize * maxViews + 1

@@ -39,10 +39,12 @@ unfoldable pub insertOf : View → List View → List View
 insertOf x [] = x ∷ []
 insertOf x (y ∷ l) = cond (ltb (idOf y) (idOf x)) (y ∷ insertOf x l) (cond (eqb (idOf x) (idOf y)) (y ∷ l) (x ∷ y ∷ l))
 
--- x among the views of a list: those below x before it, and after it what `rest` makes of the others, less the one with x's identifier
+-- x among the views of a list: those below x before it, and after it what `rest` makes of the others, less the one with
+-- x's identifier
 unfoldable pub among : View → (List View → List View) → List View → List View
 among x rest [] = x ∷ rest []
-among x rest (y ∷ l) = cond (ltb (idOf y) (idOf x)) (y ∷ among x rest l) (x ∷ rest (cond (eqb (idOf x) (idOf y)) l (y ∷ l)))
+among x rest (y ∷ l) =
+    cond (ltb (idOf y) (idOf x)) (y ∷ among x rest l) (x ∷ rest (cond (eqb (idOf x) (idOf y)) l (y ∷ l)))
 
 -- both lists together, by identifier; of two views with one identifier the first list's
 unfoldable pub unionOf : List View → List View → List View

@@ -19,6 +19,6 @@ pub const WAITING: u8 = 8;
 // Messages ordered in a view, and so what a member takes in it and tells of it.
 pub const ORDERED: u8 = 128;
 
-// Bytes of the longest message, an info of 32 views: its kind, the identifier of the view sent in, the count of views and
-// the views, and the count of numbers, of which it has none.
+// Bytes of the longest message, an info of 32 views: its kind, the identifier of the view sent in, the count of views
+// and the views, and the count of numbers, of which it has none.
 pub const LONGEST: usize = 1 + sizes::IDENTIFIER + 1 + sizes::VIEW * VIEWS + 1;

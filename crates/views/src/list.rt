@@ -1,5 +1,5 @@
-// Lists of views by value, rising by identifier: a count and 32 places. A list too long for its places keeps its count and
-// the first 32 views, so whoever makes one compares the count with its own limit.
+// Lists of views by value, rising by identifier: a count and 32 places. A list too long for its places keeps its count
+// and the first 32 views, so whoever makes one compares the count with its own limit.
 use crate::View;
 use crate::ViewId;
 use crate::limits;

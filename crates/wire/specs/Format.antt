@@ -1,4 +1,5 @@
--- Message bytes: kind, identifier of the view sent in, a section of views, a section of numbers. Whole numbers are big-endian.
+-- Message bytes: kind, identifier of the view sent in, a section of views, a section of numbers. Whole numbers are
+-- big-endian.
 use mathlib.Core.Bool.{Bool, true, false, cond}
 use mathlib.Core.List.{List, [], _∷_, _++_}
 use Prim.Native.Nat.{ℕ, zero, suc, _+_, _*_, _%_}
@@ -61,7 +62,9 @@ numbersBytes (x ∷ l) = digits numberSize x ++ numbersBytes l
 
 -- the bytes of a message sent in the view g, with an info's views
 unfoldable pub bytesOf : ℕ → Message → List View → List ℕ
-bytesOf g m l = (kindOf m ∷ digits identifierSize g) ++ ((length l ∷ viewsBytes l) ++ (length (numbersOf m) ∷ numbersBytes (numbersOf m)))
+bytesOf g m l =
+    (kindOf m ∷ digits identifierSize g)
+    ++ ((length l ∷ viewsBytes l) ++ (length (numbersOf m) ∷ numbersBytes (numbersOf m)))
 
 -- ---- what the format allows
 
@@ -87,4 +90,6 @@ toldFits kind x = cond (eqb kind toldKind) (both (leb 1 x) (leb x maxOrdered)) t
 
 -- what is asked of a whole message of a kind with the views l and the number x (0 where it carries none): 35 to 37
 unfoldable pub contentOf : ℕ → List View → ℕ → Verdict
-contentOf kind l x = require (cond (someEmpty l) false true) EmptySet (require (isRising l) NotRising (require (toldFits kind x) ToldOutOfRange Accepted))
+contentOf kind l x =
+    require (cond (someEmpty l) false true) EmptySet
+    (require (isRising l) NotRising (require (toldFits kind x) ToldOutOfRange Accepted))

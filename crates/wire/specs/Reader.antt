@@ -1,4 +1,5 @@
--- The reader: the message at the front of bytes, or the first refusal, 32 to 34 as the bytes come, then 35 to 37, and 38 above it.
+-- The reader: the message at the front of bytes, or the first refusal, 32 to 34 as the bytes come, then 35 to 37, and
+-- 38 above it.
 use mathlib.Core.Bool.{Bool, true, false, cond}
 use mathlib.Core.List.{List, [], _∷_}
 use Prim.Native.Nat.{ℕ, zero, suc, _+_, _*_, _%_}
@@ -117,4 +118,6 @@ readFront b = given (scanOf b) (given (wholeOf b) (record { verdict = Accepted; 
 
 -- the bytes as one message
 unfoldable pub readOf : List ℕ → Reading
-readOf b = given (readFront b .verdict) (given (require (leb (length b) (readFront b .taken)) BytesLeftOver Accepted) (readFront b))
+readOf b =
+    given (readFront b .verdict)
+    (given (require (leb (length b) (readFront b .taken)) BytesLeftOver Accepted) (readFront b))

@@ -41,7 +41,8 @@ headBytes kind g x n = (kind ∷ digits identifierSize g) ++ (digits numberSize 
 
 -- all 32 places of views
 unfoldable pub recordBytes : Frame → List ℕ
-recordBytes f = headBytes (kindOf (f .message)) (f .view .0) (numberOf (f .message)) (f .views .count) ++ viewsBytes (f .views .at)
+recordBytes f =
+    headBytes (kindOf (f .message)) (f .view .0) (numberOf (f .message)) (f .views .count) ++ viewsBytes (f .views .at)
 
 -- ---- the frame that a record is
 

@@ -30,7 +30,8 @@ numberOf (Told k) = k
 abbrev pub frameBytes : Frame → List ℕ
 frameBytes f = bytesOf (f .view .0) (f .message) (listOf (f .views))
 
--- a message has a known kind and its count of numbers by its form, so 33 does not apply and 34 is about the views; then 35 to 37
+-- a message has a known kind and its count of numbers by its form, so 33 does not apply and 34 is about the views; then
+-- 35 to 37
 unfoldable pub frameVerdict : Frame → Verdict
 frameVerdict f =
     require (viewsAllowed (kindOf (f .message)) (f .views .count)) SectionCount (

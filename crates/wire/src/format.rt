@@ -8,7 +8,8 @@ use views::refusal::Verdict;
 use views::sizes;
 ghost use mathlib.Core.Path.{_≡_};
 ghost use Rattle.views.specs.Lists.{listOf};
-ghost use Rattle.wire.specs.Format.{kindOf, isKnown, viewsAllowed, numbersAllowed, someEmpty, toldFits, contentOf};
+ghost use Rattle.wire.specs.Format.{kindOf, isKnown, viewsAllowed, numbersAllowed, someEmpty, toldFits};
+ghost use Rattle.wire.specs.Format.{contentOf};
 ghost use Rattle.wire.specs.Writer.{numberOf};
 ghost use Rattle.wire.specs.Reader.{messageOf};
 

@@ -9,8 +9,8 @@ ghost use lib.ListN.{length};
 ghost use Rattle.wire.specs.Writer.{overwritten};
 ghost use Rattle.wire.specs.Records.{recordSize, headBytes, recordBytes, counted, frameOf};
 
-// Where the parts of a message's record stand: its kind, the identifier of the view sent in, its number, the count of its
-// views, and the views.
+// Where the parts of a message's record stand: its kind, the identifier of the view sent in, its number, the count of
+// its views, and the views.
 pub const KIND: usize = 0;
 
 pub const VIEW: usize = KIND + 1;

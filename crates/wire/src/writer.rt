@@ -36,7 +36,8 @@ pub fn check(f: Frame) -> Verdict
 // The first n views of the list are stored from a place on.
 pub fn store_views(b: &mut [u8], from: usize, list: Views, n: usize)
     requires { ⌜ (from + viewSize * n ≤ length (now b)) × (n ≤ maxViews) ⌝ }
-    ensures { λ _. ⌜ now (b .exit) ≡ take from (now (b .entry)) ++ (viewsBytes (take n (list .at)) ++ drop (from + viewSize * n) (now (b .entry))) ⌝ }
+    ensures { λ _. ⌜ now (b .exit) ≡ take from (now (b .entry))
+        ++ (viewsBytes (take n (list .at)) ++ drop (from + viewSize * n) (now (b .entry))) ⌝ }
 {
     let mut i = 0;
     while i < n {
@@ -74,7 +75,9 @@ fn numbers_in(m: Message) -> u8
 // The section of numbers is stored at a place.
 fn store_numbers(b: &mut [u8], at: usize, m: Message)
     requires { ⌜ at + 1 + numberSize * length (numbersOf m) ≤ length (now b) ⌝ }
-    ensures { λ _. ⌜ now (b .exit) ≡ take at (now (b .entry)) ++ ((length (numbersOf m) ∷ numbersBytes (numbersOf m)) ++ drop (at + (1 + numberSize * length (numbersOf m))) (now (b .entry))) ⌝ }
+    ensures { λ _. ⌜ now (b .exit) ≡ take at (now (b .entry))
+        ++ ((length (numbersOf m) ∷ numbersBytes (numbersOf m))
+        ++ drop (at + (1 + numberSize * length (numbersOf m))) (now (b .entry))) ⌝ }
 {
     let count = numbers_in(m);
     b[at] = count;
@@ -88,7 +91,8 @@ fn store_numbers(b: &mut [u8], at: usize, m: Message)
 
 // The frame's bytes are stored at the front of a buffer that has room for them.
 fn store_frame(b: &mut [u8], f: Frame)
-    requires { ⌜ (shortest + viewSize * f .views .count + numberSize * length (numbersOf (f .message)) ≤ length (now b)) × (f .views .count ≤ maxViews) ⌝ }
+    requires { ⌜ (shortest + viewSize * f .views .count + numberSize * length (numbersOf (f .message))
+        ≤ length (now b)) × (f .views .count ≤ maxViews) ⌝ }
     ensures { λ _. ⌜ now (b .exit) ≡ overwritten (frameBytes f) (now (b .entry)) ⌝ }
 {
     let m = f.message;

@@ -17,7 +17,8 @@ pub const ROOM: usize = 93;
 // A word, numbers with a space before each, and the byte that ends the line.
 fn put_spoken(text: &mut [u8], word: &[u8], numbers: &[u64]) -> usize
     requires { ⌜ (length (now word) ≤ 8) × (length (now numbers) ≤ 4) × (93 ≤ length (now text)) ⌝ }
-    ensures { λ r. ⌜ Put (spoken (now (word .entry)) (now (numbers .entry))) (now (text .entry)) 0 (now (text .exit)) r ⌝ }
+    ensures { λ r. ⌜ Put (spoken (now (word .entry)) (now (numbers .entry))) (now (text .entry)) 0 (now (text .exit))
+        r ⌝ }
 {
     let mut at = put(text, 0, word);
     let mut i: usize = 0;

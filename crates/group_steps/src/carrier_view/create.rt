@@ -66,8 +66,10 @@ fn clear(queues: &mut [u8], i: u8)
 
 // The view is the next of the list, with its queues empty.
 fn make(list: &mut [u8], queues: &mut [u8], made: u8, v: View)
-    requires { ⌜ (made < maxViews) × (viewSize * made + viewSize ≤ length (now list)) × (orderAt made + tableSize ≤ length (now queues)) ⌝ }
-    ensures { λ _. ⌜ (now (list .exit) ≡ storeView (now (list .entry)) (viewSize * made) v) × (now (queues .exit) ≡ set (tableCleared (now (queues .entry)) made) madeAt (made + 1)) ⌝ }
+    requires { ⌜ (made < maxViews) × (viewSize * made + viewSize ≤ length (now list))
+        × (orderAt made + tableSize ≤ length (now queues)) ⌝ }
+    ensures { λ _. ⌜ (now (list .exit) ≡ storeView (now (list .entry)) (viewSize * made) v)
+        × (now (queues .exit) ≡ set (tableCleared (now (queues .entry)) made) madeAt (made + 1)) ⌝ }
 {
     wire::writer::store_view(list, group_bytes::VIEW * (made as usize), v);
     clear(queues, made);
@@ -77,7 +79,9 @@ fn make(list: &mut [u8], queues: &mut [u8], made: u8, v: View)
 // The carrier makes the view of an identifier and a set.
 pub fn create(list: &mut [u8], all: &[u8], queues: &mut [u8], id: u32, set: u64) -> Verdict
     requires { ⌜ rangesSound (record { list = now list; books = now all; queues = now queues }) ≡ true ⌝ }
-    ensures { λ r. ⌜ Created (record { list = now (list .entry); books = now (all .entry); queues = now (queues .entry) }) id set (now (list .exit)) (now (queues .exit)) r ⌝ }
+    ensures { λ r. ⌜ Created
+        (record { list = now (list .entry); books = now (all .entry); queues = now (queues .entry) }) id set
+        (now (list .exit)) (now (queues .exit)) r ⌝ }
 {
     if !fit(set, all[book_bytes::MEMBERS]) {
         return Verdict::Refused(Refusal::SetUnfit);

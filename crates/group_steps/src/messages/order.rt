@@ -14,7 +14,8 @@ ghost use Rattle.group_steps.specs.CarrierParts.{Ordered};
 
 // The slot at a place goes to the end of the queue at c, which lies below it.
 fn append(q: &mut [u8], c: usize, at: usize)
-    requires { ⌜ (c + 1 + slotSize * (getD (now q) c 0 + 1) ≤ at) × (getD (now q) c 0 < 255) × (at + slotSize ≤ length (now q)) ⌝ }
+    requires { ⌜ (c + 1 + slotSize * (getD (now q) c 0 + 1) ≤ at) × (getD (now q) c 0 < 255)
+        × (at + slotSize ≤ length (now q)) ⌝ }
     ensures { λ _. ⌜ now (q .exit) ≡ slotAdded (now (q .entry)) c (now (q .entry)) at ⌝ }
 {
     let n = q[c];
@@ -24,7 +25,8 @@ fn append(q: &mut [u8], c: usize, at: usize)
 
 // The first entry of the queue at w goes to the end of the queue at c, which lies below it.
 fn forward(q: &mut [u8], c: usize, w: usize)
-    requires { ⌜ (c + 1 + slotSize * (getD (now q) c 0 + 1) ≤ w) × (getD (now q) c 0 < 255) × (0 < getD (now q) w 0) × (w + 1 + slotSize * getD (now q) w 0 ≤ length (now q)) ⌝ }
+    requires { ⌜ (c + 1 + slotSize * (getD (now q) c 0 + 1) ≤ w) × (getD (now q) c 0 < 255) × (0 < getD (now q) w 0)
+        × (w + 1 + slotSize * getD (now q) w 0 ≤ length (now q)) ⌝ }
     ensures { λ _. ⌜ now (q .exit) ≡ popped (slotAdded (now (q .entry)) c (now (q .entry)) (w + 1)) w (w + 1) ⌝ }
 {
     append(q, c, w + 1);
@@ -34,7 +36,9 @@ fn forward(q: &mut [u8], c: usize, w: usize)
 // The first one waiting for the member p in a view goes to the end of the view's order.
 pub fn order(list: &[u8], all: &[u8], queues: &mut [u8], p: u32, id: u64) -> Verdict
     requires { ⌜ rangesSound (record { list = now list; books = now all; queues = now queues }) ≡ true ⌝ }
-    ensures { λ r. ⌜ Ordered (record { list = now (list .entry); books = now (all .entry); queues = now (queues .entry) }) p id (now (queues .exit)) r ⌝ }
+    ensures { λ r. ⌜ Ordered
+        (record { list = now (list .entry); books = now (all .entry); queues = now (queues .entry) }) p id
+        (now (queues .exit)) r ⌝ }
 {
     if all[book_bytes::MEMBERS] as u32 <= p {
         return Verdict::Refused(Refusal::NoSuchMember);

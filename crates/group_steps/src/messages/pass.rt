@@ -29,7 +29,8 @@ fn copy(q: &mut [u8], to: usize, from: &[u8], at: usize, n: usize)
 
 // The slot of another range at a place goes to the end of the queue at c.
 fn add(q: &mut [u8], c: usize, from: &[u8], at: usize)
-    requires { ⌜ (c + 1 + slotSize * (getD (now q) c 0 + 1) ≤ length (now q)) × (getD (now q) c 0 < 255) × (at + slotSize ≤ length (now from)) ⌝ }
+    requires { ⌜ (c + 1 + slotSize * (getD (now q) c 0 + 1) ≤ length (now q)) × (getD (now q) c 0 < 255)
+        × (at + slotSize ≤ length (now from)) ⌝ }
     ensures { λ _. ⌜ now (q .exit) ≡ slotAdded (now (q .entry)) c (now (from .entry)) at ⌝ }
 {
     let n = q[c];
@@ -39,8 +40,11 @@ fn add(q: &mut [u8], c: usize, from: &[u8], at: usize)
 
 // The first outgoing entry of the book b goes to the end of the queue at w.
 fn forward(b: &mut [u8], q: &mut [u8], w: usize)
-    requires { ⌜ (length (now b) ≡ bookSize) × (0 < getD (now b) outgoingAt 0) × (getD (now b) outgoingAt 0 ≤ maxOutgoing) × (getD (now q) w 0 < 255) × (w + 1 + slotSize * (getD (now q) w 0 + 1) ≤ length (now q)) ⌝ }
-    ensures { λ _. ⌜ (now (b .exit) ≡ passBytes (now (b .entry))) × (now (q .exit) ≡ slotAdded (now (q .entry)) w (now (b .entry)) (outgoingAt + 1)) ⌝ }
+    requires { ⌜ (length (now b) ≡ bookSize) × (0 < getD (now b) outgoingAt 0)
+        × (getD (now b) outgoingAt 0 ≤ maxOutgoing) × (getD (now q) w 0 < 255)
+        × (w + 1 + slotSize * (getD (now q) w 0 + 1) ≤ length (now q)) ⌝ }
+    ensures { λ _. ⌜ (now (b .exit) ≡ passBytes (now (b .entry)))
+        × (now (q .exit) ≡ slotAdded (now (q .entry)) w (now (b .entry)) (outgoingAt + 1)) ⌝ }
 {
     add(q, w, b, book_bytes::OUTGOING + 1);
     slots::pop(b, book_bytes::OUTGOING, book_bytes::OUTGOING + 1);
@@ -49,7 +53,9 @@ fn forward(b: &mut [u8], q: &mut [u8], w: usize)
 // The first outgoing message of the member p goes to its waiting in its carrier view.
 pub fn pass(list: &[u8], all: &mut [u8], queues: &mut [u8], p: u32) -> Verdict
     requires { ⌜ rangesSound (record { list = now list; books = now all; queues = now queues }) ≡ true ⌝ }
-    ensures { λ r. ⌜ Passed (record { list = now (list .entry); books = now (all .entry); queues = now (queues .entry) }) p (now (all .exit)) (now (queues .exit)) r ⌝ }
+    ensures { λ r. ⌜ Passed
+        (record { list = now (list .entry); books = now (all .entry); queues = now (queues .entry) }) p
+        (now (all .exit)) (now (queues .exit)) r ⌝ }
 {
     if all[book_bytes::MEMBERS] as u32 <= p {
         return Verdict::Refused(Refusal::NoSuchMember);

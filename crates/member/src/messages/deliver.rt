@@ -62,9 +62,12 @@ fn answer(n: u8, v: View, taken: u8, q: Member, f: Frame) -> Verdict
 
 // The message that was read is taken, in the carrier view v; 43 comes last.
 fn deliver_frame(b: &mut [u8], v: View, q: Member, f: Frame) -> Reply
-    requires { ⌜ (bytesSound (now b) ≡ true) × (bookIn (now b) .carrier .view ≡ some v) × (listOf (f .views) ≡ viewsOf (sentIn f .message)) ⌝ }
+    requires { ⌜ (bytesSound (now b) ≡ true) × (bookIn (now b) .carrier .view ≡ some v)
+        × (listOf (f .views) ≡ viewsOf (sentIn f .message)) ⌝ }
     ensures { λ r. ⌜ (r ≡ replyOf (arriving (membersIn (now (b .entry))) v (sentIn f) (q .0) (bookIn (now (b .entry)))))
-        × (now (b .exit) ≡ left (verdictOf (arriving (membersIn (now (b .entry))) v (sentIn f) (q .0) (bookIn (now (b .entry))))) (takeBytes (q .0) (sentIn f .message) (now (b .entry))) (now (b .entry))) ⌝ }
+        × (now (b .exit) ≡ left
+        (verdictOf (arriving (membersIn (now (b .entry))) v (sentIn f) (q .0) (bookIn (now (b .entry)))))
+        (takeBytes (q .0) (sentIn f .message) (now (b .entry))) (now (b .entry))) ⌝ }
 {
     let verdict = answer(b[book_bytes::MEMBERS], v, b[book_bytes::TAKEN], q, f);
     match verdict {
@@ -76,8 +79,12 @@ fn deliver_frame(b: &mut [u8], v: View, q: Member, f: Frame) -> Reply
 // The bytes are read for a sound book: 13, then the reader's refusals.
 fn deliver_read(b: &mut [u8], bytes: &[u8], q: Member) -> Reply
     requires { ⌜ bytesSound (now b) ≡ true ⌝ }
-    ensures { λ r. ⌜ (r ≡ replyOf (delivering (membersIn (now (b .entry))) (sentOf (readOf (now (bytes .entry)))) (q .0) (bookIn (now (b .entry)))))
-        × (now (b .exit) ≡ left (verdictOf (delivering (membersIn (now (b .entry))) (sentOf (readOf (now (bytes .entry)))) (q .0) (bookIn (now (b .entry))))) (deliverBytes (now (bytes .entry)) (q .0) (now (b .entry))) (now (b .entry))) ⌝ }
+    ensures { λ r. ⌜ (r ≡ replyOf
+        (delivering (membersIn (now (b .entry))) (sentOf (readOf (now (bytes .entry)))) (q .0)
+        (bookIn (now (b .entry)))))
+        × (now (b .exit) ≡ left
+        (verdictOf (delivering (membersIn (now (b .entry))) (sentOf (readOf (now (bytes .entry)))) (q .0)
+        (bookIn (now (b .entry))))) (deliverBytes (now (bytes .entry)) (q .0) (now (b .entry))) (now (b .entry))) ⌝ }
 {
     let carrier = book_bytes::load_seat(b, book_bytes::CARRIER);
     if !carrier.there {
@@ -97,7 +104,8 @@ fn deliver_read(b: &mut [u8], bytes: &[u8], q: Member) -> Reply
 
 // The bytes of a message from a sender are taken.
 pub fn deliver(b: &mut [u8], bytes: &[u8], sender: u8) -> Reply
-    ensures { λ r. ⌜ Gave (deliverCall (now (bytes .entry)) sender (now (b .entry))) (deliverBytes (now (bytes .entry)) sender (now (b .entry))) (now (b .entry)) (now (b .exit)) r ⌝ }
+    ensures { λ r. ⌜ Gave (deliverCall (now (bytes .entry)) sender (now (b .entry)))
+        (deliverBytes (now (bytes .entry)) sender (now (b .entry))) (now (b .entry)) (now (b .exit)) r ⌝ }
 {
     let v = admit(b);
     match v {

@@ -17,7 +17,8 @@ ghost use Rattle.member.specs.Calls.{GaveOut, passCall};
 
 // The frame is written into the buffer, and the first outgoing message goes: 39 leaves both.
 fn give_out(b: &mut [u8], out: &mut [u8], f: Frame) -> Passed
-    requires { ⌜ (0 < getD (now b) outgoingAt 0) × (outgoingAt + 1 + slotSize * getD (now b) outgoingAt 0 ≤ length (now b)) ⌝ }
+    requires { ⌜ (0 < getD (now b) outgoingAt 0)
+        × (outgoingAt + 1 + slotSize * getD (now b) outgoingAt 0 ≤ length (now b)) ⌝ }
     ensures { λ r. ⌜ SentOut f (now (b .entry)) (now (b .exit)) (now (out .entry)) (now (out .exit)) r ⌝ }
 {
     let w = wire::writer::write(out, f);
@@ -40,7 +41,8 @@ fn give_out(b: &mut [u8], out: &mut [u8], f: Frame) -> Passed
 // The first outgoing message of a sound book goes to the buffer: 13, 14, 39.
 fn pass_first(b: &mut [u8], out: &mut [u8]) -> Passed
     requires { ⌜ bytesSound (now b) ≡ true ⌝ }
-    ensures { λ r. ⌜ GaveOut (passingInto (length (now (out .entry))) (bookIn (now (b .entry)))) (passBytes (now (b .entry))) (now (b .entry)) (now (b .exit)) (now (out .entry)) (now (out .exit)) r ⌝ }
+    ensures { λ r. ⌜ GaveOut (passingInto (length (now (out .entry))) (bookIn (now (b .entry))))
+        (passBytes (now (b .entry))) (now (b .entry)) (now (b .exit)) (now (out .entry)) (now (out .exit)) r ⌝ }
 {
     let carrier = book_bytes::load_seat(b, book_bytes::CARRIER);
     if !carrier.there {
@@ -61,7 +63,8 @@ fn pass_first(b: &mut [u8], out: &mut [u8]) -> Passed
 
 // The first outgoing message is given out in bytes, at the front of the buffer.
 pub fn pass(b: &mut [u8], out: &mut [u8]) -> Passed
-    ensures { λ r. ⌜ GaveOut (passCall (length (now (out .entry))) (now (b .entry))) (passBytes (now (b .entry))) (now (b .entry)) (now (b .exit)) (now (out .entry)) (now (out .exit)) r ⌝ }
+    ensures { λ r. ⌜ GaveOut (passCall (length (now (out .entry))) (now (b .entry))) (passBytes (now (b .entry)))
+        (now (b .entry)) (now (b .exit)) (now (out .entry)) (now (out .exit)) r ⌝ }
 {
     let v = admit(b);
     match v {
