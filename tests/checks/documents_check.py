@@ -34,12 +34,12 @@ def counted(text):
     total, rows = 0, []
     for row in text.split('\n'):
         cells = row.split(' | ')
-        if row.startswith('| `crates/') and len(cells) == 3 and re.fullmatch(r'[\d,]+', cells[1]):
+        if row.startswith('| `crates/') and len(cells) == 4 and re.fullmatch(r'[\d,]+', cells[1]):
             missing = [p for p in files_of(cells[0]) if not p.is_file()]
             faults.extend('docs/TRUST.md names %s, which is not there' % p.relative_to(ROOT) for p in missing)
             count = sum(lines(p) for p in files_of(cells[0]) if p.is_file())
             total += count
-            row = ' | '.join([cells[0], str(count), cells[2]])
+            row = ' | '.join([cells[0], str(count)] + cells[2:])
         rows.append(row)
     return re.sub(r'all of them, [\d,]+ lines', 'all of them, {:,} lines'.format(total), '\n'.join(rows))
 
@@ -59,28 +59,41 @@ for document in DOCUMENTS:
             faults.append('%s names %s, which is not there' % (document.relative_to(ROOT), name))
 
 
-def asking():
-    """The public functions that ask something of their callers, each with its crate: those of private modules are not public."""
-    for library in sorted((ROOT / 'crates').glob('*/src/lib.rt')):
-        modules = re.findall(r'^pub mod (\w+);', library.read_text(), re.M)
-        for source in [library] + [library.parent / (name + '.rt') for name in modules]:
-            for name, contract in re.findall(r'^pub fn (\w+)(\(.*?)\{$', source.read_text(), re.M | re.S):
-                if 'requires {' in contract:
-                    yield library.parent.parent.name, name
+def believed():
+    """The files of definitions that docs/TRUST.md names, in a table or in its text."""
+    named = {ROOT / name for name in re.findall(r'`(crates/\w+/specs/[\w/]+\.antt)`', TRUST.read_text())}
+    for row in TRUST.read_text().split('\n'):
+        if re.match(r'\| `crates/\w+/specs/', row):
+            named.update(files_of(row.split(' | ')[0]))
+    return named
 
 
-decided = (ROOT / 'docs' / 'DECISIONS.md').read_text()
-named = decided.split('**Functions that ask something of their callers.**')[1].split('What a host may call')[0]
-whole = re.findall(r'all of `(\w+)`', named) + re.findall(r'`(\w+)`', re.search(r'the steps of (.*?), with', named).group(1))
-for crate, name in asking():
-    if crate not in whole and not re.search(r'`(\w+::)?%s`' % name, named):
-        faults.append('docs/DECISIONS.md does not name %s of %s, which asks something of its callers' % (name, crate))
+named = believed()
+for path in sorted((ROOT / 'crates').glob('*/specs/**/*.antt')):
+    if path not in named and not path.stem.endswith('Parts') and path.stem != 'Lib':
+        faults.append('docs/TRUST.md does not name %s, and it is no Parts' % path.relative_to(ROOT))
 
 
-answers = (ROOT / 'docs' / 'ARCHITECTURE.md').read_text().split('\n## Wrong answers\n')[1].split('\n## ')[0]
-for crate, name in re.findall(r'`(\w+)/(\w+)`', answers):
-    if not list((ROOT / 'crates' / crate).glob('m*/%s.edit' % name)):
-        faults.append('docs/ARCHITECTURE.md names the edit %s of %s, which is not there' % (name, crate))
+def function(crate, path):
+    """The text of a public function up to its body, or nothing."""
+    *modules, name = path.split('::')
+    source = ROOT / 'crates' / crate / 'src' / ('/'.join(modules) + '.rt' if modules else 'lib.rt')
+    found = re.search(r'^pub (?:extern "C" )?fn %s\(.*?^\{' % name, source.read_text(), re.M | re.S) if source.is_file() else None
+    return found and found.group(0)
+
+
+# what a host may call, by the table of docs/DECISIONS.md, and every exported function
+decided = (ROOT / 'docs' / 'DECISIONS.md').read_text().split('**What a host may call')[1].split('Every other public function')[0]
+called = [(crate, path) for crates, paths in re.findall(r'^  \| (`.*?) \| (.*) \|$', decided, re.M)
+          for crate in re.findall(r'`(\w+)`', crates) for path in re.findall(r'`([\w:]+)`', paths)]
+for source in sorted((ROOT / 'crates' / 'dvs' / 'src').glob('*.rt')):
+    called += [('dvs', source.stem + '::' + name) for name in re.findall(r'^pub extern "C" fn (\w+)', source.read_text(), re.M)]
+for crate, path in called:
+    contract = function(crate, path)
+    if not contract:
+        faults.append('docs/DECISIONS.md names %s::%s, which is no public function' % (crate, path))
+    elif 'requires {' in contract:
+        faults.append('%s::%s, which a host may call, asks something of its caller' % (crate, path))
 
 
 def shown(heading):

@@ -63,7 +63,7 @@ def expected_constants():
     wanted.update({'DVS_' + name: kinds[name] for name in ('CLIENT', 'INFO', 'REGISTERED', 'TOLD')})
     # the steps, by the kinds of the dispatcher's arms; the refusals, by their numbers
     steps = constants('events/src/kinds.rt')
-    arms = re.findall(r'^\s+kinds::(\w+) => .*?(\w+)\((?:list|all),', source('group/src/step.rt'), flags=re.M)
+    arms = re.findall(r'^\s+kinds::(\w+) => (?:plain\()?[\w:]*?(\w+)\(\s*(?:list|all),', source('group/src/step.rt'), flags=re.M)
     wanted.update({'DVS_STEP_' + name.upper(): steps[kind] for kind, name in arms})
     wanted['DVS_ACCEPTED'] = int(found(r'Verdict::Accepted => (\d+),', source('views/src/refusal.rt'), 'refusals'))
     refusals = re.findall(r'Refusal::(\w+) => (\d+),', source('views/src/refusal.rt'))

@@ -75,6 +75,17 @@ def variants(now):
     return text
 
 
+def imports(now):
+    """The imports of the variants, as many to a line as fit."""
+    front, lines = now[:now.index('{') + 1], []
+    for r in REFUSALS:
+        if not lines or len(lines[-1]) + len(r.name) + 3 > WIDTH:
+            lines.append(front + r.name)
+        else:
+            lines[-1] += ', ' + r.name
+    return ''.join(line + '}\n' for line in lines)
+
+
 def proof_of_numbers():
     """The proof of `number`: for each arm that it has its variant, and that the arm gives the variant's number."""
     def suffix(i, dash='-'):
@@ -98,16 +109,15 @@ def constants():
     return text + '\n#define DVS_REFUSALS %du /* how many there are: the highest number */\n' % len(REFUSALS)
 
 
-NAMES = ', '.join(r.name for r in REFUSALS)
 WHOLE = ''  # before, or behind, all of the file
 # A file, what stands before and behind the part of it that the list makes, and that part.
 PARTS = [
     ('crates/*/src/**/refusal.rt', 'pub enum Refusal {\n', '}\n', variants),
     ('crates/*/src/**/refusal.rt', '    match r {\n', '    }\n', each('        Refusal::{r.name} => {r.number},\n')),
-    ('crates/*/specs/**/Refusals.antt', '.Refusal.the-variants.{', '}\n', NAMES),
+    ('crates/*/specs/**/Refusals.antt', '.Refusal.{Refusal}\n', 'use Rattle.views.specs.declared.refusal.Verdict.{Verdict}\n', imports),
     ('crates/*/specs/**/Refusals.antt', 'numberOf : Refusal → ℕ\n', '\n-- 0 for accepted', each('numberOf {r.name} = {r.number}\n')),
     ('crates/*/proofs/**/refusal/number/Proof.antt', '.Tie as tie\n\n', WHOLE, proof_of_numbers()),
-    ('crates/*/proofs/**/Numbers.antt', '.Refusal.the-variants.{', '}\n', NAMES),
+    ('crates/*/proofs/**/Numbers.antt', '.Refusal.{Refusal}\n', 'use Rattle.views.specs.Refusals.{numberOf}\n', imports),
     ('crates/*/proofs/**/Numbers.antt', 'eqb (numberOf r) 0 ≡ false\n', WHOLE, each('never-0 {r.name} = refl\n')),
     ('include/dvs.h', '#define DVS_ACCEPTED 0u\n', '\n/*\n', constants()),
     ('include/dvs_types.hpp', '  none = DVS_ACCEPTED,\n', '};\n', each('  {r.lower} = DVS_REFUSED_{r.screaming},\n')),

@@ -34,7 +34,7 @@ unfolding left
 ranges-left (refused y) new old f = refl
 ranges-left (accepted y) new old f = refl
 
-step-left : (r : Ranges) (c : Step) (f : Ranges → List ℕ) → f (stepRanges r c) ≡ left (stepReply r c .verdict) (f (stepRanges r c)) (f r)
+pub step-left : (r : Ranges) (c : Step) (f : Ranges → List ℕ) → f (stepRanges r c) ≡ left (stepReply r c .verdict) (f (stepRanges r c)) (f r)
 unfolding stepRanges stepReply
 step-left r c f = ranges-left (stepResult r c) (moved r c) r f
 

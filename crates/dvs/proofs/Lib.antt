@@ -4,3 +4,4 @@ pub mod MessageLaws
 pub mod EventLaws
 pub mod GroupLaws
 pub mod GroupNarrowing
+pub mod Chain

@@ -2,3 +2,4 @@ pub mod BookCalls
 pub mod MessageCalls
 pub mod EventCalls
 pub mod GroupCalls
+pub mod Promises

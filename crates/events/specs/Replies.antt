@@ -12,8 +12,7 @@ use Rattle.rules.specs.Member.{Done}
 use Rattle.events.specs.declared.Event.{Event}
 use Rattle.events.specs.declared.Reply.{Reply}
 
--- ---- verdicts
-
+-- the verdict of a result of the rules
 abbrev pub verdictOf : {A : Type 0} → Result A → Verdict
 verdictOf (refused r) = Refused r
 verdictOf (accepted x) = Accepted

@@ -1,6 +1,9 @@
 // Step: 4 for unsound ranges, then the step of a kind's number.
 use events::Reply;
 use events::kinds;
+use group_steps::carrier_view;
+use group_steps::client_view;
+use group_steps::messages;
 use views::refusal::Refusal;
 use views::refusal::Verdict;
 ghost use mathlib.Core.Path.{_≡_};
@@ -36,30 +39,18 @@ fn dispatch(
         (asked kind first second) (ranges (now (list .exit)) (now (all .exit)) (now (queues .exit))) r ⌝ }
 {
     match kind {
-        kinds::CREATE => plain(group_steps::carrier_view::create::create(
-            list,
-            all,
-            queues,
-            first,
-            second,
-        )),
-        kinds::JOIN => group_steps::carrier_view::join(list, all, queues, first, second),
-        kinds::PASS => plain(group_steps::messages::pass::pass(list, all, queues, first)),
-        kinds::ORDER => plain(group_steps::messages::order::order(
-            list,
-            all,
-            queues,
-            first,
-            second,
-        )),
-        kinds::DELIVER => group_steps::messages::deliver(list, all, queues, first),
-        kinds::ATTEMPT => group_steps::carrier_view::attempt(all, first),
-        kinds::REGISTER => group_steps::client_view::register(all, first),
-        kinds::SEND => group_steps::client_view::send(all, first, second),
-        kinds::HAND => group_steps::client_view::hand(all, first),
-        kinds::TELL => group_steps::client_view::tell(all, first),
-        kinds::SAFE => group_steps::client_view::safe(all, first),
-        kinds::COLLECT => group_steps::carrier_view::collect(all, first),
+        kinds::CREATE => plain(carrier_view::create::create(list, all, queues, first, second)),
+        kinds::JOIN => carrier_view::join(list, all, queues, first, second),
+        kinds::PASS => plain(messages::pass::pass(list, all, queues, first)),
+        kinds::ORDER => plain(messages::order::order(list, all, queues, first, second)),
+        kinds::DELIVER => messages::deliver(list, all, queues, first),
+        kinds::ATTEMPT => carrier_view::attempt(all, first),
+        kinds::REGISTER => client_view::register(all, first),
+        kinds::SEND => client_view::send(all, first, second),
+        kinds::HAND => client_view::hand(all, first),
+        kinds::TELL => client_view::tell(all, first),
+        kinds::SAFE => client_view::safe(all, first),
+        kinds::COLLECT => carrier_view::collect(all, first),
         0 | 13..=255 => events::refuse(Refusal::UnknownStep),
     }
 }

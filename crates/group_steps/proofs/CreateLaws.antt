@@ -14,7 +14,7 @@ use Rattle.views.specs.declared.refusal.Refusal.the-variants.{SetUnfit, Identif
 use Rattle.views.specs.declared.refusal.Verdict.the-variants.{Accepted, Refused}
 use Rattle.views.specs.Limits.{maxMembers}
 use Rattle.views.specs.Sizes.{viewSize}
-use Rattle.views.specs.Sets.{isEmpty, isBeyond}
+use Rattle.views.specs.Sets.{both, isEmpty, isBeyond}
 use Rattle.views.specs.Lists.{viewOf}
 use Rattle.views.specs.Refusals.{left}
 use Rattle.wire.specs.Reader.{viewsIn}
@@ -40,13 +40,9 @@ fit-wide n S h k =
     let m : 2 ^ n ≤ 2 ^ 8 = pow-mono {i = n} {j = 8} h in
     rw (ne-eqb S 0 (λ e. omega arith), le-leb (2 ^ n) S (omega arith))
 
-pub fit-empty : (n S : ℕ) → isEmpty S ≡ true → false ≡ fits n S
+pub fit-byte : (n S : ℕ) → both (not (isEmpty S)) (not (isBeyond S n)) ≡ fits n S
 unfolding fits
-fit-empty n S e = rw e
-
-pub fit-some : (n S : ℕ) → isEmpty S ≡ false → not (isBeyond S n) ≡ fits n S
-unfolding fits
-fit-some n S e = rw e
+fit-byte n S = refl
 
 -- ---- the identifiers, by turns: the views from the i-th on
 

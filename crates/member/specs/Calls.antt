@@ -94,7 +94,7 @@ takenBytes (accepted x) q b = takeBytes q (x .message) b
 unfoldable pub deliverBytes : List ℕ → Member → List ℕ → List ℕ
 deliverBytes bytes q b = takenBytes (sentOf (readOf bytes)) q b
 
--- ---- what a call gives and leaves: the reply r, and the book's bytes at exit, where `new` is what it leaves if it is accepted
+-- ---- what a call gives and leaves: the reply r, and the book's bytes at exit; an accepted one leaves `new`
 
 pub record Gave (result : Result Done) (new entry exit : List ℕ) (r : Reply) : Type 0 where
   pub reply : r ≡ replyOf result

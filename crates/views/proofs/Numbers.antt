@@ -3,7 +3,19 @@ use mathlib.Core.Path.{_≡_, refl}
 use mathlib.Core.Bool.{false}
 use lib.Dec.{eqb}
 use Rattle.views.specs.declared.refusal.Refusal.{Refusal}
-use Rattle.views.specs.declared.refusal.Refusal.the-variants.{MembersOutOfRange, FirstSetUnfit, ListLength, RecordsUnsound, UnknownStep, NoSuchMember, SetUnfit, IdentifierNotAbove, ListFull, NoSuchView, NotInSet, NotAboveCarrier, NoCarrierView, NoneOutgoing, WaitingFull, OrderFull, NoneWaiting, NoneToDeliver, NotAboveClient, InfoMissing, TestFailed, NoClientView, AlreadyRegistered, OutgoingFull, NoneToHand, ClientNotCarrier, NothingNewToTell, NoneToReport, ToldTooLow, NotAboveSettled, RegistrationMissing, EndsEarly, UnknownKind, SectionCount, EmptySet, NotRising, ToldOutOfRange, BytesLeftOver, BufferTooShort, LineUnreadable, AnotherView, SenderNotInView, TooManyOpen}
+use Rattle.views.specs.declared.refusal.Refusal.the-variants.{MembersOutOfRange, FirstSetUnfit, ListLength}
+use Rattle.views.specs.declared.refusal.Refusal.the-variants.{RecordsUnsound, UnknownStep, NoSuchMember, SetUnfit}
+use Rattle.views.specs.declared.refusal.Refusal.the-variants.{IdentifierNotAbove, ListFull, NoSuchView, NotInSet}
+use Rattle.views.specs.declared.refusal.Refusal.the-variants.{NotAboveCarrier, NoCarrierView, NoneOutgoing}
+use Rattle.views.specs.declared.refusal.Refusal.the-variants.{WaitingFull, OrderFull, NoneWaiting, NoneToDeliver}
+use Rattle.views.specs.declared.refusal.Refusal.the-variants.{NotAboveClient, InfoMissing, TestFailed}
+use Rattle.views.specs.declared.refusal.Refusal.the-variants.{NoClientView, AlreadyRegistered, OutgoingFull}
+use Rattle.views.specs.declared.refusal.Refusal.the-variants.{NoneToHand, ClientNotCarrier, NothingNewToTell}
+use Rattle.views.specs.declared.refusal.Refusal.the-variants.{NoneToReport, ToldTooLow, NotAboveSettled}
+use Rattle.views.specs.declared.refusal.Refusal.the-variants.{RegistrationMissing, EndsEarly, UnknownKind}
+use Rattle.views.specs.declared.refusal.Refusal.the-variants.{SectionCount, EmptySet, NotRising, ToldOutOfRange}
+use Rattle.views.specs.declared.refusal.Refusal.the-variants.{BytesLeftOver, BufferTooShort, LineUnreadable}
+use Rattle.views.specs.declared.refusal.Refusal.the-variants.{AnotherView, SenderNotInView, TooManyOpen}
 use Rattle.views.specs.Refusals.{numberOf}
 
 pub never-0 : (r : Refusal) → eqb (numberOf r) 0 ≡ false

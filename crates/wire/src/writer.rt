@@ -42,9 +42,9 @@ pub fn store_views(b: &mut [u8], from: usize, list: Views, n: usize)
     let mut i = 0;
     while i < n {
         let v = list.at[i];
-        let at = from + sizes::VIEW * i;
-        numbers::put_number(b, at, sizes::IDENTIFIER, v.id.0 as u64);
-        b[at + sizes::IDENTIFIER] = v.set;
+        let place = from + sizes::VIEW * i;
+        numbers::put_number(b, place, sizes::IDENTIFIER, v.id.0 as u64);
+        b[place + sizes::IDENTIFIER] = v.set;
         i += 1;
     }
 }

@@ -28,10 +28,7 @@ fn fit(set: u64, members: u8) -> bool
         return false;
     }
     let s = set as u8;
-    if sets::empty(s) {
-        return false;
-    }
-    !sets::beyond(s, members)
+    sets::fits(members, s)
 }
 
 // The identifier is above those of the first n views of the list.

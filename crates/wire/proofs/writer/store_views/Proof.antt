@@ -26,11 +26,11 @@ mul-v c = omega arith
 element-copy-out-v : tie.Need-element-copy-out-v Inv-loop μ-loop
 element-copy-out-v c = omega arith
 
-mul-at : tie.Need-mul-at Inv-loop μ-loop
-mul-at c = omega arith
+mul-place : tie.Need-mul-place Inv-loop μ-loop
+mul-place c = omega arith
 
-add-at : tie.Need-add-at Inv-loop μ-loop
-add-at c = omega arith
+add-place : tie.Need-add-place Inv-loop μ-loop
+add-place c = omega arith
 
 cast-put-number : tie.Need-cast-put-number Inv-loop μ-loop
 cast-put-number c = search needs
@@ -75,8 +75,8 @@ store-views-spec =
     loop-holds
     mul-v
     element-copy-out-v
-    mul-at
-    add-at
+    mul-place
+    add-place
     cast-put-number
     put-number-requires
     add-b

@@ -1,7 +1,6 @@
--- `group_steps::carrier_view::create::fit` meets its contract: each way out with the tests that led to it.
-use mathlib.Core.Path.{sym, ap, _∙_}
-use mathlib.Core.Bool.{not}
-use Rattle.group_steps.proofs.CreateLaws.{fit-wide, fit-empty, fit-some}
+-- `group_steps::carrier_view::create::fit` meets its contract: a set that is no byte is beyond any members, any other is asked as a byte.
+use mathlib.Core.Path.{_∙_}
+use Rattle.group_steps.proofs.CreateLaws.{fit-wide, fit-byte}
 use borrow.Author.Needs.{needs}
 use Rattle.group_steps.proofs.carrier_view.create.fit.Statement.{statement}
 use Rattle.group_steps.proofs.carrier_view.create.fit.Tie as tie
@@ -12,19 +11,11 @@ returns c = fit-wide (c .before .args .members) (c .before .args .set) (c .befor
 cast-s : tie.Need-cast-s
 cast-s c = search needs
 
-empty-requires : tie.Need-empty-requires
-empty-requires c κs = search needs
+fits-requires : tie.Need-fits-requires
+fits-requires c κs = search needs
 
 returns-2 : tie.Need-returns-2
-returns-2 c = let a = c .before .before .before .args in fit-empty (a .members) (a .set) (sym (c .before .empty .ensures) ∙ c .if2 .taken)
-
-beyond-requires : tie.Need-beyond-requires
-beyond-requires c κs = search needs
-
-returns-3 : tie.Need-returns-3
-returns-3 c =
-    let a = c .before .before .before .before .args in
-    ap not (c .beyond .ensures) ∙ fit-some (a .members) (a .set) (sym (c .before .before .empty .ensures) ∙ c .before .if2 .left)
+returns-2 c = c .fits2 .ensures ∙ fit-byte _ _
 
 pub fit-spec : {M : Type 1} → statement M
-fit-spec = tie.close (tie.spec returns cast-s empty-requires returns-2 beyond-requires returns-3)
+fit-spec = tie.close (tie.spec returns cast-s fits-requires returns-2)
