@@ -1,5 +1,5 @@
 #!/usr/bin/env python3
-"""Messages as bytes, a second time, in plain Python: the lines that the program `vectors` is run on, and the answers it must give.
+"""Messages as bytes, a second time, in plain Python: the lines that the program `test_vectors` is run on, and the answers it must give.
 
     python3 tests/reference/wire_vectors.py stdin  > crates/test_vectors/stdin
     python3 tests/reference/wire_vectors.py stdout > crates/test_vectors/stdout

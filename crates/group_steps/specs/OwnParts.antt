@@ -27,7 +27,7 @@ unfoldable pub ofMember : List ℕ → Member → (List ℕ → Result Done) →
 ofMember books p rule = need (ltb p (getD books membersAt 0)) NoSuchMember (rule (bookBytes books p))
 
 -- the reply and the books at exit, where `new` is what an accepted step leaves of p's book
-pub record OwnStep (p : Member) (result : Result Done) (new : List ℕ → List ℕ) (entry exit : List ℕ) (r : Reply) : Type
-    0 where
+pub record OwnStep (p : Member) (result : Result Done) (new : List ℕ → List ℕ) (entry exit : List ℕ) (r : Reply)
+    : Type 0 where
   pub reply : r ≡ replyOf result
   pub books : exit ≡ left (verdictOf result) (withBook entry p (new (bookBytes entry p))) entry
