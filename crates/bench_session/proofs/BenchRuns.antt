@@ -9,12 +9,13 @@ use Rattle.views.specs.declared.refusal.Verdict.the-variants.{Accepted, Refused
 use Rattle.views.specs.Members.{top, pop}
 use Rattle.views.specs.Sets.{one}
 use Rattle.views.proofs.SetLaws.{both-true}
+use Rattle.views.specs.Refusals.{left}
 use Rattle.rules.specs.Data.{Group as State, Step as Asked, Event as Outward, Result, refused, accepted}
 use Rattle.rules.specs.Promise.{Promised}
 use Rattle.events.specs.Replies.{noEvent, replied, verdictOf}
 use Rattle.group_bytes.specs.Groups.{Ranges}
 use Rattle.group_bytes.specs.Starts.{startRanges}
-use Rattle.group_bytes.specs.Steps.{startResult, leftRanges, stepRanges, stepReply, repliesOf}
+use Rattle.group_bytes.specs.Steps.{startResult, stepRanges, stepReply, repliesOf}
 use Rattle.group_bytes.specs.Promises.{Given, AllGiven, shownBy, eventsShown}
 use Rattle.group_bytes.proofs.GroupRuns.{demand3-ranges}
 use Rattle.group.specs.StepCalls.{asked}
@@ -38,9 +39,9 @@ EventsOfSteps r l = eventsShown (repliesTo true r l) ≡ eventsShown (repliesOf 
 
 -- a `group` line with the verdict v that is not accepted
 after-group : (v : Verdict) (r d : Ranges) (l : List Line) → not (accepts v) ≡ true → (noneStarts true r l ≡ true → EventsOfSteps r l)
-    → noneStarts (nowRunning v true) (leftRanges v d r) l ≡ true
-    → shownBy (replied v noEvent .verdict) (replied v noEvent .event) ++ eventsShown (repliesTo (nowRunning v true) (leftRanges v d r) l) ≡ eventsShown (repliesOf r (stepsOf l))
-unfolding replied
+    → noneStarts (nowRunning v true) (left v d r) l ≡ true
+    → shownBy (replied v noEvent .verdict) (replied v noEvent .event) ++ eventsShown (repliesTo (nowRunning v true) (left v d r) l) ≡ eventsShown (repliesOf r (stepsOf l))
+unfolding replied left
 after-group Accepted r d l n k h = let z : _≡_ {A = ℕ} 0 1 = cc in absurd (omega arith)
 after-group (Refused f) r d l n k h = k h
 
@@ -80,8 +81,9 @@ steps-given (s ∷ m) = given-by (lineOf s) (linesOf m) (line-wide s) (steps-giv
 
 promised-by : (x : Result State) (running : Bool) (r d : Ranges) (S : ℕ) (m : List (List ℕ)) → accepts (verdictOf x) ≡ true
     → ((s : State) → x ≡ accepted s → Promised one S (eventsShown (repliesOf d (stepsOf (linesOf m)))))
-    → noneStarts (nowRunning (verdictOf x) running) (leftRanges (verdictOf x) d r) (linesOf m) ≡ true
-    → Promised one S (eventsShown (repliesTo (nowRunning (verdictOf x) running) (leftRanges (verdictOf x) d r) (linesOf m)))
+    → noneStarts (nowRunning (verdictOf x) running) (left (verdictOf x) d r) (linesOf m) ≡ true
+    → Promised one S (eventsShown (repliesTo (nowRunning (verdictOf x) running) (left (verdictOf x) d r) (linesOf m)))
+unfolding left
 promised-by (refused f) running r d S m a p h = let z : _≡_ {A = ℕ} 0 1 = cc in absurd (omega arith)
 promised-by (accepted s) running r d S m a p h = rw (steps-shown d (linesOf m) h) (p s refl)
 

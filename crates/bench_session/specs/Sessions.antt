@@ -5,11 +5,12 @@ use Prim.Native.Nat.{ℕ}
 use Rattle.views.specs.declared.refusal.Refusal.the-variants.{LineUnreadable}
 use Rattle.views.specs.declared.refusal.Verdict.{Verdict}
 use Rattle.views.specs.declared.refusal.Verdict.the-variants.{Accepted, Refused}
+use Rattle.views.specs.Refusals.{left}
 use Rattle.events.specs.declared.Reply.{Reply}
 use Rattle.events.specs.Replies.{noEvent, replied, verdictOf}
 use Rattle.group_bytes.specs.Groups.{Ranges}
 use Rattle.group_bytes.specs.Starts.{startRanges}
-use Rattle.group_bytes.specs.Steps.{startResult, leftRanges, stepRanges, stepReply}
+use Rattle.group_bytes.specs.Steps.{startResult, stepRanges, stepReply}
 use Rattle.group.specs.StepCalls.{asked}
 use Rattle.bench_lines.specs.declared.lines.Line.{Line}
 use Rattle.bench_lines.specs.declared.lines.Line.the-variants.{Unreadable, Group, Step}
@@ -49,7 +50,7 @@ answerTo running r (Group s) =
     record {
       reply = replied v noEvent;
       running = nowRunning v running;
-      ranges = leftRanges v (startRanges (s .members) (s .set) r) r;
+      ranges = left v (startRanges (s .members) (s .set) r) r;
     }
 answerTo running r (Step s) =
     let c = asked (s .kind) (s .first) (s .second) in

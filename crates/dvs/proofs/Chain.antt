@@ -33,7 +33,7 @@ use Rattle.rules.specs.Promise.{Promised}
 use Rattle.events.specs.Replies.{verdictOf}
 use Rattle.group_bytes.specs.Groups.{Ranges}
 use Rattle.group_bytes.specs.Starts.{startRanges}
-use Rattle.group_bytes.specs.Steps.{startResult, leftRanges, stepRanges, stepReply, repliesOf}
+use Rattle.group_bytes.specs.Steps.{startResult, stepRanges, stepReply, repliesOf}
 use Rattle.group_bytes.specs.Promises.{shownBy, eventsShown, Given, AllGiven}
 use Rattle.c_answers.specs.Answers.{eventSize}
 use Rattle.c_answers.proofs.AnswerLaws.{sized-met, sized-unmet}
@@ -85,6 +85,7 @@ called-shows (call {r} {d} {f} {l} c e e' x g s k) = call-shows r d c e e' x l g
 -- ---- a start that gave 0 was accepted
 
 begun : (n S : ℕ) (r d : Ranges) → Begins r n S d 0 → (s : Group) × (startResult n S r ≡ accepted s) × (d ≡ startRanges n S r)
+unfolding left
 begun n S r d b = go (startResult n S r) refl
   where
     go : (x : Result Group) → startResult n S r ≡ x → (s : Group) × (startResult n S r ≡ accepted s) × (d ≡ startRanges n S r)

@@ -11,7 +11,7 @@ use Rattle.events.specs.declared.Reply.{Reply}
 use Rattle.events.specs.Replies.{verdictOf}
 use Rattle.group_bytes.specs.Groups.{Ranges}
 use Rattle.group_bytes.specs.Answers.{nextReply}
-use Rattle.group_bytes.specs.Steps.{stepResult, moved, leftRanges, stepRanges, stepReply}
+use Rattle.group_bytes.specs.Steps.{stepResult, moved, stepRanges, stepReply}
 use Rattle.group.specs.StartCalls.{Began}
 use Rattle.group.specs.StepCalls.{Went}
 use Rattle.c_answers.specs.Answers.{eventSize, eventBytes}
@@ -29,7 +29,7 @@ steps-unsized r c e x h k =
 
 -- a refused step leaves the ranges
 ranges-left : (x : Result Next) (new old : Ranges) (f : Ranges → List ℕ)
-    → f (leftRanges (verdictOf x) new old) ≡ left (nextReply x .verdict) (f (leftRanges (verdictOf x) new old)) (f old)
+    → f (left (verdictOf x) new old) ≡ left (nextReply x .verdict) (f (left (verdictOf x) new old)) (f old)
 unfolding left
 ranges-left (refused y) new old f = refl
 ranges-left (accepted y) new old f = refl

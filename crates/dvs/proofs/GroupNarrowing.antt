@@ -8,6 +8,7 @@ use Rattle.views.specs.declared.refusal.Refusal.the-variants.{RecordsUnsound, U
 use Rattle.views.specs.declared.refusal.Verdict.the-variants.{Refused}
 use Rattle.views.specs.Limits.{maxMembers}
 use Rattle.views.proofs.SetLaws.{known}
+use Rattle.views.specs.Refusals.{left}
 use Rattle.rules.specs.Data.{Step}
 use Rattle.rules.specs.Sound.{within}
 use Rattle.rules.specs.Group.{fits, start}
@@ -23,6 +24,7 @@ use Rattle.c_answers.proofs.StandIns.{RefusedAlike, need-alike, unmet-alike, by
 use Rattle.dvs.specs.GroupCalls.{Begins}
 
 begins-alike : (r d : Ranges) (n n' S S' k : ℕ) → RefusedAlike (startResult n S r) (startResult n' S' r) → Begins r n S d k → Begins r n' S' d k
+unfolding left
 begins-alike r d n n' S S' k (x, p, q) h =
     let number : k ≡ _ = rw p at (h .number) in
     let list : d .list ≡ r .list = rw p at (h .list) in

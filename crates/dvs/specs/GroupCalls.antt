@@ -9,15 +9,15 @@ use Rattle.rules.specs.Data.{Step}
 use Rattle.events.specs.Replies.{verdictOf}
 use Rattle.group_bytes.specs.Groups.{Ranges}
 use Rattle.group_bytes.specs.Starts.{startRanges}
-use Rattle.group_bytes.specs.Steps.{startResult, leftRanges, stepRanges, stepReply}
+use Rattle.group_bytes.specs.Steps.{startResult, stepRanges, stepReply}
 use Rattle.c_answers.specs.Answers.{eventSize, eventBytes, sized}
 
 -- a start with n members and the first set S
 pub record Begins (r : Ranges) (n S : ℕ) (d : Ranges) (x : ℕ) : Type 0 where
   pub number : x ≡ codeOf (verdictOf (startResult n S r))
-  pub list : d .list ≡ leftRanges (verdictOf (startResult n S r)) (startRanges n S r) r .list
-  pub books : d .books ≡ leftRanges (verdictOf (startResult n S r)) (startRanges n S r) r .books
-  pub queues : d .queues ≡ leftRanges (verdictOf (startResult n S r)) (startRanges n S r) r .queues
+  pub list : d .list ≡ left (verdictOf (startResult n S r)) (startRanges n S r) r .list
+  pub books : d .books ≡ left (verdictOf (startResult n S r)) (startRanges n S r) r .books
+  pub queues : d .queues ≡ left (verdictOf (startResult n S r)) (startRanges n S r) r .queues
 
 -- 4 for an event range of another length, then the step's own verdict
 abbrev pub stepping : Ranges → Step → List ℕ → Verdict

@@ -13,6 +13,7 @@ use Rattle.views.specs.declared.refusal.Verdict.the-variants.{Accepted, Refused
 use Rattle.views.specs.Limits.{maxMembers, maxViews}
 use Rattle.views.specs.Sizes.{viewSize}
 use Rattle.views.specs.Sets.{both}
+use Rattle.views.specs.Refusals.{left}
 use Rattle.rules.specs.Data.{need}
 use Rattle.rules.specs.Sound.{conditions, setFits}
 use Rattle.rules.specs.Group.{fits, start, firstView}
@@ -162,8 +163,10 @@ module _ (n S : ℕ) (r : Ranges) (e : Accepted ≡ verdictOf (startResult n S r
   queues-room = let h = found in omega (arith, h .queues)
 
 pub start-refused : (n S : ℕ) (r : Ranges) (x : Refusal) → Refused x ≡ verdictOf (startResult n S r) → Began r n S r (Refused x)
+unfolding left
 start-refused n S r x e = record { verdict = e; list = rw (← e); books = rw (← e); queues = rw (← e) }
 
 pub start-accepted : (n S : ℕ) (r d : Ranges) → Accepted ≡ verdictOf (startResult n S r)
     → d .list ≡ startRanges n S r .list → d .books ≡ startRanges n S r .books → d .queues ≡ startRanges n S r .queues → Began r n S d Accepted
+unfolding left
 start-accepted n S r d e l b q = record { verdict = e; list = rw (← e) l; books = rw (← e) b; queues = rw (← e) q }

@@ -20,7 +20,7 @@ use Rattle.events.specs.Replies.{noEvent, eventOf, replied, verdictOf}
 use Rattle.group_bytes.specs.Groups.{Ranges, ranges, groupIn, rangesSound}
 use Rattle.group_bytes.specs.Moves.{viewAt, createRanges, joinRanges, passRanges, orderRanges, deliverRanges}
 use Rattle.group_bytes.specs.Answers.{nextReply}
-use Rattle.group_bytes.specs.Steps.{stepResult, pickRanges, moved, leftRanges, stepRanges, stepReply}
+use Rattle.group_bytes.specs.Steps.{stepResult, pickRanges, moved, stepRanges, stepReply}
 use Rattle.group_steps.specs.CarrierParts.{byMember, creating, passing, ordering, Created, Passed, Ordered}
 use Rattle.group_steps.specs.VisitParts.{joining, delivering, Joined, Delivered}
 use Rattle.group.specs.StepCalls.{asked, Went}
@@ -28,12 +28,12 @@ use Rattle.group.proofs.OwnLaws.{left-books, result-sound}
 
 -- ---- what is left, range by range
 
-left-list : (v : Verdict) (r m : Ranges) → left v (m .list) (r .list) ≡ leftRanges v m r .list
+left-list : (v : Verdict) (r m : Ranges) → left v (m .list) (r .list) ≡ left v m r .list
 unfolding left
 left-list Accepted r m = refl
 left-list (Refused f) r m = refl
 
-left-queues : (v : Verdict) (r m : Ranges) → left v (m .queues) (r .queues) ≡ leftRanges v m r .queues
+left-queues : (v : Verdict) (r m : Ranges) → left v (m .queues) (r .queues) ≡ left v m r .queues
 unfolding left
 left-queues Accepted r m = refl
 left-queues (Refused f) r m = refl
@@ -158,5 +158,5 @@ past-twelve (suc (suc (suc (suc (suc (suc (suc (suc (suc (suc (suc (suc (suc k))
 -- ---- 4
 
 pub unsound-went : (r : Ranges) → rangesSound r ≡ false → (c : Step) → (x : Reply) → x ≡ replied (Refused RecordsUnsound) noEvent → Went r c r x
-unfolding stepReply stepRanges stepResult need replied
+unfolding stepReply stepRanges stepResult need replied left
 unsound-went r h c x e = record { reply = rw h e; list = rw h; books = rw h; queues = rw h }

@@ -22,7 +22,7 @@ use Rattle.group_bytes.specs.Places.{bookBytes, withBook}
 use Rattle.group_bytes.specs.Groups.{Ranges, ranges, membersOf, groupIn, rangesSound}
 use Rattle.group_bytes.specs.Moves.{rebooked}
 use Rattle.group_bytes.specs.Answers.{nextReply}
-use Rattle.group_bytes.specs.Steps.{stepResult, pickRanges, moved, leftRanges, stepRanges, stepReply}
+use Rattle.group_bytes.specs.Steps.{stepResult, pickRanges, moved, stepRanges, stepReply}
 use Rattle.group_bytes.proofs.RangesLaws.{RangesBytes}
 use Rattle.group_bytes.proofs.BookSounds.{members-in, self-in, book-is, sound-book}
 use Rattle.group_bytes.proofs.BookSteps.{attempt-opens-few}
@@ -34,12 +34,13 @@ use Rattle.group.specs.StepCalls.{asked, Went}
 -- ---- a result of the member's rule, and the group's
 
 -- the books of what is left
-pub left-books : (v : Verdict) (r m : Ranges) → left v (m .books) (r .books) ≡ leftRanges v m r .books
+pub left-books : (v : Verdict) (r m : Ranges) → left v (m .books) (r .books) ≡ left v m r .books
 unfolding left
 left-books Accepted r m = refl
 left-books (Refused f) r m = refl
 
-left-same : (v : Verdict) (r : Ranges) (p : Member) (b : List ℕ) → (r .list ≡ leftRanges v (rebooked r p b) r .list) × (r .queues ≡ leftRanges v (rebooked r p b) r .queues)
+left-same : (v : Verdict) (r : Ranges) (p : Member) (b : List ℕ) → (r .list ≡ left v (rebooked r p b) r .list) × (r .queues ≡ left v (rebooked r p b) r .queues)
+unfolding left
 left-same Accepted r p b = (refl, refl)
 left-same (Refused f) r p b = (refl, refl)
 

@@ -10,6 +10,7 @@ use Rattle.views.specs.declared.refusal.Refusal.the-variants.{RecordsUnsound}
 use Rattle.views.specs.Sets.{one}
 use Rattle.views.specs.Lists.{findOf}
 use Rattle.views.proofs.ListLaws.{find-in}
+use Rattle.views.specs.Refusals.{left}
 use Rattle.rules.specs.Data.{Group, Step, Result, refused, accepted, need, after}
 use Rattle.rules.specs.Member.{Done}
 use Rattle.rules.specs.Sound.{sound}
@@ -18,7 +19,7 @@ use Rattle.rules.proofs.Holding.{Holds, refuses, gives, given, need-holds, list
 use Rattle.events.specs.Replies.{verdictOf}
 use Rattle.group_bytes.specs.Groups.{Ranges, membersOf, viewsMade, groupIn, rangesFit, rangesSound}
 use Rattle.group_bytes.specs.Moves.{viewAt, joinRanges}
-use Rattle.group_bytes.specs.Steps.{stepResult, pickRanges, moved, leftRanges, stepRanges}
+use Rattle.group_bytes.specs.Steps.{stepResult, pickRanges, moved, stepRanges}
 use Rattle.group_bytes.specs.Promises.{Given}
 use Rattle.group_bytes.proofs.RangesLaws.{RangesBytes, Ranged, MeansGroup, ranges-from}
 use Rattle.group_bytes.proofs.PlaceLaws.{place-found}
@@ -97,13 +98,14 @@ module _ (r : Ranges) (fits : Ranged r) (bytes : RangesBytes r) (sounds : sound 
 -- ---- what it leaves, and what it answers
 
 -- a result's ranges and its answer, in the rule's own words
-settled-by : (x : Result Next) (s : Group) (r m : Ranges) → MeansGroup r s → Leaves x m → MeansGroup (leftRanges (verdictOf x) m r) (settles s x .state)
+settled-by : (x : Result Next) (s : Group) (r m : Ranges) → MeansGroup r s → Leaves x m → MeansGroup (left (verdictOf x) m r) (settles s x .state)
+unfolding left
 settled-by (refused f) s r m h k = h
 settled-by (accepted y) s r m h k = given k
 
 needed-by : (t : Bool) (f : Refusal) (x : Result Next) (s : Group) (r m : Ranges) → MeansGroup r s → (t ≡ true → Leaves x m)
-    → MeansGroup (leftRanges (verdictOf (need t f x)) m r) (settles s (need t f x) .state)
-unfolding need
+    → MeansGroup (left (verdictOf (need t f x)) m r) (settles s (need t f x) .state)
+unfolding need left
 needed-by true f x s r m h k = settled-by x s r m h (k refl)
 needed-by false f x s r m h k = h
 
@@ -117,5 +119,5 @@ step-means r fits bytes c width =
 
 -- ranges that do not fit are left as they are, with 4
 pub step-unfit : (r : Ranges) → rangesFit r ≡ false → (c : Step) → (stepResult r c ≡ refused RecordsUnsound) × (stepRanges r c ≡ r)
-unfolding stepRanges stepResult rangesSound need
+unfolding stepRanges stepResult rangesSound need left
 step-unfit r e c = rw e (refl, refl)

@@ -10,6 +10,7 @@ use Rattle.views.specs.declared.refusal.Verdict.the-variants.{Accepted, Refused
 use Rattle.views.specs.Limits.{maxViews}
 use Rattle.views.specs.Sizes.{viewSize}
 use Rattle.views.specs.Sets.{one}
+use Rattle.views.specs.Refusals.{left}
 use Rattle.rules.specs.Data.{Step, Group, Result, need}
 use Rattle.rules.specs.Sound.{within, conditions}
 use Rattle.rules.specs.Group.{Next, start, stepOf}
@@ -67,13 +68,8 @@ moved r c =
     ∷ rebooked r p (collectBytes b)
     ∷ [])
 
--- a refusal leaves every byte as it was
-abbrev pub leftRanges : Verdict → Ranges → Ranges → Ranges
-leftRanges Accepted new old = new
-leftRanges (Refused r) new old = old
-
 unfoldable pub stepRanges : Ranges → Step → Ranges
-stepRanges r c = leftRanges (verdictOf (stepResult r c)) (moved r c) r
+stepRanges r c = left (verdictOf (stepResult r c)) (moved r c) r
 
 unfoldable pub stepReply : Ranges → Step → Reply
 stepReply r c = nextReply (stepResult r c)

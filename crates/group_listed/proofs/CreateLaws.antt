@@ -19,13 +19,14 @@ use Rattle.views.specs.Limits.{maxViews}
 use Rattle.views.specs.Lists.{idOf, viewOf, noView, listOf, places, placed}
 use Rattle.views.specs.Sets.{both, isEmpty, isBeyond}
 use Rattle.views.proofs.PlaceLaws.{drop-used, length-places, list-placed}
+use Rattle.views.specs.Refusals.{left}
 use Rattle.rules.specs.Data.{need}
 use Rattle.rules.specs.Member.{all}
 use Rattle.rules.specs.Group.{fits, creates}
 use Rattle.events.specs.Replies.{verdictOf}
 use Rattle.group_steps.specs.CarrierParts.{allBelow}
 use Rattle.group_listed.specs.declared.list.Creation.{Creation}
-use Rattle.group_listed.specs.Creates.{madeIn, roomIn, creating, atOf, leftViews, CreatedBy, Created}
+use Rattle.group_listed.specs.Creates.{madeIn, roomIn, creating, atOf, CreatedBy, Created}
 
 -- ---- the views made
 
@@ -88,6 +89,7 @@ pub placed-first : (ys : List View) → listOf (placed ys) ≡ take maxViews ys
 placed-first ys = elim (decLe (length ys) maxViews) [ yes h ↦ list-placed ys h ∙ sym (take-all maxViews ys h) | no h ↦ long-first ys (omega arith) ]
 
 pub created-in : (ys : List View) (made g S n : ℕ) (l : Views) → l ≡ placed ys → (x : Creation) → CreatedBy l made g S n x → (zs : List View) → zs ≡ set ys (x .at) (x .view) → Created ys made g S n zs (x .verdict)
+unfolding left
 created-in ys made g S n l same x c zs put =
     let k : l .count ≡ length ys = ap (λ (t : Views). t .count) same in
     let f : listOf l ≡ take maxViews ys = ap listOf same ∙ placed-first ys in
@@ -96,7 +98,7 @@ created-in ys made g S n l same x c zs put =
       list = by-verdict (x .verdict) refl k;
     }
   where
-    by-verdict : (w : Verdict) → x .verdict ≡ w → l .count ≡ length ys → zs ≡ leftViews w (set ys made (viewOf g S)) ys
+    by-verdict : (w : Verdict) → x .verdict ≡ w → l .count ≡ length ys → zs ≡ left w (set ys made (viewOf g S)) ys
     by-verdict Accepted e k = put ∙ ap (λ (i : ℕ). set ys i (x .view)) (c .at ∙ ap (λ (w : Verdict). atOf w made (l .count)) e) ∙ ap (set ys made) (c .view)
     by-verdict (Refused y) e k =
         let a : x .at ≡ length ys = c .at ∙ ap (λ (w : Verdict). atOf w made (l .count)) e ∙ k in

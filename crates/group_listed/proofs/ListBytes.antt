@@ -13,6 +13,7 @@ use Rattle.views.specs.declared.refusal.Verdict.the-variants.{Accepted, Refused
 use Rattle.views.specs.Sizes.{viewSize}
 use Rattle.views.specs.Sets.{one}
 use Rattle.views.proofs.SetLaws.{both-true}
+use Rattle.views.specs.Refusals.{left}
 use Rattle.wire.specs.Format.{viewsBytes}
 use Rattle.wire.specs.Reader.{viewsIn}
 use Rattle.wire.proofs.SeamLaws.{length-viewsBytes}
@@ -28,12 +29,11 @@ use Rattle.events.specs.Replies.{verdictOf}
 use Rattle.book_steps.proofs.Means.{gave}
 use Rattle.group_bytes.specs.Groups.{Ranges, madeOf, groupIn, rangesFit, rangesSound}
 use Rattle.group_bytes.specs.Starts.{startRanges}
-use Rattle.group_bytes.specs.Steps.{startResult, leftRanges, moved, stepResult, stepRanges}
+use Rattle.group_bytes.specs.Steps.{startResult, moved, stepResult, stepRanges}
 use Rattle.group_bytes.proofs.Creating.{create-says}
 use Rattle.group_bytes.proofs.RangesLaws.{ranges-says}
 use Rattle.group_bytes.proofs.StartGroup.{start-group}
 use Rattle.group_bytes.proofs.GroupRuns.{start-holds}
-use Rattle.group_listed.specs.Creates.{leftViews}
 use Rattle.group_listed.specs.Calls.{rangesOf, Began, Went}
 use Rattle.group_listed.proofs.ListLaws.{moved-list, step-changed}
 use Rattle.group_listed.proofs.StepLaws.{step-stays}
@@ -65,8 +65,8 @@ module _ (r : Ranges) (c : Step) (bytes : AreBytes (r .list)) where
       (create-says r (ranges-says r f) (c .first) (c .second) y (create-asked (c .kind) y k e) .set))
 
   left-bytes : (t : Bool) (x : Result Next) → (t ≡ true → (y : Next) → x ≡ accepted y → AreBytes (moved r c .list))
-      → AreBytes (leftRanges (verdictOf (need t RecordsUnsound x)) (moved r c) r .list)
-  unfolding need
+      → AreBytes (left (verdictOf (need t RecordsUnsound x)) (moved r c) r .list)
+  unfolding need left
   left-bytes true (accepted y) h = h refl y refl
   left-bytes true (refused f) h = bytes
   left-bytes false x h = bytes
@@ -84,29 +84,31 @@ module _ (l : List View) (b q : List ℕ) (c : Step) (k : List View) (d e : List
   abbrev n : ℕ
   n = length l
 
-  abbrev left : List ℕ
-  left = stepRanges R c .list
+  abbrev list-left : List ℕ
+  list-left = stepRanges R c .list
 
-  are-bytes : AreBytes left
+  are-bytes : AreBytes list-left
   are-bytes = step-bytes R c (fit-bytes l fits)
 
-  left-is : (v : Verdict) → x .verdict ≡ v → k ≡ leftViews v (viewsIn left 0 n) l
-  left-is v f = w .list ∙ ap (λ (v : Verdict). leftViews v (viewsIn left 0 n) l) f
+  left-is : (v : Verdict) → x .verdict ≡ v → k ≡ left v (viewsIn list-left 0 n) l
+  left-is v f = w .list ∙ ap (λ (v : Verdict). left v (viewsIn list-left 0 n) l) f
 
-  list-is : (v : Verdict) → x .verdict ≡ v → viewsBytes k ≡ left
-  list-is Accepted f = ap viewsBytes (left-is Accepted f) ∙ views-written left n (step-changed R c .long ∙ length-viewsBytes l) are-bytes
+  list-is : (v : Verdict) → x .verdict ≡ v → viewsBytes k ≡ list-left
+  unfolding left
+  list-is Accepted f = ap viewsBytes (left-is Accepted f) ∙ views-written list-left n (step-changed R c .long ∙ length-viewsBytes l) are-bytes
   list-is (Refused y) f =
       ap viewsBytes (left-is (Refused y) f) ∙ sym (ap (λ (r : Ranges). r .list) (step-stays R c y (sym (ap (λ (z : Reply). z .verdict) (w .reply)) ∙ f)))
 
   fit-left : (v : Verdict) → x .verdict ≡ v → EachFits k
-  fit-left Accepted f = rw (left-is Accepted f) (views-fit left 0 n are-bytes)
+  unfolding left
+  fit-left Accepted f = rw (left-is Accepted f) (views-fit list-left 0 n are-bytes)
   fit-left (Refused y) f = rw (left-is (Refused y) f) fits
 
   -- the views left are within their widths again
   pub went-fits : EachFits k
   went-fits = fit-left (x .verdict) refl
 
-  -- the list left, as bytes, is the list of bytes that the step leaves, and the books and the queues are the same
+  -- the list list-left, as bytes, is the list of bytes that the step leaves, and the books and the queues are the same
   pub went-ranges : rangesOf k d e ≡ stepRanges R c
   went-ranges = λ i. record { list = list-is (x .verdict) refl i; books = w .books i; queues = w .queues i }
 
@@ -130,19 +132,21 @@ module _ (l : List View) (b q : List ℕ) (n S : ℕ) (k : List View) (d e : Lis
   began-bytes : v ≡ Accepted → AreBytes left₀
   began-bytes f = let (s, g) = began-group f in start-group n S R₀ (gave (startResult n S R₀) s (start-holds n S R₀) g .0) .bytes .list
 
-  began-is : (u : Verdict) → v ≡ u → k ≡ leftViews u (viewsIn left₀ 0 (length l)) l
-  began-is u f = w .list ∙ ap (λ (u : Verdict). leftViews u (viewsIn left₀ 0 (length l)) l) f
+  began-is : (u : Verdict) → v ≡ u → k ≡ left u (viewsIn left₀ 0 (length l)) l
+  began-is u f = w .list ∙ ap (λ (u : Verdict). left u (viewsIn left₀ 0 (length l)) l) f
 
   began-long : length left₀ ≡ 5 * length l
   unfolding startRanges
   began-long = storeView-changed _ 0 _ .long ∙ length-replicate (length (viewsBytes l)) 0 ∙ length-viewsBytes l
 
-  began-list : (u : Verdict) → v ≡ u → viewsBytes k ≡ leftRanges u (startRanges n S R₀) R₀ .list
+  began-list : (u : Verdict) → v ≡ u → viewsBytes k ≡ left u (startRanges n S R₀) R₀ .list
+  unfolding left
   began-list Accepted f = ap viewsBytes (began-is Accepted f) ∙ views-written left₀ (length l) began-long (began-bytes f)
   began-list (Refused y) f = ap viewsBytes (began-is (Refused y) f)
 
   pub began-fits : v ≡ Accepted → EachFits k
+  unfolding left
   began-fits f = rw (began-is Accepted f) (views-fit left₀ 0 (length l) (began-bytes f))
 
-  pub began-ranges : rangesOf k d e ≡ leftRanges v (startRanges n S R₀) R₀
+  pub began-ranges : rangesOf k d e ≡ left v (startRanges n S R₀) R₀
   began-ranges = λ i. record { list = began-list v refl i; books = w .books i; queues = w .queues i }

@@ -13,6 +13,7 @@ use Rattle.views.specs.declared.refusal.Verdict.{Verdict}
 use Rattle.views.specs.declared.refusal.Verdict.the-variants.{Accepted, Refused}
 use Rattle.views.specs.Sizes.{viewSize}
 use Rattle.views.specs.Lists.{noView}
+use Rattle.views.specs.Refusals.{left}
 use Rattle.wire.specs.Format.{viewsBytes}
 use Rattle.wire.specs.Reader.{viewIn, viewsIn}
 use Rattle.wire.proofs.ReaderLaws.{length-viewsIn}
@@ -25,7 +26,7 @@ use Rattle.events.specs.Replies.{verdictOf}
 use Rattle.group_bytes.specs.Places.{roomOf}
 use Rattle.group_bytes.specs.Groups.{Ranges, madeOf}
 use Rattle.group_bytes.specs.Moves.{createRanges, joinRanges, passRanges, orderRanges, deliverRanges}
-use Rattle.group_bytes.specs.Steps.{leftRanges, pickRanges, moved, stepResult, stepRanges}
+use Rattle.group_bytes.specs.Steps.{pickRanges, moved, stepResult, stepRanges}
 use Rattle.group_listed.specs.Parts.{viewOr}
 
 -- ---- what a step changes of the list
@@ -58,7 +59,8 @@ module _ (r : Ranges) (c : Step) where
   moved-list P (suc (suc (suc (suc (suc (suc (suc (suc (suc (suc (suc (suc zero)))))))))))) s m = s
   moved-list P (suc (suc (suc (suc (suc (suc (suc (suc (suc (suc (suc (suc (suc k))))))))))))) s m = s
 
-  left-changed : (v : Verdict) → Kept (leftRanges v (moved r c) r .list)
+  left-changed : (v : Verdict) → Kept (left v (moved r c) r .list)
+  unfolding left
   left-changed Accepted = moved-list Kept (c .kind) same (λ e. storeView-changed (r .list) (viewSize * madeOf r) next)
   left-changed (Refused x) = same
 

@@ -6,6 +6,7 @@ use Prim.Native.Nat.{ℕ}
 use Rattle.views.specs.declared.View.{View}
 use Rattle.views.specs.declared.refusal.Verdict.the-variants.{Accepted}
 use Rattle.views.specs.Sets.{one}
+use Rattle.views.specs.Refusals.{left}
 use Rattle.wire.proofs.TripViews.{EachFits}
 use Rattle.rules.specs.Data.{Step}
 use Rattle.rules.specs.Promise.{Promised}
@@ -33,6 +34,7 @@ module _ (n S : ℕ) (l k m : List View) (b q d e f g : List ℕ) (steps : List 
   R = rangesOf l b q
 
   same : rangesOf k d e ≡ startRanges n S R
+  unfolding left
   same = began-ranges l b q n S k d e Accepted began
 
   on : (replies ≡ repliesOf (rangesOf k d e) steps) × (rangesOf m f g ≡ lastRanges (rangesOf k d e) steps)

@@ -22,6 +22,7 @@ use Rattle.views.specs.Sizes.{viewSize}
 use Rattle.views.specs.Lists.{noView, listOf, placed}
 use Rattle.views.specs.Sets.{both}
 use Rattle.views.proofs.PlaceLaws.{length-places, list-placed}
+use Rattle.views.specs.Refusals.{left}
 use Rattle.wire.specs.Format.{viewsBytes}
 use Rattle.wire.specs.Reader.{viewIn, viewsIn}
 use Rattle.wire.proofs.ReaderLaws.{length-viewsIn}
@@ -36,8 +37,7 @@ use Rattle.events.specs.Replies.{verdictOf}
 use Rattle.group_bytes.specs.Places.{roomOf, booksSize}
 use Rattle.group_bytes.specs.Groups.{Ranges, ranges}
 use Rattle.group_bytes.specs.Starts.{startRanges}
-use Rattle.group_bytes.specs.Steps.{rangesLong, startResult, leftRanges}
-use Rattle.group_listed.specs.Creates.{leftViews}
+use Rattle.group_bytes.specs.Steps.{rangesLong, startResult}
 use Rattle.group_listed.specs.declared.Begun.{Begun}
 use Rattle.group_listed.specs.Calls.{rangesOf, Began}
 use Rattle.group_listed.specs.Parts.{bytesIn, rangesIn, fromOf, BegunBy}
@@ -132,8 +132,8 @@ module _ (ys : List View) (b q : List ℕ) (n S : ℕ) (l : Views) (same : l ≡
     verdict-is : x .verdict ≡ verdictOf (startResult n S R)
     verdict-is = s .verdict ∙ ap (λ (r : Ranges). verdictOf (startResult n S r)) ranges-are
 
-    left-views : (w : Verdict) → x .verdict ≡ w → zs ≡ leftViews w (viewsIn (startRanges n S R .list) 0 (length ys)) ys
-    unfolding startRanges laid
+    left-views : (w : Verdict) → x .verdict ≡ w → zs ≡ left w (viewsIn (startRanges n S R .list) 0 (length ys)) ys
+    unfolding startRanges laid left
     left-views Accepted k = laid-from Accepted (s .at ∙ ap fromOf (sym (s .verdict) ∙ k)) ∙ laid-first ys S h
     left-views (Refused y) k = laid-from (Refused y) (s .at ∙ ap fromOf (sym (s .verdict) ∙ k))
 
@@ -141,8 +141,8 @@ module _ (ys : List View) (b q : List ℕ) (n S : ℕ) (l : Views) (same : l ≡
     short-began = record {
       verdict = verdict-is;
       list = left-views (x .verdict) refl;
-      books = s .books ∙ ap (λ (r : Ranges). leftRanges (verdictOf (startResult n S r)) (startRanges n S r) r .books) ranges-are ∙ ap (λ (w : Verdict). leftRanges w (startRanges n S R) R .books) (sym verdict-is);
-      queues = s .queues ∙ ap (λ (r : Ranges). leftRanges (verdictOf (startResult n S r)) (startRanges n S r) r .queues) ranges-are ∙ ap (λ (w : Verdict). leftRanges w (startRanges n S R) R .queues) (sym verdict-is);
+      books = s .books ∙ ap (λ (r : Ranges). left (verdictOf (startResult n S r)) (startRanges n S r) r .books) ranges-are ∙ ap (λ (w : Verdict). left w (startRanges n S R) R .books) (sym verdict-is);
+      queues = s .queues ∙ ap (λ (r : Ranges). left (verdictOf (startResult n S r)) (startRanges n S r) r .queues) ranges-are ∙ ap (λ (w : Verdict). left w (startRanges n S R) R .queues) (sym verdict-is);
     }
 
   -- a list that is too long for one
@@ -170,11 +170,12 @@ module _ (ys : List View) (b q : List ℕ) (n S : ℕ) (l : Views) (same : l ≡
     stays = laid-from (Refused y) (s .at ∙ ap (λ (t : Result Group). fromOf (verdictOf t)) in-y)
 
     long-began : Began ys b q n S zs d e (x .verdict)
+    unfolding left
     long-began = record {
       verdict = verdict-y ∙ sym (ap verdictOf of-y);
-      list = stays ∙ sym (ap (λ (w : Verdict). leftViews w (viewsIn (startRanges n S R .list) 0 (length ys)) ys) verdict-y);
-      books = s .books ∙ ap (λ (t : Result Group). leftRanges (verdictOf t) (startRanges n S I) I .books) in-y ∙ sym (ap (λ (w : Verdict). leftRanges w (startRanges n S R) R .books) verdict-y);
-      queues = s .queues ∙ ap (λ (t : Result Group). leftRanges (verdictOf t) (startRanges n S I) I .queues) in-y ∙ sym (ap (λ (w : Verdict). leftRanges w (startRanges n S R) R .queues) verdict-y);
+      list = stays ∙ sym (ap (λ (w : Verdict). left w (viewsIn (startRanges n S R .list) 0 (length ys)) ys) verdict-y);
+      books = s .books ∙ ap (λ (t : Result Group). left (verdictOf t) (startRanges n S I) I .books) in-y ∙ sym (ap (λ (w : Verdict). left w (startRanges n S R) R .books) verdict-y);
+      queues = s .queues ∙ ap (λ (t : Result Group). left (verdictOf t) (startRanges n S I) I .queues) in-y ∙ sym (ap (λ (w : Verdict). left w (startRanges n S R) R .queues) verdict-y);
     }
 
   pub begun-began : Began ys b q n S zs d e (x .verdict)

@@ -20,6 +20,7 @@ use Rattle.views.specs.Limits.{maxViews}
 use Rattle.views.specs.Lists.{noView, listOf, placed}
 use Rattle.views.proofs.PlaceLaws.{length-places, list-placed}
 use Rattle.views.proofs.SetLaws.{known}
+use Rattle.views.specs.Refusals.{left}
 use Rattle.wire.specs.Format.{viewsBytes}
 use Rattle.wire.specs.Reader.{viewsIn}
 use Rattle.wire.proofs.SeamLaws.{length-viewsBytes}
@@ -31,12 +32,11 @@ use Rattle.events.specs.Replies.{noEvent, verdictOf}
 use Rattle.group_bytes.specs.Places.{roomOf}
 use Rattle.group_bytes.specs.Groups.{Ranges, ranges, madeOf, rangesFit}
 use Rattle.group_bytes.specs.Answers.{nextReply}
-use Rattle.group_bytes.specs.Steps.{leftRanges, moved, stepResult, stepRanges, stepReply}
+use Rattle.group_bytes.specs.Steps.{moved, stepResult, stepRanges, stepReply}
 use Rattle.group_bytes.proofs.RangesLaws.{ranges-says}
 use Rattle.group_bytes.proofs.StepGroup.{step-unfit}
 use Rattle.group.specs.StartCalls.{Began}
 use Rattle.group.specs.StepCalls as bytes
-use Rattle.group_listed.specs.Creates.{leftViews}
 use Rattle.group_listed.specs.declared.Stepped.{Stepped}
 use Rattle.group_listed.specs.Calls.{rangesOf, Went}
 use Rattle.group_listed.proofs.BytesLaws.{short-bytes, long-length}
@@ -76,7 +76,8 @@ long-unfit r h =
     (known (rangesFit r))
 
 -- a refused step leaves the ranges
-refused-stays : (x : Result Next) (new old : Ranges) (r : Refusal) → nextReply x .verdict ≡ Refused r → leftRanges (verdictOf x) new old ≡ old
+refused-stays : (x : Result Next) (new old : Ranges) (r : Refusal) → nextReply x .verdict ≡ Refused r → left (verdictOf x) new old ≡ old
+unfolding left
 refused-stays (refused y) new old r e = refl
 refused-stays (accepted y) new old r e = let i : _≡_ {A = ℕ} 0 1 = cc in absurd (omega arith)
 
@@ -123,7 +124,8 @@ module _ (ys : List View) (b q : List ℕ) (c : Step) (l : Views) (same : l ≡ 
     reply-is : x .reply ≡ stepReply R c
     reply-is = s .reply ∙ ap (λ (r : Ranges). stepReply r c) ranges-are
 
-    left-views : (v : Verdict) → x .reply .verdict ≡ v → zs ≡ leftViews v (viewsIn (stepRanges R c .list) 0 n) ys
+    left-views : (v : Verdict) → x .reply .verdict ≡ v → zs ≡ left v (viewsIn (stepRanges R c .list) 0 n) ys
+    unfolding left
     left-views Accepted k = filled
     left-views (Refused y) k =
         let t : stepRanges R c ≡ R = step-stays R c y (sym (ap (λ (z : Reply). z .verdict) reply-is) ∙ k) in
@@ -161,11 +163,12 @@ module _ (ys : List View) (b q : List ℕ) (c : Step) (l : Views) (same : l ≡ 
         put ∙ set-out ys (x .at) (x .view) (omega (arith, a))
 
     long-went : Went ys b q c zs d e (x .reply)
+    unfolding left
     long-went =
         let r : x .reply ≡ record { verdict = Refused RecordsUnsound; event = noEvent } = s .reply ∙ refusal L unfit-in in
         record {
           reply = r ∙ sym (refusal R unfit);
-          list = stays ∙ sym (ap (λ (t : Reply). leftViews (t .verdict) (viewsIn (stepRanges R c .list) 0 n) ys) r);
+          list = stays ∙ sym (ap (λ (t : Reply). left (t .verdict) (viewsIn (stepRanges R c .list) 0 n) ys) r);
           books = s .books ∙ ap (λ (t : Ranges). t .books) (step-unfit L unfit-in c .1) ∙ sym (ap (λ (t : Ranges). t .books) (step-unfit R unfit c .1));
           queues = s .queues ∙ ap (λ (t : Ranges). t .queues) (step-unfit L unfit-in c .1) ∙ sym (ap (λ (t : Ranges). t .queues) (step-unfit R unfit c .1));
         }

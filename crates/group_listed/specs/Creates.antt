@@ -9,6 +9,7 @@ use Rattle.views.specs.declared.refusal.Verdict.{Verdict}
 use Rattle.views.specs.declared.refusal.Verdict.the-variants.{Accepted, Refused}
 use Rattle.views.specs.Limits.{maxViews}
 use Rattle.views.specs.Lists.{viewOf, listOf}
+use Rattle.views.specs.Refusals.{left}
 use Rattle.rules.specs.Data.{Identifier, Group, Result}
 use Rattle.rules.specs.Group.{Next, fresh, creates}
 use Rattle.events.specs.Replies.{verdictOf}
@@ -44,12 +45,7 @@ pub record CreatedBy (l : Views) (made : ℕ) (g : Identifier) (S n : ℕ) (x : 
   pub at : x .at ≡ atOf (x .verdict) made (l .count)
   pub view : x .view ≡ viewOf g S
 
--- the new records where a call was accepted, else those that were there
-abbrev pub leftViews : Verdict → List View → List View → List View
-leftViews Accepted new old = new
-leftViews (Refused r) new old = old
-
 -- a create of the view g, S in the list l with so many made gave the verdict v and left the list k
 pub record Created (l : List View) (made : ℕ) (g : Identifier) (S n : ℕ) (k : List View) (v : Verdict) : Type 0 where
   pub verdict : v ≡ verdictOf (creating n (roomIn l) (madeIn made l) g S)
-  pub list : k ≡ leftViews v (set l made (viewOf g S)) l
+  pub list : k ≡ left v (set l made (viewOf g S)) l

@@ -12,6 +12,7 @@ use Rattle.views.specs.declared.refusal.Verdict.the-variants.{Accepted, Refused
 use Rattle.views.specs.Limits.{maxViews}
 use Rattle.views.specs.Sizes.{viewSize}
 use Rattle.views.specs.Lists.{noView, listOf}
+use Rattle.views.specs.Refusals.{left}
 use Rattle.wire.specs.Format.{viewsBytes}
 use Rattle.wire.specs.Reader.{viewIn}
 use Rattle.rules.specs.Data.{Step}
@@ -20,7 +21,7 @@ use Rattle.events.specs.Replies.{verdictOf}
 use Rattle.group_bytes.specs.Places.{roomOf, madeAt}
 use Rattle.group_bytes.specs.Groups.{Ranges, ranges}
 use Rattle.group_bytes.specs.Starts.{startRanges}
-use Rattle.group_bytes.specs.Steps.{startResult, leftRanges, stepRanges, stepReply}
+use Rattle.group_bytes.specs.Steps.{startResult, stepRanges, stepReply}
 use Rattle.group_listed.specs.declared.Stepped.{Stepped}
 use Rattle.group_listed.specs.declared.Begun.{Begun}
 
@@ -56,9 +57,9 @@ pub record SteppedBy (l : Views) (b q : List ℕ) (c : Step) (d e : List ℕ) (x
 -- a start with n members and the first set S gave x and left the books d and the queues e
 pub record BegunBy (l : Views) (b q : List ℕ) (n S : ℕ) (d e : List ℕ) (x : Begun) : Type 0 where
   pub verdict : x .verdict ≡ verdictOf (startResult n S (rangesIn l b q))
-  pub books : d ≡ leftRanges (verdictOf (startResult n S (rangesIn l b q))) (startRanges n S (rangesIn l b q))
+  pub books : d ≡ left (verdictOf (startResult n S (rangesIn l b q))) (startRanges n S (rangesIn l b q))
       (rangesIn l b q) .books
-  pub queues : e ≡ leftRanges (verdictOf (startResult n S (rangesIn l b q))) (startRanges n S (rangesIn l b q))
+  pub queues : e ≡ left (verdictOf (startResult n S (rangesIn l b q))) (startRanges n S (rangesIn l b q))
       (rangesIn l b q) .queues
   pub at : x .at ≡ fromOf (verdictOf (startResult n S (rangesIn l b q)))
   pub view : x .view ≡ firstView S

@@ -16,7 +16,7 @@ use Rattle.rules.specs.Promise.{Promised}
 use Rattle.events.specs.Replies.{verdictOf}
 use Rattle.group_bytes.specs.Groups.{Ranges, rangesSound}
 use Rattle.group_bytes.specs.Starts.{startRanges}
-use Rattle.group_bytes.specs.Steps.{startResult, leftRanges, lastRanges, repliesOf}
+use Rattle.group_bytes.specs.Steps.{startResult, lastRanges, repliesOf}
 use Rattle.group_run.specs.Records.{stepSize, stepsIn, answerSize, answersBytes, eventsIn}
 
 -- whole records of steps, and room for one answer to each; the lengths in bytes
@@ -37,10 +37,10 @@ runVerdict n S r steps answers =
 pub record Ran (n S : ℕ) (r : Ranges) (steps a : List ℕ) (d : Ranges) (e : List ℕ) (v : Verdict) : Type 0 where
   pub verdict : v ≡ runVerdict n S r steps a
   -- the ranges that the steps lead to from a start; a refused run changes nothing
-  pub list : d .list ≡ leftRanges (runVerdict n S r steps a) (lastRanges (startRanges n S r) (stepsIn steps)) r .list
-  pub books : d .books ≡ leftRanges (runVerdict n S r steps a) (lastRanges (startRanges n S r) (stepsIn steps)) r .books
+  pub list : d .list ≡ left (runVerdict n S r steps a) (lastRanges (startRanges n S r) (stepsIn steps)) r .list
+  pub books : d .books ≡ left (runVerdict n S r steps a) (lastRanges (startRanges n S r) (stepsIn steps)) r .books
   pub queues : d .queues
-      ≡ leftRanges (runVerdict n S r steps a) (lastRanges (startRanges n S r) (stepsIn steps)) r .queues
+      ≡ left (runVerdict n S r steps a) (lastRanges (startRanges n S r) (stepsIn steps)) r .queues
   -- each step's reply in its record
   pub answers : e ≡ left (runVerdict n S r steps a) (answersBytes (repliesOf (startRanges n S r) (stepsIn steps))) a
   -- demand 3: the events that the answers show are those of a run of Figure 1, and attempted views intersect
