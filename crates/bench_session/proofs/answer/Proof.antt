@@ -27,7 +27,9 @@ go-requires : tie.Need-go-requires
 go-requires c κs = search needs
 
 returns : tie.Need-returns
-returns c = read-answers (c .before .before .before .before .before .before .before .before .args .running) (record { list = c .before .before .before .before .before .before .before .before .args .list .now; books = c .before .before .before .before .before .before .before .before .args .all .now; queues = c .before .before .before .before .before .before .before .before .args .queues .now }) _ _ (sym (c .before .before .before .read .ensures) ∙ c .before .enum-told .given .1) _ _ (rw (c .unread .ensures) (unread-answers (c .before .before .before .before .before .before .before .before .args .running) (record { list = c .before .before .before .before .before .before .before .before .args .list .now; books = c .before .before .before .before .before .before .before .before .args .all .now; queues = c .before .before .before .before .before .before .before .before .args .queues .now })))
+returns c =
+    let a = c .before .before .before .before .before .before .before .before .args in
+    read-answers (a .running) (record { list = a .list .now; books = a .all .now; queues = a .queues .now }) _ _ (sym (c .before .before .before .read .ensures) ∙ c .before .enum-told .given .1) _ _ (rw (c .unread .ensures) (unread-answers (a .running) (record { list = a .list .now; books = a .all .now; queues = a .queues .now })))
 
 same-length : tie.Need-same-length
 same-length c = search needs
@@ -39,7 +41,10 @@ same-length-3 : tie.Need-same-length-3
 same-length-3 c = search needs
 
 returns-2 : tie.Need-returns-2
-returns-2 c = read-answers (c .before .before .before .before .before .before .before .before .before .before .before .before .before .before .before .before .before .before .args .running) (record { list = c .before .before .before .before .before .before .before .before .before .before .before .before .before .before .before .before .before .before .args .list .now; books = c .before .before .before .before .before .before .before .before .before .before .before .before .before .before .before .before .before .before .args .all .now; queues = c .before .before .before .before .before .before .before .before .before .before .before .before .before .before .before .before .before .before .args .queues .now }) _ _ (sym (c .before .before .before .before .before .before .before .before .before .before .before .before .before .read .ensures) ∙ c .before .before .before .before .before .before .before .before .before .before .before .asked .given .1) _ _ (c .before .before .before .before .before .before .begin .ensures)
+returns-2 c =
+    let a = c .before .before .before .before .before .before .before .before .before .before .before .before .before .before .before .before .before .before .args in
+    let early = c .before .before .before .before .before .before in
+    read-answers (a .running) (record { list = a .list .now; books = a .all .now; queues = a .queues .now }) _ _ (sym (early .before .before .before .before .before .before .before .read .ensures) ∙ early .before .before .before .before .before .asked .given .1) _ _ (early .begin .ensures)
 
 same-length-4 : tie.Need-same-length-4
 same-length-4 c = search needs
@@ -51,7 +56,10 @@ same-length-6 : tie.Need-same-length-6
 same-length-6 c = search needs
 
 returns-3 : tie.Need-returns-3
-returns-3 c = read-answers (c .before .before .before .before .before .before .before .before .before .before .before .before .before .before .before .before .before .before .args .running) (record { list = c .before .before .before .before .before .before .before .before .before .before .before .before .before .before .before .before .before .before .args .list .now; books = c .before .before .before .before .before .before .before .before .before .before .before .before .before .before .before .before .before .before .args .all .now; queues = c .before .before .before .before .before .before .before .before .before .before .before .before .before .before .before .before .before .before .args .queues .now }) _ _ (sym (c .before .before .before .before .before .before .before .before .before .before .before .before .before .read .ensures) ∙ c .before .before .before .before .before .before .before .before .before .before .before .asked2 .given .1) _ _ (c .before .before .before .before .before .before .go .ensures)
+returns-3 c =
+    let a = c .before .before .before .before .before .before .before .before .before .before .before .before .before .before .before .before .before .before .args in
+    let early = c .before .before .before .before .before .before in
+    read-answers (a .running) (record { list = a .list .now; books = a .all .now; queues = a .queues .now }) _ _ (sym (early .before .before .before .before .before .before .before .read .ensures) ∙ early .before .before .before .before .before .asked2 .given .1) _ _ (early .go .ensures)
 
 pub answer-spec : {M : Type 1} → statement M
 answer-spec =

@@ -23,7 +23,9 @@ same-length-3 : tie.Need-same-length-3
 same-length-3 c = search needs
 
 returns : tie.Need-returns
-returns c = group-answers (c .before .before .before .before .before .before .before .before .before .before .before .before .before .before .before .args .running) (record { list = c .before .before .before .before .before .before .before .before .before .before .before .before .before .before .before .args .list .now; books = c .before .before .before .before .before .before .before .before .before .before .before .before .before .before .before .args .all .now; queues = c .before .before .before .before .before .before .before .before .before .before .before .before .before .before .before .args .queues .now }) (c .before .before .before .before .before .before .before .before .before .before .before .before .before .before .before .args .members) (c .before .before .before .before .before .before .before .before .before .before .before .before .before .before .before .args .set) _ _ (c .before .before .before .before .before .before .before .before .start .ensures) _ (c .before .plain .ensures) _ (c .runs .ensures)
+returns c =
+    let a = c .before .before .before .before .before .before .before .before .before .before .before .before .before .before .before .args in
+    group-answers (a .running) (record { list = a .list .now; books = a .all .now; queues = a .queues .now }) (a .members) (a .set) _ _ (c .before .before .before .before .before .before .before .before .start .ensures) _ (c .before .plain .ensures) _ (c .runs .ensures)
 
 pub begin-spec : {M : Type 1} → statement M
 begin-spec =

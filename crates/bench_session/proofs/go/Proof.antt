@@ -9,7 +9,9 @@ unread-requires : tie.Need-unread-requires
 unread-requires c κs = search needs
 
 returns : tie.Need-returns
-returns c = rw (not-true (c .before .before .before .before .before .args .running) (c .before .if1 .taken), c .unread .ensures) (idle-answers (record { list = c .before .before .before .before .before .args .list .now; books = c .before .before .before .before .before .args .all .now; queues = c .before .before .before .before .before .args .queues .now }) (c .before .before .before .before .before .args .kind) (c .before .before .before .before .before .args .first) (c .before .before .before .before .before .args .second))
+returns c =
+    let a = c .before .before .before .before .before .args in
+    rw (not-true (a .running) (c .before .if1 .taken), c .unread .ensures) (idle-answers (record { list = a .list .now; books = a .all .now; queues = a .queues .now }) (a .kind) (a .first) (a .second))
 
 step-requires : tie.Need-step-requires
 step-requires c κs = search needs
@@ -24,7 +26,10 @@ same-length-3 : tie.Need-same-length-3
 same-length-3 c = search needs
 
 returns-2 : tie.Need-returns-2
-returns-2 c = rw (not-false (c .before .before .before .before .before .before .before .before .before .before .before .before .before .before .args .running) (c .before .before .before .before .before .before .before .before .before .before .if1 .left)) (step-answers (record { list = c .before .before .before .before .before .before .before .before .before .before .before .before .before .before .args .list .now; books = c .before .before .before .before .before .before .before .before .before .before .before .before .before .before .args .all .now; queues = c .before .before .before .before .before .before .before .before .before .before .before .before .before .before .args .queues .now }) (c .before .before .before .before .before .before .before .before .before .before .before .before .before .before .args .kind) (c .before .before .before .before .before .before .before .before .before .before .before .before .before .before .args .first) (c .before .before .before .before .before .before .before .before .before .before .before .before .before .before .args .second) _ _ (c .before .before .before .before .before .before .step .ensures))
+returns-2 c =
+    let a = c .before .before .before .before .before .before .before .before .before .before .before .before .before .before .args in
+    let early = c .before .before .before .before .before .before in
+    rw (not-false (a .running) (early .before .before .before .before .if1 .left)) (step-answers (record { list = a .list .now; books = a .all .now; queues = a .queues .now }) (a .kind) (a .first) (a .second) _ _ (early .step .ensures))
 
 pub go-spec : {M : Type 1} → statement M
 go-spec =

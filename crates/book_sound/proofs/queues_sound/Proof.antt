@@ -47,7 +47,9 @@ inward-sound-requires-2 c κs = search needs
 
 returns-3 : tie.Need-returns-3
 unfolding queuesSound
-returns-3 c = c .inward-sound2 .ensures ∙ sym (three _ _ _ ∙ rw (sym (c .before .before .before .before .before .entries-sound .ensures) ∙ not-false _ (c .before .before .before .before .if1 .left), sym (c .before .before .inward-sound .ensures) ∙ not-false _ (c .before .if2 .left)))
+returns-3 c =
+    let early = c .before .before .before .before in
+    c .inward-sound2 .ensures ∙ sym (three _ _ _ ∙ rw (sym (early .before .entries-sound .ensures) ∙ not-false _ (early .if1 .left), sym (c .before .before .inward-sound .ensures) ∙ not-false _ (c .before .if2 .left)))
 
 pub queues-sound-spec : {M : Type 1} → statement M
 queues-sound-spec =

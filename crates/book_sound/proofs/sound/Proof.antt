@@ -52,13 +52,19 @@ record-sound-requires : tie.Need-record-sound-requires
 record-sound-requires c κs = let l = layout-says (c .before .before .before .before .before .before .before .args .b .now) (sym (c .before .before .before .before .before .layout-fits .ensures) ∙ not-false _ (c .before .before .before .before .if1 .left)) in (omega (arith, l .size), l .opens)
 
 returns-2 : tie.Need-returns-2
-returns-2 c = sym (record-stops (c .before .before .before .before .before .before .before .before .before .args .b .now) (sym (c .before .before .before .before .before .before .before .layout-fits .ensures) ∙ not-false _ (c .before .before .before .before .before .before .if1 .left)) (sym (c .before .record-sound .ensures) ∙ not-true _ (c .if2 .taken)))
+returns-2 c =
+    let early = c .before .before .before .before .before .before in
+    sym (record-stops (early .before .before .before .args .b .now) (sym (early .before .layout-fits .ensures) ∙ not-false _ (early .if1 .left)) (sym (c .before .record-sound .ensures) ∙ not-true _ (c .if2 .taken)))
 
 queues-sound-requires : tie.Need-queues-sound-requires
-queues-sound-requires c κs = sym (c .before .before .before .before .before .before .before .layout-fits .ensures) ∙ not-false _ (c .before .before .before .before .before .before .if1 .left)
+queues-sound-requires c κs =
+    let early = c .before .before .before .before .before .before in
+    sym (early .before .layout-fits .ensures) ∙ not-false _ (early .if1 .left)
 
 returns-3 : tie.Need-returns-3
-returns-3 c = c .queues-sound .ensures ∙ sym (record-passes (c .before .before .before .before .before .before .before .before .before .before .args .b .now) (sym (c .before .before .before .before .before .before .before .before .layout-fits .ensures) ∙ not-false _ (c .before .before .before .before .before .before .before .if1 .left)) (sym (c .before .before .record-sound .ensures) ∙ not-false _ (c .before .if2 .left)))
+returns-3 c =
+    let early = c .before .before .before .before .before .before .before in
+    c .queues-sound .ensures ∙ sym (record-passes (early .before .before .before .args .b .now) (sym (early .before .layout-fits .ensures) ∙ not-false _ (early .if1 .left)) (sym (c .before .before .record-sound .ensures) ∙ not-false _ (c .before .if2 .left)))
 
 pub sound-spec : {M : Type 1} → statement M
 sound-spec =

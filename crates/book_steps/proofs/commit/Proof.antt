@@ -14,7 +14,9 @@ enum-told : tie.Need-enum-told
 enum-told c = search needs
 
 say-requires : tie.Need-say-requires
-say-requires c κs = (c .before .before .before .before .before .pre .0, c .before .before .before .before .before .pre .2 (c .before .before .enum-told .given .1))
+say-requires c κs =
+    let early = c .before .before .before .before .before in
+    (early .pre .0, early .pre .2 (c .before .before .enum-told .given .1))
 
 store-requires : tie.Need-store-requires
 store-requires c κs = search needs

@@ -51,7 +51,9 @@ part-view-in-start c = search needs
 
 -- src/calls.rt:100:24
 part-view-in-end : tie.Need-part-view-in-end
-part-view-in-end c = part-more (c .before .before .before .before .before .before .before .before .before .before .before .before .before .before .before .before .args .l) _ _ (c .before .before .before .before .before .before .before .before .before .before .long .ensures) (c .before .before .before .before .before .before .before .before .before .before .before .spread .ensures) (c .before .before .before .before .before .before .step .last .0) (drop (c .before .before .before .before .before .before .before .before .before .before .long .result - 0) (c .before .before .before .before .before .before .before .before .before .before .before .spread .result)) (c .before .before .before .before .before .bytes2 .given)
+part-view-in-end c =
+    let early = c .before .before .before .before .before in
+    part-more (early .before .before .before .before .before .before .before .before .before .before .before .args .l) _ _ (early .before .before .before .before .before .long .ensures) (early .before .before .before .before .before .before .spread .ensures) (early .before .step .last .0) (drop (early .before .before .before .before .before .long .result - 0) (early .before .before .before .before .before .before .spread .result)) (early .bytes2 .given)
 
 -- src/calls.rt:100:9
 view-in-requires : tie.Need-view-in-requires

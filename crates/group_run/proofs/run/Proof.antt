@@ -25,7 +25,9 @@ enum-told : tie.Need-enum-told
 enum-told c = search needs
 
 each-requires : tie.Need-each-requires
-each-requires c κs = paired-long _ _ (sym (c .before .before .before .before .before .before .before .before .before .before .before .before .before .before .before .before .before .pair .ensures) ∙ not-false _ (c .before .before .before .before .before .before .before .before .before .before .before .before .before .before .before .before .if1 .left))
+each-requires c κs =
+    let early = c .before .before .before .before .before .before .before .before .before .before .before .before .before .before .before .before in
+    paired-long _ _ (sym (early .before .pair .ensures) ∙ not-false _ (early .if1 .left))
 
 same-length : tie.Need-same-length
 same-length c = search needs

@@ -30,7 +30,9 @@ tables-sound-requires c κs = search needs
 
 returns-3 : tie.Need-returns-3
 unfolding recordsSound
-returns-3 c = c .tables-sound .ensures ∙ ap (λ (k : ℕ). every k (tableSound (viewsIn (c .before .before .before .before .before .before .before .before .args .list .now) 0 (c .before .before .before .before .before .before .before .before .args .made)) (c .before .before .before .before .before .before .before .before .args .n) (c .before .before .before .before .before .before .before .before .args .queues .now))) (sym (length-viewsIn (c .before .before .before .before .before .before .before .before .args .list .now) 0 (c .before .before .before .before .before .before .before .before .args .made))) ∙ sym (three _ _ _ ∙ rw (sym (c .before .before .before .before .sound .ensures) ∙ not-false _ (c .before .before .before .if1 .left), sym (c .before .before .members-sound .ensures) ∙ not-false _ (c .before .if2 .left)))
+returns-3 c =
+    let a = c .before .before .before .before .before .before .before .before .args in
+    c .tables-sound .ensures ∙ ap (λ (k : ℕ). every k (tableSound (viewsIn (a .list .now) 0 (a .made)) (a .n) (a .queues .now))) (sym (length-viewsIn (a .list .now) 0 (a .made))) ∙ sym (three _ _ _ ∙ rw (sym (c .before .before .before .before .sound .ensures) ∙ not-false _ (c .before .before .before .if1 .left), sym (c .before .before .members-sound .ensures) ∙ not-false _ (c .before .if2 .left)))
 
 pub records-sound-spec : {M : Type 1} → statement M
 records-sound-spec =

@@ -16,7 +16,9 @@ returns-3 : tie.Need-returns-3
 returns-3 c = sym (sizes-are (c .before .before .before .args .list) (c .before .before .before .args .books) (c .before .before .before .args .queues) ∙ rw (eq-eqb _ _ (c .before .before .if1 .left), le-leb _ _ (c .before .if2 .left), lt-leb _ _ (c .if3 .taken)))
 
 returns-4 : tie.Need-returns-4
-returns-4 c = sym (sizes-are (c .before .before .before .before .args .list) (c .before .before .before .before .args .books) (c .before .before .before .before .args .queues) ∙ rw (eq-eqb _ _ (c .before .before .before .if1 .left), le-leb _ _ (c .before .before .if2 .left), le-leb _ _ (c .before .if3 .left), ne-eqb _ _ (c .if4 .taken)))
+returns-4 c =
+    let a = c .before .before .before .before .args in
+    sym (sizes-are (a .list) (a .books) (a .queues) ∙ rw (eq-eqb _ _ (c .before .before .before .if1 .left), le-leb _ _ (c .before .before .if2 .left), le-leb _ _ (c .before .if3 .left), ne-eqb _ _ (c .if4 .taken)))
 
 mul-result : tie.Need-mul-result
 mul-result c = search needs
@@ -25,7 +27,9 @@ add-result : tie.Need-add-result
 add-result c = search needs
 
 returns-5 : tie.Need-returns-5
-returns-5 c = sym (sizes-are (c .before .before .before .before .args .list) (c .before .before .before .before .args .books) (c .before .before .before .before .args .queues) ∙ rw (eq-eqb _ _ (c .before .before .before .if1 .left), le-leb _ _ (c .before .before .if2 .left), le-leb _ _ (c .before .if3 .left), eq-eqb _ _ (c .if4 .left)))
+returns-5 c =
+    let a = c .before .before .before .before .args in
+    sym (sizes-are (a .list) (a .books) (a .queues) ∙ rw (eq-eqb _ _ (c .before .before .before .if1 .left), le-leb _ _ (c .before .before .if2 .left), le-leb _ _ (c .before .if3 .left), eq-eqb _ _ (c .if4 .left)))
 
 pub sizes-fit-spec : {M : Type 1} → statement M
 sizes-fit-spec =

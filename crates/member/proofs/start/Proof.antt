@@ -33,7 +33,9 @@ same-length-2 : tie.Need-same-length-2
 same-length-2 c = search needs
 
 returns-2 : tie.Need-returns-2
-returns-2 c = start-accepted _ _ _ _ _ (c .before .before .before .before .before .before .before .startable .ensures) _ _ (c .before .before .before .before .before .enum-told .given .1) (c .no-event .ensures) (c .before .before .before .book .ensures)
+returns-2 c =
+    let early = c .before .before .before .before .before in
+    start-accepted _ _ _ _ _ (early .before .before .startable .ensures) _ _ (early .enum-told .given .1) (c .no-event .ensures) (c .before .before .before .book .ensures)
 
 pub start-spec : {M : Type 1} → statement M
 start-spec =

@@ -22,10 +22,14 @@ form-of-requires : tie.Need-form-of-requires
 form-of-requires c κs = search needs
 
 returns-2 : tie.Need-returns-2
-returns-2 c = sym (line-unknown (c .before .before .before .before .before .before .before .args .line .now) _ _ (c .before .before .before .before .before .if1 .left) (c .before .before .before .before .find .ensures) (c .before .before .form-of .ensures) (c .if2 .taken))
+returns-2 c =
+    let early = c .before .before .before .before in
+    sym (line-unknown (early .before .before .before .args .line .now) _ _ (early .before .if1 .left) (early .find .ensures) (c .before .before .form-of .ensures) (c .if2 .taken))
 
 returns-3 : tie.Need-returns-3
-returns-3 c = sym (line-bare (c .before .before .before .before .before .before .before .before .args .line .now) _ _ (c .before .before .before .before .before .before .if1 .left) (c .before .before .before .before .before .find .ensures) (c .before .before .before .form-of .ensures) (c .before .if2 .left) (c .if3 .taken))
+returns-3 c =
+    let early = c .before .before .before .before .before in
+    sym (line-bare (early .before .before .before .args .line .now) _ _ (early .before .if1 .left) (early .find .ensures) (c .before .before .before .form-of .ensures) (c .before .if2 .left) (c .if3 .taken))
 
 add-from : tie.Need-add-from
 add-from c = omega (arith, find-le 32 (c .before .before .before .before .before .before .before .before .args .line .now) 0)
@@ -43,7 +47,9 @@ read-requires : tie.Need-read-requires
 read-requires c κs = rw (c .before .before .before .before .form-of .ensures) (form-fits _)
 
 returns-4 : tie.Need-returns-4
-returns-4 c = sym (line-whole (c .before .before .before .before .before .before .before .before .before .before .args .line .now) _ _ _ (c .before .before .before .before .before .before .before .before .if1 .left) (c .before .before .before .before .before .before .before .find .ensures) (c .before .before .before .before .before .form-of .ensures) (c .before .before .before .if2 .left) (c .before .before .if3 .left) (c .read .ensures))
+returns-4 c =
+    let early = c .before .before .before .before .before in
+    sym (line-whole (early .before .before .before .before .before .args .line .now) _ _ _ (early .before .before .before .if1 .left) (early .before .before .find .ensures) (early .form-of .ensures) (c .before .before .before .if2 .left) (c .before .before .if3 .left) (c .read .ensures))
 
 pub read-spec : {M : Type 1} → statement M
 read-spec =

@@ -26,7 +26,9 @@ same-length : tie.Need-same-length
 same-length c = search needs
 
 returns : tie.Need-returns
-returns c = wrote-same _ _ (c .before .before .before .before .before .before .before .before .before .args .out .now) _ _ (put-take _ _ _ _ (c .before .before .before .before .before .before .put-reply .ensures)) (c .before .before .put-front .ensures)
+returns c =
+    let early = c .before .before .before .before .before .before in
+    wrote-same _ _ (early .before .before .before .args .out .now) _ _ (put-take _ _ _ _ (early .put-reply .ensures)) (c .before .before .put-front .ensures)
 
 pub write-spec : {M : Type 1} → statement M
 write-spec =

@@ -21,7 +21,9 @@ same-length : tie.Need-same-length
 same-length c = search needs
 
 returns : tie.Need-returns
-returns c = begun _ _ _ _ _ _ _ _ (c .before .before .before .before .before .before .before .before .before .before .before .clear .ensures) (c .before .before .before .before .before .before .before .put-numbers .ensures) (c .before .before .before .before .record .ensures) (c .before .before .store .ensures)
+returns c =
+    let early = c .before .before .before .before in
+    begun _ _ _ _ _ _ _ _ (early .before .before .before .before .before .before .before .clear .ensures) (early .before .before .before .put-numbers .ensures) (early .record .ensures) (c .before .before .store .ensures)
 
 pub book-spec : {M : Type 1} → statement M
 book-spec =

@@ -38,7 +38,9 @@ returns-2 : tie.Need-returns-2
 returns-2 c = let a = c .before .before .before .before .before .before .before .args in c .sound .ensures ∙ entry-info (a .b .now) (a .at) (a .n) (c .before .before .before .before .before .before .before .pre .1) (c .before .before .before .before .if1 .left) (c .before .before .if2 .taken)
 
 returns-3 : tie.Need-returns-3
-returns-3 c = entry-other (c .before .before .before .before .before .before .args .b .now) (c .before .before .before .before .before .before .args .at) (c .before .before .before .before .before .before .args .n) (c .before .before .before .before .before .before .pre .1) (c .before .before .before .if1 .left) (c .before .if2 .left) (c .if3 .taken)
+returns-3 c =
+    let a = c .before .before .before .before .before .before .args in
+    entry-other (a .b .now) (a .at) (a .n) (c .before .before .before .before .before .before .pre .1) (c .before .before .before .if1 .left) (c .before .if2 .left) (c .if3 .taken)
 
 add-get-number : tie.Need-add-get-number
 add-get-number c = search needs
@@ -50,7 +52,10 @@ told-fits-requires : tie.Need-told-fits-requires
 told-fits-requires c κs = search needs
 
 returns-4 : tie.Need-returns-4
-returns-4 c = c .told-fits .ensures ∙ rw (c .before .get-number .ensures .0) (entry-short (c .before .before .before .before .before .before .before .before .args .b .now) (c .before .before .before .before .before .before .before .before .args .at) (c .before .before .before .before .before .before .before .before .args .n) (c .before .before .before .before .before .before .before .before .pre .1) (c .before .before .before .before .before .if1 .left) (c .before .before .before .if2 .left))
+returns-4 c =
+    let a = c .before .before .before .before .before .before .before .before .args in
+    let early = c .before .before .before .before .before in
+    c .told-fits .ensures ∙ rw (c .before .get-number .ensures .0) (entry-short (a .b .now) (a .at) (a .n) (early .before .before .before .pre .1) (early .if1 .left) (c .before .before .before .if2 .left))
 
 pub entry-sound-spec : {M : Type 1} → statement M
 entry-sound-spec =

@@ -21,7 +21,9 @@ counts-fit-requires : tie.Need-counts-fit-requires
 counts-fit-requires c κs = search needs
 
 returns-3 : tie.Need-returns-3
-returns-3 c = sym (layout-are (c .before .before .before .before .before .before .args .b .now) ∙ rw (eq-eqb _ _ (c .before .before .before .before .if1 .left), sym (c .before .before .before .marks-fit .ensures) ∙ not-false _ (c .before .before .if2 .left), sym (c .before .counts-fit .ensures) ∙ not-true _ (c .if3 .taken)))
+returns-3 c =
+    let early = c .before .before .before .before in
+    sym (layout-are (early .before .before .args .b .now) ∙ rw (eq-eqb _ _ (early .if1 .left), sym (c .before .before .before .marks-fit .ensures) ∙ not-false _ (c .before .before .if2 .left), sym (c .before .counts-fit .ensures) ∙ not-true _ (c .if3 .taken)))
 
 add-slots-fit : tie.Need-add-slots-fit
 add-slots-fit c = search needs
@@ -36,7 +38,9 @@ slots-fit-requires : tie.Need-slots-fit-requires
 slots-fit-requires c κs = omega (arith, outgoing-few (c .before .before .before .before .before .before .before .args .b .now) (sym (c .before .before .counts-fit .ensures) ∙ not-false _ (c .before .if3 .left)))
 
 returns-4 : tie.Need-returns-4
-returns-4 c = c .slots-fit .ensures ∙ sym (layout-are (c .before .before .before .before .before .before .before .before .args .b .now) ∙ rw (eq-eqb _ _ (c .before .before .before .before .before .before .if1 .left), sym (c .before .before .before .before .before .marks-fit .ensures) ∙ not-false _ (c .before .before .before .before .if2 .left), sym (c .before .before .before .counts-fit .ensures) ∙ not-false _ (c .before .before .if3 .left)))
+returns-4 c =
+    let early = c .before .before .before .before in
+    c .slots-fit .ensures ∙ sym (layout-are (early .before .before .before .before .args .b .now) ∙ rw (eq-eqb _ _ (early .before .before .if1 .left), sym (early .before .marks-fit .ensures) ∙ not-false _ (early .if2 .left), sym (c .before .before .before .counts-fit .ensures) ∙ not-false _ (c .before .before .if3 .left)))
 
 pub layout-fits-spec : {M : Type 1} → statement M
 layout-fits-spec =

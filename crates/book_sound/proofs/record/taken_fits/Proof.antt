@@ -20,7 +20,9 @@ limit-if-requires c κs = search needs
 
 returns : tie.Need-returns
 unfolding recordIn
-returns c = sym (taken-over (recordIn (c .before .before .before .before .before .before .args .b .now)) (c .before .before .before .before .before .before .args .own) (c .before .before .before .before .before .before .args .new) _ _ (c .before .before .before .before .load-seat .ensures) (c .before .before .before .load-seat2 .ensures) _ (c .before .limit-if .ensures) (c .if1 .taken))
+returns c =
+    let a = c .before .before .before .before .before .before .args in
+    sym (taken-over (recordIn (a .b .now)) (a .own) (a .new) _ _ (c .before .before .before .before .load-seat .ensures) (c .before .before .before .load-seat2 .ensures) _ (c .before .limit-if .ensures) (c .if1 .taken))
 
 same-view-requires : tie.Need-same-view-requires
 same-view-requires c κs = search needs
@@ -30,14 +32,20 @@ limit-if-requires-2 c κs = search needs
 
 returns-2 : tie.Need-returns-2
 unfolding recordIn
-returns-2 c = taken-within (recordIn (c .before .before .before .before .before .before .before .before .before .args .b .now)) (c .before .before .before .before .before .before .before .before .before .args .own) (c .before .before .before .before .before .before .before .before .before .args .new) _ _ (c .before .before .before .before .before .before .before .load-seat .ensures) (c .before .before .before .before .before .before .load-seat2 .ensures) _ (c .before .before .before .before .limit-if .ensures) _ _ _ (c .before .before .before .if1 .left) (c .before .before .same-view .ensures) (rw (c .before .if2 .taken)) (c .limit-if2 .ensures)
+returns-2 c =
+    let a = c .before .before .before .before .before .before .before .before .before .args in
+    let early = c .before .before .before .before in
+    taken-within (recordIn (a .b .now)) (a .own) (a .new) _ _ (early .before .before .before .load-seat .ensures) (early .before .before .load-seat2 .ensures) _ (early .limit-if .ensures) _ _ _ (c .before .before .before .if1 .left) (c .before .before .same-view .ensures) (rw (c .before .if2 .taken)) (c .limit-if2 .ensures)
 
 limit-if-requires-3 : tie.Need-limit-if-requires-3
 limit-if-requires-3 c κs = search needs
 
 returns-3 : tie.Need-returns-3
 unfolding recordIn
-returns-3 c = taken-within (recordIn (c .before .before .before .before .before .before .before .before .before .args .b .now)) (c .before .before .before .before .before .before .before .before .before .args .own) (c .before .before .before .before .before .before .before .before .before .args .new) _ _ (c .before .before .before .before .before .before .before .load-seat .ensures) (c .before .before .before .before .before .before .load-seat2 .ensures) _ (c .before .before .before .before .limit-if .ensures) _ _ _ (c .before .before .before .if1 .left) (c .before .before .same-view .ensures) (rw (c .before .if2 .left)) (c .limit-if3 .ensures)
+returns-3 c =
+    let a = c .before .before .before .before .before .before .before .before .before .args in
+    let early = c .before .before .before .before in
+    taken-within (recordIn (a .b .now)) (a .own) (a .new) _ _ (early .before .before .before .load-seat .ensures) (early .before .before .load-seat2 .ensures) _ (early .limit-if .ensures) _ _ _ (c .before .before .before .if1 .left) (c .before .before .same-view .ensures) (rw (c .before .if2 .left)) (c .limit-if3 .ensures)
 
 pub taken-fits-spec : {M : Type 1} → statement M
 taken-fits-spec =

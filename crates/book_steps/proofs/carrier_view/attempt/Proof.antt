@@ -38,19 +38,25 @@ empty-requires : tie.Need-empty-requires
 empty-requires c κs = (omega (arith, sound-size _ (c .before .before .before .before .before .before .before .before .before .before .before .pre)), loaded-side _ (c .before .before .before .before .before .before .before .before .before .before .before .pre) _ (c .before .before .before .before .before .before .before .before .load .ensures))
 
 store-requires : tie.Need-store-requires
-store-requires c κs = (emptied-size (c .before .before .before .before .before .before .before .before .before .before .before .before .before .before .before .before .args .b .now) _ (inwardAt (c .before .before .before .before .before .before .before .before .before .before .before .before .before .load .result .side)) (c .before .before .before .before .empty .ensures) (sound-size _ (c .before .before .before .before .before .before .before .before .before .before .before .before .before .before .before .before .pre)), attempt-few _ _ (c .before .before .before .before .before .before .before .before .before .before .before .before .before .load .ensures) _ (c .before .before .before .before .before .before .before .before .before .before .before .attempt .ensures) _ (c .before .before .before .before .before .before .before .before .before .before .few-open .ensures) (c .before .before .before .before .before .before .before .before .enum-told .given .1))
+store-requires c κs =
+    let early = c .before .before .before .before in
+    (emptied-size (early .before .before .before .before .before .before .before .before .before .before .before .before .args .b .now) _ (inwardAt (early .before .before .before .before .before .before .before .before .before .load .result .side)) (early .empty .ensures) (sound-size _ (early .before .before .before .before .before .before .before .before .before .before .before .before .pre)), attempt-few _ _ (early .before .before .before .before .before .before .before .before .before .load .ensures) _ (early .before .before .before .before .before .before .before .attempt .ensures) _ (early .before .before .before .before .before .before .few-open .ensures) (early .before .before .before .before .enum-told .given .1))
 
 same-length : tie.Need-same-length
 same-length c = search needs
 
 returns : tie.Need-returns
-returns c = attempt-refused _ _ (c .before .before .before .before .before .before .before .load .ensures) _ (c .before .before .before .before .before .attempt .ensures) _ (c .before .before .before .before .few-open .ensures) _ _ (c .before .before .verdict .given .1) (c .refuse .ensures)
+returns c =
+    let early = c .before .before .before .before in
+    attempt-refused _ _ (early .before .before .before .load .ensures) _ (early .before .attempt .ensures) _ (early .few-open .ensures) _ _ (c .before .before .verdict .given .1) (c .refuse .ensures)
 
 same-length-2 : tie.Need-same-length-2
 same-length-2 c = search needs
 
 returns-2 : tie.Need-returns-2
-returns-2 c = attempt-accepted _ _ (c .before .before .before .before .before .before .before .before .before .before .before .before .before .before .before .before .load .ensures) _ (c .before .before .before .before .before .before .before .before .before .before .before .before .before .before .attempt .ensures) _ (c .before .before .before .before .before .before .before .before .before .before .before .before .before .few-open .ensures) (c .before .before .before .before .before .before .before .before .before .before .before .enum-told .given .1) _ (c .before .before .before .before .before .before .before .before .before .attempted .ensures) _ _ (c .before .before .before .before .before .before .before .empty .ensures) (c .before .before .store .ensures)
+returns-2 c =
+    let early = c .before .before .before .before .before .before .before in
+    attempt-accepted _ _ (early .before .before .before .before .before .before .before .before .before .load .ensures) _ (early .before .before .before .before .before .before .before .attempt .ensures) _ (early .before .before .before .before .before .before .few-open .ensures) (early .before .before .before .before .enum-told .given .1) _ (early .before .before .attempted .ensures) _ _ (early .empty .ensures) (c .before .before .store .ensures)
 
 pub attempt-spec : {M : Type 1} → statement M
 attempt-spec =

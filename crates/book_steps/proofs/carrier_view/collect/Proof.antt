@@ -25,7 +25,9 @@ same-length : tie.Need-same-length
 same-length c = search needs
 
 returns : tie.Need-returns
-returns c = collect-done _ _ (c .before .before .before .before .before .before .before .load .ensures) _ (c .before .before .before .before .before .collect .ensures) _ (c .before .before .before .before .no-event .ensures) _ _ (c .before .before .keep .ensures)
+returns c =
+    let early = c .before .before .before .before in
+    collect-done _ _ (early .before .before .before .load .ensures) _ (early .before .collect .ensures) _ (early .no-event .ensures) _ _ (c .before .before .keep .ensures)
 
 pub collect-spec : {M : Type 1} → statement M
 collect-spec =

@@ -26,7 +26,9 @@ same-length : tie.Need-same-length
 same-length c = search needs
 
 returns : tie.Need-returns
-returns c = join-done _ _ (c .before .before .before .before .before .before .load .ensures) _ _ (c .before .before .before .before .join .ensures) _ _ (c .before .before .enter .ensures)
+returns c =
+    let early = c .before .before .before .before in
+    join-done _ _ (early .before .before .load .ensures) _ _ (early .join .ensures) _ _ (c .before .before .enter .ensures)
 
 pub join-spec : {M : Type 1} → statement M
 join-spec = tie.close (tie.spec load-requires slice-read-t9 join-requires enter-requires same-length returns)

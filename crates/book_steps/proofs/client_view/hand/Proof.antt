@@ -34,7 +34,9 @@ same-length : tie.Need-same-length
 same-length c = search needs
 
 returns : tie.Need-returns
-returns c = hand-done _ _ (c .before .before .before .before .before .before .before .before .before .load .ensures) _ (c .before .before .before .before .before .before .hand .ensures) _ (c .before .before .before .before .of-item .ensures) _ _ (c .before .before .keep .ensures)
+returns c =
+    let early = c .before .before .before .before in
+    hand-done _ _ (early .before .before .before .before .before .load .ensures) _ (early .before .before .hand .ensures) _ (early .of-item .ensures) _ _ (c .before .before .keep .ensures)
 
 pub hand-spec : {M : Type 1} → statement M
 hand-spec =

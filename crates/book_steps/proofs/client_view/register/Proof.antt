@@ -31,7 +31,9 @@ same-length : tie.Need-same-length
 same-length c = search needs
 
 returns : tie.Need-returns
-returns c = register-done _ _ (c .before .before .before .before .before .before .before .before .before .load .ensures) _ (c .before .before .before .before .before .before .register .ensures) _ (c .before .before .before .before .before .spoken .ensures) _ (c .before .before .before .before .in-client .ensures) _ _ (c .before .before .commit .ensures)
+returns c =
+    let early = c .before .before .before .before in
+    register-done _ _ (early .before .before .before .before .before .load .ensures) _ (early .before .before .register .ensures) _ (early .before .spoken .ensures) _ (early .in-client .ensures) _ _ (c .before .before .commit .ensures)
 
 pub register-spec : {M : Type 1} → statement M
 register-spec =

@@ -37,7 +37,9 @@ same-length : tie.Need-same-length
 same-length c = search needs
 
 returns : tie.Need-returns
-returns c = safe-done _ _ (c .before .before .before .before .before .before .before .before .before .before .load .ensures) _ (c .before .before .before .before .before .before .safe .ensures) _ (c .before .before .before .before .of-item .ensures) _ _ (c .before .before .keep .ensures)
+returns c =
+    let early = c .before .before .before .before in
+    safe-done _ _ (early .before .before .before .before .before .before .load .ensures) _ (early .before .before .safe .ensures) _ (early .of-item .ensures) _ _ (c .before .before .keep .ensures)
 
 pub safe-spec : {M : Type 1} → statement M
 safe-spec =

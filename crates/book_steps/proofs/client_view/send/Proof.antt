@@ -40,13 +40,17 @@ same-length : tie.Need-same-length
 same-length c = search needs
 
 returns : tie.Need-returns
-returns c = send-refused _ _ (c .before .before .before .before .before .before .before .load .ensures) _ (c .before .before .before .before .send .ensures) _ _ _ (c .before .before .verdict .given .1) (c .refuse .ensures)
+returns c =
+    let early = c .before .before .before .before in
+    send-refused _ _ (early .before .before .before .load .ensures) _ (early .send .ensures) _ _ _ (c .before .before .verdict .given .1) (c .refuse .ensures)
 
 same-length-2 : tie.Need-same-length-2
 same-length-2 c = search needs
 
 returns-2 : tie.Need-returns-2
-returns-2 c = send-accepted _ _ (c .before .before .before .before .before .before .before .before .before .before .before .load .ensures) _ (c .before .before .before .before .before .before .before .before .send .ensures) _ (c .before .before .before .before .before .before .enum-told .given .1) _ (c .before .before .before .before .before .spoken .ensures) _ (c .before .before .before .before .in-client .ensures) _ (c .before .before .say .ensures)
+returns-2 c =
+    let early = c .before .before .before .before in
+    send-accepted _ _ (early .before .before .before .before .before .before .before .load .ensures) _ (early .before .before .before .before .send .ensures) _ (early .before .before .enum-told .given .1) _ (early .before .spoken .ensures) _ (early .in-client .ensures) _ (c .before .before .say .ensures)
 
 pub send-spec : {M : Type 1} → statement M
 send-spec =

@@ -31,7 +31,9 @@ same-length : tie.Need-same-length
 same-length c = search needs
 
 returns : tie.Need-returns
-returns c = tell-done _ _ (c .before .before .before .before .before .before .before .before .before .load .ensures) _ (c .before .before .before .before .before .before .before .tell .ensures) _ (c .before .before .before .before .before .spoken .ensures) _ (c .before .before .before .before .no-event .ensures) _ _ (c .before .before .commit .ensures)
+returns c =
+    let early = c .before .before .before .before in
+    tell-done _ _ (early .before .before .before .before .before .load .ensures) _ (early .before .before .before .tell .ensures) _ (early .before .spoken .ensures) _ (early .no-event .ensures) _ _ (c .before .before .commit .ensures)
 
 pub tell-spec : {M : Type 1} → statement M
 tell-spec =

@@ -39,7 +39,9 @@ same-length c = search needs
 
 returns : tie.Need-returns
 unfolding gainedBy
-returns c = rw (c .before .before .before .before .before .before .m .given .1, ← c .before .before .before .before .gaining .ensures) (c .before .before .gain .ensures)
+returns c =
+    let early = c .before .before .before .before in
+    rw (early .before .before .m .given .1, ← early .gaining .ensures) (c .before .before .gain .ensures)
 
 returns-2 : tie.Need-returns-2
 returns-2 c = unreceived (c .before .before .before .args .e .message) _ _ _ (c .match .keys2)

@@ -23,7 +23,9 @@ same-length-2 : tie.Need-same-length-2
 same-length-2 c = search needs
 
 returns-2 : tie.Need-returns-2
-returns-2 c = shows-call _ _ _ _ _ _ _ _ (c .before .before .before .before .before .before .before .before .if1 .left) (c .before .before .before .before .before .before .safe .ensures) (c .before .before .answer .ensures)
+returns-2 c =
+    let early = c .before .before .before .before .before .before in
+    shows-call _ _ _ _ _ _ _ _ (early .before .before .if1 .left) (early .safe .ensures) (c .before .before .answer .ensures)
 
 pub dvs-safe-spec : {M : Type 1} → statement M
 dvs-safe-spec =

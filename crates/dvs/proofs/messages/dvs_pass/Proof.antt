@@ -26,7 +26,9 @@ same-length-3 : tie.Need-same-length-3
 same-length-3 c = search needs
 
 returns-2 : tie.Need-returns-2
-returns-2 c = passes-call _ _ _ _ _ _ _ _ (c .before .before .before .before .before .before .before .before .before .before .before .if1 .left) (c .before .before .before .before .before .before .before .before .pass .ensures) (c .before .before .measure .ensures)
+returns-2 c =
+    let early = c .before .before .before .before .before .before .before .before in
+    passes-call _ _ _ _ _ _ _ _ (early .before .before .before .if1 .left) (early .pass .ensures) (c .before .before .measure .ensures)
 
 pub dvs-pass-spec : {M : Type 1} → statement M
 dvs-pass-spec =

@@ -26,13 +26,17 @@ put-frame-requires : tie.Need-put-frame-requires
 put-frame-requires c κs = search needs
 
 returns-2 : tie.Need-returns-2
-returns-2 c = reads-refused _ _ _ _ _ (c .before .before .before .before .before .if1 .left) (c .before .before .before .before .read .ensures) (c .before .before .v .given .1) (c .refused2 .ensures)
+returns-2 c =
+    let early = c .before .before .before .before in
+    reads-refused _ _ _ _ _ (early .before .if1 .left) (early .read .ensures) (c .before .before .v .given .1) (c .refused2 .ensures)
 
 same-length : tie.Need-same-length
 same-length c = search needs
 
 returns-3 : tie.Need-returns-3
-returns-3 c = reads-accepted _ _ _ _ (c .before .before .before .before .before .before .before .before .if1 .left) (c .before .before .before .before .before .before .before .read .ensures) (c .before .before .before .before .before .enum-told .given .1) (c .before .before .put-frame .ensures)
+returns-3 c =
+    let early = c .before .before .before .before .before in
+    reads-accepted _ _ _ _ (early .before .before .before .if1 .left) (early .before .before .read .ensures) (early .enum-told .given .1) (c .before .before .put-frame .ensures)
 
 pub dvs-read-spec : {M : Type 1} → statement M
 dvs-read-spec =

@@ -28,7 +28,9 @@ refused-requires-3 : tie.Need-refused-requires-3
 refused-requires-3 c κs = search needs
 
 returns-3 : tie.Need-returns-3
-returns-3 c = writes-unknown _ _ _ (c .before .before .before .before .before .if1 .left) (c .before .before .before .before .if2 .left) _ (sym (c .before .before .known .ensures) ∙ not-true _ (c .before .if3 .taken)) (c .refused3 .ensures)
+returns-3 c =
+    let early = c .before .before .before .before in
+    writes-unknown _ _ _ (early .before .if1 .left) (early .if2 .left) _ (sym (c .before .before .known .ensures) ∙ not-true _ (c .before .if3 .taken)) (c .refused3 .ensures)
 
 load-frame-requires : tie.Need-load-frame-requires
 load-frame-requires c κs = search needs
@@ -46,7 +48,9 @@ same-length-2 : tie.Need-same-length-2
 same-length-2 c = search needs
 
 returns-4 : tie.Need-returns-4
-returns-4 c = writes-call _ _ _ (c .before .before .before .before .before .before .before .before .before .before .before .before .before .if1 .left) (c .before .before .before .before .before .before .before .before .before .before .before .before .if2 .left) _ _ _ _ (sym (c .before .before .before .before .before .before .before .before .before .before .known .ensures) ∙ not-false _ (c .before .before .before .before .before .before .before .before .before .if3 .left)) (rw (c .before .before .before .before .before .before .before .before .load-frame .ensures) at (c .before .before .before .before .before .before .write .ensures)) (c .before .before .measure .ensures)
+returns-4 c =
+    let early = c .before .before .before .before .before .before in
+    writes-call _ _ _ (early .before .before .before .before .before .before .before .if1 .left) (early .before .before .before .before .before .before .if2 .left) _ _ _ _ (sym (early .before .before .before .before .known .ensures) ∙ not-false _ (early .before .before .before .if3 .left)) (rw (early .before .before .load-frame .ensures) at (early .write .ensures)) (c .before .before .measure .ensures)
 
 pub dvs-write-spec : {M : Type 1} → statement M
 dvs-write-spec =

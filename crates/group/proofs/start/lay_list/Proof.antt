@@ -17,7 +17,9 @@ same-length : tie.Need-same-length
 same-length c = search needs
 
 returns : tie.Need-returns
-returns c = c .before .before .store-view .ensures ∙ ap (λ (z : List ℕ). storeView z 0 (firstView (c .before .before .before .before .before .before .before .before .before .args .first))) (c .before .before .before .before .before .before .clear .ensures)
+returns c =
+    let early = c .before .before .before .before .before .before in
+    c .before .before .store-view .ensures ∙ ap (λ (z : List ℕ). storeView z 0 (firstView (early .before .before .before .args .first))) (early .clear .ensures)
 
 pub lay-list-spec : {M : Type 1} → statement M
 lay-list-spec = tie.close (tie.spec clear-requires store-view-requires same-length returns)

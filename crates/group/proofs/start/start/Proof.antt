@@ -16,13 +16,21 @@ enum-told : tie.Need-enum-told
 enum-told c = search needs
 
 lay-list-requires : tie.Need-lay-list-requires
-lay-list-requires c κs = list-room (c .before .before .before .before .before .before .before .before .before .before .args .members) (c .before .before .before .before .before .before .before .before .before .before .args .first) (record { list = c .before .before .before .before .before .before .before .before .before .before .args .list .now; books = c .before .before .before .before .before .before .before .before .before .before .args .all .now; queues = c .before .before .before .before .before .before .before .before .before .before .args .queues .now }) (sym (c .before .enum-told .given .1) ∙ c .before .before .before .startable .ensures)
+lay-list-requires c κs =
+    let a = c .before .before .before .before .before .before .before .before .before .before .args in
+    list-room (a .members) (a .first) (record { list = a .list .now; books = a .all .now; queues = a .queues .now }) (sym (c .before .enum-told .given .1) ∙ c .before .before .before .startable .ensures)
 
 lay-books-requires : tie.Need-lay-books-requires
-lay-books-requires c κs = (books-long (c .before .before .before .before .before .before .before .before .before .before .before .before .before .before .args .members) (c .before .before .before .before .before .before .before .before .before .before .before .before .before .before .args .first) (record { list = c .before .before .before .before .before .before .before .before .before .before .before .before .before .before .args .list .now; books = c .before .before .before .before .before .before .before .before .before .before .before .before .before .before .args .all .now; queues = c .before .before .before .before .before .before .before .before .before .before .before .before .before .before .args .queues .now }) (sym (c .before .before .before .before .before .enum-told .given .1) ∙ c .before .before .before .before .before .before .before .startable .ensures), members-few (c .before .before .before .before .before .before .before .before .before .before .before .before .before .before .args .members) (c .before .before .before .before .before .before .before .before .before .before .before .before .before .before .args .first) (record { list = c .before .before .before .before .before .before .before .before .before .before .before .before .before .before .args .list .now; books = c .before .before .before .before .before .before .before .before .before .before .before .before .before .before .args .all .now; queues = c .before .before .before .before .before .before .before .before .before .before .before .before .before .before .args .queues .now }) (sym (c .before .before .before .before .before .enum-told .given .1) ∙ c .before .before .before .before .before .before .before .startable .ensures))
+lay-books-requires c κs =
+    let a = c .before .before .before .before .before .before .before .before .before .before .before .before .before .before .args in
+    let early = c .before .before .before .before .before in
+    (books-long (a .members) (a .first) (record { list = a .list .now; books = a .all .now; queues = a .queues .now }) (sym (early .enum-told .given .1) ∙ early .before .before .startable .ensures), members-few (a .members) (a .first) (record { list = a .list .now; books = a .all .now; queues = a .queues .now }) (sym (early .enum-told .given .1) ∙ early .before .before .startable .ensures))
 
 lay-queues-requires : tie.Need-lay-queues-requires
-lay-queues-requires c κs = queues-room (c .before .before .before .before .before .before .before .before .before .before .before .before .before .before .before .before .before .before .args .members) (c .before .before .before .before .before .before .before .before .before .before .before .before .before .before .before .before .before .before .args .first) (record { list = c .before .before .before .before .before .before .before .before .before .before .before .before .before .before .before .before .before .before .args .list .now; books = c .before .before .before .before .before .before .before .before .before .before .before .before .before .before .before .before .before .before .args .all .now; queues = c .before .before .before .before .before .before .before .before .before .before .before .before .before .before .before .before .before .before .args .queues .now }) (sym (c .before .before .before .before .before .before .before .before .before .enum-told .given .1) ∙ c .before .before .before .before .before .before .before .before .before .before .before .startable .ensures)
+lay-queues-requires c κs =
+    let a = c .before .before .before .before .before .before .before .before .before .before .before .before .before .before .before .before .before .before .args in
+    let early = c .before .before .before .before .before .before .before .before .before in
+    queues-room (a .members) (a .first) (record { list = a .list .now; books = a .all .now; queues = a .queues .now }) (sym (early .enum-told .given .1) ∙ early .before .before .startable .ensures)
 
 same-length : tie.Need-same-length
 same-length c = search needs
@@ -34,7 +42,9 @@ same-length-3 : tie.Need-same-length-3
 same-length-3 c = search needs
 
 returns : tie.Need-returns
-returns c = start-refused (c .before .before .before .before .before .before .before .before .before .before .args .members) (c .before .before .before .before .before .before .before .before .before .before .args .first) (record { list = c .before .before .before .before .before .before .before .before .before .before .args .list .now; books = c .before .before .before .before .before .before .before .before .before .before .args .all .now; queues = c .before .before .before .before .before .before .before .before .before .before .args .queues .now }) _ (sym (c .before .v .given .1) ∙ c .before .before .before .startable .ensures)
+returns c =
+    let a = c .before .before .before .before .before .before .before .before .before .before .args in
+    start-refused (a .members) (a .first) (record { list = a .list .now; books = a .all .now; queues = a .queues .now }) _ (sym (c .before .v .given .1) ∙ c .before .before .before .startable .ensures)
 
 same-length-4 : tie.Need-same-length-4
 same-length-4 c = search needs
@@ -47,7 +57,10 @@ same-length-6 c = search needs
 
 returns-2 : tie.Need-returns-2
 unfolding startRanges
-returns-2 c = start-accepted (c .before .before .before .before .before .before .before .before .before .before .before .before .before .before .before .before .before .before .before .before .before .args .members) (c .before .before .before .before .before .before .before .before .before .before .before .before .before .before .before .before .before .before .before .before .before .args .first) (record { list = c .before .before .before .before .before .before .before .before .before .before .before .before .before .before .before .before .before .before .before .before .before .args .list .now; books = c .before .before .before .before .before .before .before .before .before .before .before .before .before .before .before .before .before .before .before .before .before .args .all .now; queues = c .before .before .before .before .before .before .before .before .before .before .before .before .before .before .before .before .before .before .before .before .before .args .queues .now }) _ (sym (c .before .before .before .before .before .before .before .before .before .before .before .before .enum-told .given .1) ∙ c .before .before .before .before .before .before .before .before .before .before .before .before .before .before .startable .ensures) (c .before .before .before .before .before .before .before .before .before .before .lay-list .ensures) (c .before .before .before .before .before .before .lay-books .ensures) (c .before .before .lay-queues .ensures)
+returns-2 c =
+    let a = c .before .before .before .before .before .before .before .before .before .before .before .before .before .before .before .before .before .before .before .before .before .args in
+    let early = c .before .before .before .before .before .before in
+    start-accepted (a .members) (a .first) (record { list = a .list .now; books = a .all .now; queues = a .queues .now }) _ (sym (early .before .before .before .before .before .before .enum-told .given .1) ∙ early .before .before .before .before .before .before .before .before .startable .ensures) (early .before .before .before .before .lay-list .ensures) (early .lay-books .ensures) (c .before .before .lay-queues .ensures)
 
 pub start-spec : {M : Type 1} → statement M
 start-spec =

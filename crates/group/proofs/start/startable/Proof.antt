@@ -11,10 +11,14 @@ long-requires : tie.Need-long-requires
 long-requires c κs = search needs
 
 returns : tie.Need-returns
-returns c = begin-short (c .before .before .before .before .before .args .members) (c .before .before .before .before .before .args .first) (record { list = c .before .before .before .before .before .args .list .now; books = c .before .before .before .before .before .args .all .now; queues = c .before .before .before .before .before .args .queues .now }) (sym (c .before .long .ensures) ∙ not-true _ (c .if1 .taken))
+returns c =
+    let a = c .before .before .before .before .before .args in
+    begin-short (a .members) (a .first) (record { list = a .list .now; books = a .all .now; queues = a .queues .now }) (sym (c .before .long .ensures) ∙ not-true _ (c .if1 .taken))
 
 returns-2 : tie.Need-returns-2
-returns-2 c = begin-none (c .before .before .before .before .before .before .args .members) (c .before .before .before .before .before .before .args .first) (record { list = c .before .before .before .before .before .before .args .list .now; books = c .before .before .before .before .before .before .args .all .now; queues = c .before .before .before .before .before .before .args .queues .now }) (sym (c .before .before .long .ensures) ∙ not-false _ (c .before .if1 .left)) (c .if2 .taken)
+returns-2 c =
+    let a = c .before .before .before .before .before .before .args in
+    begin-none (a .members) (a .first) (record { list = a .list .now; books = a .all .now; queues = a .queues .now }) (sym (c .before .before .long .ensures) ∙ not-false _ (c .before .if1 .left)) (c .if2 .taken)
 
 returns-3 : tie.Need-returns-3
 returns-3 c = begin-many (c .before .before .before .before .before .before .before .args .members) (c .before .before .before .before .before .before .before .args .first) (record { list = c .before .before .before .before .before .before .before .args .list .now; books = c .before .before .before .before .before .before .before .args .all .now; queues = c .before .before .before .before .before .before .before .args .queues .now }) (sym (c .before .before .before .long .ensures) ∙ not-false _ (c .before .before .if1 .left)) (omega (arith, c .before .if2 .left)) (c .if3 .taken)

@@ -33,25 +33,39 @@ deliver-requires : tie.Need-deliver-requires
 deliver-requires c κs = search needs
 
 attempt-requires : tie.Need-attempt-requires
-attempt-requires c κs = desk (record { list = c .before .before .before .before .before .args .list .now; books = c .before .before .before .before .before .args .all .now; queues = c .before .before .before .before .before .args .queues .now }) (c .before .before .before .before .before .pre) (c .before .before .before .before .before .args .first)
+attempt-requires c κs =
+    let a = c .before .before .before .before .before .args in
+    desk (record { list = a .list .now; books = a .all .now; queues = a .queues .now }) (c .before .before .before .before .before .pre) (a .first)
 
 register-requires : tie.Need-register-requires
-register-requires c κs = desk (record { list = c .before .before .before .before .before .args .list .now; books = c .before .before .before .before .before .args .all .now; queues = c .before .before .before .before .before .args .queues .now }) (c .before .before .before .before .before .pre) (c .before .before .before .before .before .args .first)
+register-requires c κs =
+    let a = c .before .before .before .before .before .args in
+    desk (record { list = a .list .now; books = a .all .now; queues = a .queues .now }) (c .before .before .before .before .before .pre) (a .first)
 
 send-requires : tie.Need-send-requires
-send-requires c κs = desk (record { list = c .before .before .before .before .before .args .list .now; books = c .before .before .before .before .before .args .all .now; queues = c .before .before .before .before .before .args .queues .now }) (c .before .before .before .before .before .pre) (c .before .before .before .before .before .args .first)
+send-requires c κs =
+    let a = c .before .before .before .before .before .args in
+    desk (record { list = a .list .now; books = a .all .now; queues = a .queues .now }) (c .before .before .before .before .before .pre) (a .first)
 
 hand-requires : tie.Need-hand-requires
-hand-requires c κs = desk (record { list = c .before .before .before .before .before .args .list .now; books = c .before .before .before .before .before .args .all .now; queues = c .before .before .before .before .before .args .queues .now }) (c .before .before .before .before .before .pre) (c .before .before .before .before .before .args .first)
+hand-requires c κs =
+    let a = c .before .before .before .before .before .args in
+    desk (record { list = a .list .now; books = a .all .now; queues = a .queues .now }) (c .before .before .before .before .before .pre) (a .first)
 
 tell-requires : tie.Need-tell-requires
-tell-requires c κs = desk (record { list = c .before .before .before .before .before .args .list .now; books = c .before .before .before .before .before .args .all .now; queues = c .before .before .before .before .before .args .queues .now }) (c .before .before .before .before .before .pre) (c .before .before .before .before .before .args .first)
+tell-requires c κs =
+    let a = c .before .before .before .before .before .args in
+    desk (record { list = a .list .now; books = a .all .now; queues = a .queues .now }) (c .before .before .before .before .before .pre) (a .first)
 
 safe-requires : tie.Need-safe-requires
-safe-requires c κs = desk (record { list = c .before .before .before .before .before .args .list .now; books = c .before .before .before .before .before .args .all .now; queues = c .before .before .before .before .before .args .queues .now }) (c .before .before .before .before .before .pre) (c .before .before .before .before .before .args .first)
+safe-requires c κs =
+    let a = c .before .before .before .before .before .args in
+    desk (record { list = a .list .now; books = a .all .now; queues = a .queues .now }) (c .before .before .before .before .before .pre) (a .first)
 
 collect-requires : tie.Need-collect-requires
-collect-requires c κs = desk (record { list = c .before .before .before .before .before .args .list .now; books = c .before .before .before .before .before .args .all .now; queues = c .before .before .before .before .before .args .queues .now }) (c .before .before .before .before .before .pre) (c .before .before .before .before .before .args .first)
+collect-requires c κs =
+    let a = c .before .before .before .before .before .args in
+    desk (record { list = a .list .now; books = a .all .now; queues = a .queues .now }) (c .before .before .before .before .before .pre) (a .first)
 
 refuse-requires : tie.Need-refuse-requires
 refuse-requires c κs = search needs
@@ -66,7 +80,10 @@ same-length-3 : tie.Need-same-length-3
 same-length-3 c = search needs
 
 returns : tie.Need-returns
-returns c = rw (c .before .before .before .before .before .before .before .before .before .match .keys1) (create-went (record { list = c .before .before .before .before .before .before .before .before .before .before .before .before .before .args .list .now; books = c .before .before .before .before .before .before .before .before .before .before .before .before .before .args .all .now; queues = c .before .before .before .before .before .before .before .before .before .before .before .before .before .args .queues .now }) (c .before .before .before .before .before .before .before .before .before .before .before .before .before .pre) (c .before .before .before .before .before .before .before .before .before .before .before .before .before .args .first) (c .before .before .before .before .before .before .before .before .before .before .before .before .before .args .second) _ _ _ (c .before .before .before .before .before .create .ensures) _ (c .plain .ensures))
+returns c =
+    let a = c .before .before .before .before .before .before .before .before .before .before .before .before .before .args in
+    let early = c .before .before .before .before .before in
+    rw (early .before .before .before .before .match .keys1) (create-went (record { list = a .list .now; books = a .all .now; queues = a .queues .now }) (early .before .before .before .before .before .before .before .before .pre) (a .first) (a .second) _ _ _ (early .create .ensures) _ (c .plain .ensures))
 
 same-length-4 : tie.Need-same-length-4
 same-length-4 c = search needs
@@ -78,7 +95,10 @@ same-length-6 : tie.Need-same-length-6
 same-length-6 c = search needs
 
 returns-2 : tie.Need-returns-2
-returns-2 c = rw (c .before .before .before .before .before .before .match .keys2) (join-went (record { list = c .before .before .before .before .before .before .before .before .before .before .args .list .now; books = c .before .before .before .before .before .before .before .before .before .before .args .all .now; queues = c .before .before .before .before .before .before .before .before .before .before .args .queues .now }) (c .before .before .before .before .before .before .before .before .before .before .pre) (c .before .before .before .before .before .before .before .before .before .before .args .first) (c .before .before .before .before .before .before .before .before .before .before .args .second) _ _ (c .before .before .join .ensures))
+returns-2 c =
+    let a = c .before .before .before .before .before .before .before .before .before .before .args in
+    let early = c .before .before .before .before .before .before in
+    rw (early .match .keys2) (join-went (record { list = a .list .now; books = a .all .now; queues = a .queues .now }) (early .before .before .before .before .pre) (a .first) (a .second) _ _ (c .before .before .join .ensures))
 
 same-length-7 : tie.Need-same-length-7
 same-length-7 c = search needs
@@ -90,7 +110,10 @@ same-length-9 : tie.Need-same-length-9
 same-length-9 c = search needs
 
 returns-3 : tie.Need-returns-3
-returns-3 c = rw (c .before .before .before .before .before .before .before .before .before .match .keys3) (pass-went (record { list = c .before .before .before .before .before .before .before .before .before .before .before .before .before .args .list .now; books = c .before .before .before .before .before .before .before .before .before .before .before .before .before .args .all .now; queues = c .before .before .before .before .before .before .before .before .before .before .before .before .before .args .queues .now }) (c .before .before .before .before .before .before .before .before .before .before .before .before .before .pre) (c .before .before .before .before .before .before .before .before .before .before .before .before .before .args .first) (c .before .before .before .before .before .before .before .before .before .before .before .before .before .args .second) _ _ _ (c .before .before .before .before .before .pass .ensures) _ (c .plain2 .ensures))
+returns-3 c =
+    let a = c .before .before .before .before .before .before .before .before .before .before .before .before .before .args in
+    let early = c .before .before .before .before .before in
+    rw (early .before .before .before .before .match .keys3) (pass-went (record { list = a .list .now; books = a .all .now; queues = a .queues .now }) (early .before .before .before .before .before .before .before .before .pre) (a .first) (a .second) _ _ _ (early .pass .ensures) _ (c .plain2 .ensures))
 
 same-length-10 : tie.Need-same-length-10
 same-length-10 c = search needs
@@ -102,7 +125,10 @@ same-length-12 : tie.Need-same-length-12
 same-length-12 c = search needs
 
 returns-4 : tie.Need-returns-4
-returns-4 c = rw (c .before .before .before .before .before .before .before .match .keys4) (order-went (record { list = c .before .before .before .before .before .before .before .before .before .before .before .args .list .now; books = c .before .before .before .before .before .before .before .before .before .before .before .args .all .now; queues = c .before .before .before .before .before .before .before .before .before .before .before .args .queues .now }) (c .before .before .before .before .before .before .before .before .before .before .before .pre) (c .before .before .before .before .before .before .before .before .before .before .before .args .first) (c .before .before .before .before .before .before .before .before .before .before .before .args .second) _ _ (c .before .before .before .order .ensures) _ (c .plain3 .ensures))
+returns-4 c =
+    let a = c .before .before .before .before .before .before .before .before .before .before .before .args in
+    let early = c .before .before .before .before .before .before .before in
+    rw (early .match .keys4) (order-went (record { list = a .list .now; books = a .all .now; queues = a .queues .now }) (early .before .before .before .before .pre) (a .first) (a .second) _ _ (c .before .before .before .order .ensures) _ (c .plain3 .ensures))
 
 same-length-13 : tie.Need-same-length-13
 same-length-13 c = search needs
@@ -114,7 +140,10 @@ same-length-15 : tie.Need-same-length-15
 same-length-15 c = search needs
 
 returns-5 : tie.Need-returns-5
-returns-5 c = rw (c .before .before .before .before .before .before .match .keys5) (deliver-went (record { list = c .before .before .before .before .before .before .before .before .before .before .args .list .now; books = c .before .before .before .before .before .before .before .before .before .before .args .all .now; queues = c .before .before .before .before .before .before .before .before .before .before .args .queues .now }) (c .before .before .before .before .before .before .before .before .before .before .pre) (c .before .before .before .before .before .before .before .before .before .before .args .first) (c .before .before .before .before .before .before .before .before .before .before .args .second) _ _ (c .before .before .deliver .ensures))
+returns-5 c =
+    let a = c .before .before .before .before .before .before .before .before .before .before .args in
+    let early = c .before .before .before .before .before .before in
+    rw (early .match .keys5) (deliver-went (record { list = a .list .now; books = a .all .now; queues = a .queues .now }) (early .before .before .before .before .pre) (a .first) (a .second) _ _ (c .before .before .deliver .ensures))
 
 same-length-16 : tie.Need-same-length-16
 same-length-16 c = search needs
@@ -126,40 +155,60 @@ same-length-17 : tie.Need-same-length-17
 same-length-17 c = search needs
 
 returns-7 : tie.Need-returns-7
-returns-7 c = rw (c .before .before .before .before .match .keys7) (register-went (record { list = c .before .before .before .before .before .before .before .before .args .list .now; books = c .before .before .before .before .before .before .before .before .args .all .now; queues = c .before .before .before .before .before .before .before .before .args .queues .now }) (c .before .before .before .before .before .before .before .before .pre) (c .before .before .before .before .before .before .before .before .args .first) (c .before .before .before .before .before .before .before .before .args .second) _ _ (c .before .before .register .ensures))
+returns-7 c =
+    let a = c .before .before .before .before .before .before .before .before .args in
+    let early = c .before .before .before .before in
+    rw (early .match .keys7) (register-went (record { list = a .list .now; books = a .all .now; queues = a .queues .now }) (early .before .before .before .before .pre) (a .first) (a .second) _ _ (c .before .before .register .ensures))
 
 same-length-18 : tie.Need-same-length-18
 same-length-18 c = search needs
 
 returns-8 : tie.Need-returns-8
-returns-8 c = rw (c .before .before .before .before .match .keys8) (send-went (record { list = c .before .before .before .before .before .before .before .before .args .list .now; books = c .before .before .before .before .before .before .before .before .args .all .now; queues = c .before .before .before .before .before .before .before .before .args .queues .now }) (c .before .before .before .before .before .before .before .before .pre) (c .before .before .before .before .before .before .before .before .args .first) (c .before .before .before .before .before .before .before .before .args .second) _ _ (c .before .before .send .ensures))
+returns-8 c =
+    let a = c .before .before .before .before .before .before .before .before .args in
+    let early = c .before .before .before .before in
+    rw (early .match .keys8) (send-went (record { list = a .list .now; books = a .all .now; queues = a .queues .now }) (early .before .before .before .before .pre) (a .first) (a .second) _ _ (c .before .before .send .ensures))
 
 same-length-19 : tie.Need-same-length-19
 same-length-19 c = search needs
 
 returns-9 : tie.Need-returns-9
-returns-9 c = rw (c .before .before .before .before .match .keys9) (hand-went (record { list = c .before .before .before .before .before .before .before .before .args .list .now; books = c .before .before .before .before .before .before .before .before .args .all .now; queues = c .before .before .before .before .before .before .before .before .args .queues .now }) (c .before .before .before .before .before .before .before .before .pre) (c .before .before .before .before .before .before .before .before .args .first) (c .before .before .before .before .before .before .before .before .args .second) _ _ (c .before .before .hand .ensures))
+returns-9 c =
+    let a = c .before .before .before .before .before .before .before .before .args in
+    let early = c .before .before .before .before in
+    rw (early .match .keys9) (hand-went (record { list = a .list .now; books = a .all .now; queues = a .queues .now }) (early .before .before .before .before .pre) (a .first) (a .second) _ _ (c .before .before .hand .ensures))
 
 same-length-20 : tie.Need-same-length-20
 same-length-20 c = search needs
 
 returns-10 : tie.Need-returns-10
-returns-10 c = rw (c .before .before .before .before .match .keys10) (tell-went (record { list = c .before .before .before .before .before .before .before .before .args .list .now; books = c .before .before .before .before .before .before .before .before .args .all .now; queues = c .before .before .before .before .before .before .before .before .args .queues .now }) (c .before .before .before .before .before .before .before .before .pre) (c .before .before .before .before .before .before .before .before .args .first) (c .before .before .before .before .before .before .before .before .args .second) _ _ (c .before .before .tell .ensures))
+returns-10 c =
+    let a = c .before .before .before .before .before .before .before .before .args in
+    let early = c .before .before .before .before in
+    rw (early .match .keys10) (tell-went (record { list = a .list .now; books = a .all .now; queues = a .queues .now }) (early .before .before .before .before .pre) (a .first) (a .second) _ _ (c .before .before .tell .ensures))
 
 same-length-21 : tie.Need-same-length-21
 same-length-21 c = search needs
 
 returns-11 : tie.Need-returns-11
-returns-11 c = rw (c .before .before .before .before .match .keys11) (safe-went (record { list = c .before .before .before .before .before .before .before .before .args .list .now; books = c .before .before .before .before .before .before .before .before .args .all .now; queues = c .before .before .before .before .before .before .before .before .args .queues .now }) (c .before .before .before .before .before .before .before .before .pre) (c .before .before .before .before .before .before .before .before .args .first) (c .before .before .before .before .before .before .before .before .args .second) _ _ (c .before .before .safe .ensures))
+returns-11 c =
+    let a = c .before .before .before .before .before .before .before .before .args in
+    let early = c .before .before .before .before in
+    rw (early .match .keys11) (safe-went (record { list = a .list .now; books = a .all .now; queues = a .queues .now }) (early .before .before .before .before .pre) (a .first) (a .second) _ _ (c .before .before .safe .ensures))
 
 same-length-22 : tie.Need-same-length-22
 same-length-22 c = search needs
 
 returns-12 : tie.Need-returns-12
-returns-12 c = rw (c .before .before .before .before .match .keys12) (collect-went (record { list = c .before .before .before .before .before .before .before .before .args .list .now; books = c .before .before .before .before .before .before .before .before .args .all .now; queues = c .before .before .before .before .before .before .before .before .args .queues .now }) (c .before .before .before .before .before .before .before .before .pre) (c .before .before .before .before .before .before .before .before .args .first) (c .before .before .before .before .before .before .before .before .args .second) _ _ (c .before .before .collect .ensures))
+returns-12 c =
+    let a = c .before .before .before .before .before .before .before .before .args in
+    let early = c .before .before .before .before in
+    rw (early .match .keys12) (collect-went (record { list = a .list .now; books = a .all .now; queues = a .queues .now }) (early .before .before .before .before .pre) (a .first) (a .second) _ _ (c .before .before .collect .ensures))
 
 returns-13 : tie.Need-returns-13
-returns-13 c = unknown-went (record { list = c .before .before .before .before .before .args .list .now; books = c .before .before .before .before .before .args .all .now; queues = c .before .before .before .before .before .args .queues .now }) (c .before .before .before .before .before .pre) (asked (c .before .before .before .before .before .args .kind) (c .before .before .before .before .before .args .first) (c .before .before .before .before .before .args .second)) (⊎-elim (λ z. inl (z .keys13)) (λ z. inr (past-twelve (c .before .before .before .before .before .args .kind) (z .rest .1) (z .rest .0 .0 .0 .0 .0 .0 .0 .0 .0 .0 .0 .0 .1) (z .rest .0 .0 .0 .0 .0 .0 .0 .0 .0 .0 .0 .1) (z .rest .0 .0 .0 .0 .0 .0 .0 .0 .0 .0 .1) (z .rest .0 .0 .0 .0 .0 .0 .0 .0 .0 .1) (z .rest .0 .0 .0 .0 .0 .0 .0 .0 .1) (z .rest .0 .0 .0 .0 .0 .0 .0 .1) (z .rest .0 .0 .0 .0 .0 .0 .1) (z .rest .0 .0 .0 .0 .0 .1) (z .rest .0 .0 .0 .0 .1) (z .rest .0 .0 .0 .1) (z .rest .0 .0 .1) (z .rest .0 .1))) (c .before .match .came)) _ (c .refuse .ensures)
+returns-13 c =
+    let a = c .before .before .before .before .before .args in
+    unknown-went (record { list = a .list .now; books = a .all .now; queues = a .queues .now }) (c .before .before .before .before .before .pre) (asked (a .kind) (a .first) (a .second)) (⊎-elim (λ z. inl (z .keys13)) (λ z. inr (past-twelve (a .kind) (z .rest .1) (z .rest .0 .0 .0 .0 .0 .0 .0 .0 .0 .0 .0 .0 .1) (z .rest .0 .0 .0 .0 .0 .0 .0 .0 .0 .0 .0 .1) (z .rest .0 .0 .0 .0 .0 .0 .0 .0 .0 .0 .1) (z .rest .0 .0 .0 .0 .0 .0 .0 .0 .0 .1) (z .rest .0 .0 .0 .0 .0 .0 .0 .0 .1) (z .rest .0 .0 .0 .0 .0 .0 .0 .1) (z .rest .0 .0 .0 .0 .0 .0 .1) (z .rest .0 .0 .0 .0 .0 .1) (z .rest .0 .0 .0 .0 .1) (z .rest .0 .0 .0 .1) (z .rest .0 .0 .1) (z .rest .0 .1))) (c .before .match .came)) _ (c .refuse .ensures)
 
 pub dispatch-spec : {M : Type 1} → statement M
 dispatch-spec =

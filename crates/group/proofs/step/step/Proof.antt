@@ -23,7 +23,9 @@ same-length-3 : tie.Need-same-length-3
 same-length-3 c = search needs
 
 returns : tie.Need-returns
-returns c = unsound-went (record { list = c .before .before .before .before .before .before .before .before .before .args .list .now; books = c .before .before .before .before .before .before .before .before .before .args .all .now; queues = c .before .before .before .before .before .before .before .before .before .args .queues .now }) (sym (c .before .before .sound .ensures) ∙ not-true _ (c .before .if1 .taken)) (asked (c .before .before .before .before .before .before .before .before .before .args .kind) (c .before .before .before .before .before .before .before .before .before .args .first) (c .before .before .before .before .before .before .before .before .before .args .second)) _ (c .refuse .ensures)
+returns c =
+    let a = c .before .before .before .before .before .before .before .before .before .args in
+    unsound-went (record { list = a .list .now; books = a .all .now; queues = a .queues .now }) (sym (c .before .before .sound .ensures) ∙ not-true _ (c .before .if1 .taken)) (asked (a .kind) (a .first) (a .second)) _ (c .refuse .ensures)
 
 dispatch-requires : tie.Need-dispatch-requires
 dispatch-requires c κs = sym (c .before .before .before .before .sound .ensures) ∙ not-false _ (c .before .before .before .if1 .left)

@@ -31,10 +31,14 @@ all-listed-requires : tie.Need-all-listed-requires
 all-listed-requires c κs = let t = info-count (c .before .before .before .before .before .args .b .now) (c .before .before .before .before .before .args .at) 0 (c .before .before .before .before .before .pre .2) (c .before .if1 .taken) in (c .before .before .before .before .before .pre .0, omega (arith, t .1, c .before .before .before .before .before .pre .1))
 
 returns : tie.Need-returns
-returns c = c .all-listed .ensures ∙ slot-info (c .before .before .before .before .before .before .args .b .now) (c .before .before .before .before .before .before .args .at) (c .before .before .before .before .before .before .pre .2) (viewsIn (c .before .before .before .before .before .before .args .list .now) 0 (c .before .before .before .before .before .before .args .made)) (c .before .before .if1 .taken)
+returns c =
+    let a = c .before .before .before .before .before .before .args in
+    c .all-listed .ensures ∙ slot-info (a .b .now) (a .at) (c .before .before .before .before .before .before .pre .2) (viewsIn (a .list .now) 0 (a .made)) (c .before .before .if1 .taken)
 
 returns-2 : tie.Need-returns-2
-returns-2 c = sym (slot-other (c .before .before .before .before .args .b .now) (c .before .before .before .before .args .at) (c .before .before .before .before .pre .2) (viewsIn (c .before .before .before .before .args .list .now) 0 (c .before .before .before .before .args .made)) (c .if1 .left))
+returns-2 c =
+    let a = c .before .before .before .before .args in
+    sym (slot-other (a .b .now) (a .at) (c .before .before .before .before .pre .2) (viewsIn (a .list .now) 0 (a .made)) (c .if1 .left))
 
 pub info-listed-spec : {M : Type 1} → statement M
 info-listed-spec =

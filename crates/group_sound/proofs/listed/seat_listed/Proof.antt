@@ -20,7 +20,9 @@ view-listed-requires : tie.Need-view-listed-requires
 view-listed-requires c κs = search needs
 
 returns : tie.Need-returns
-returns c = rw (eq-eqb _ _ (c .before .before .if1 .taken)) (c .view-listed .ensures ∙ ap (listed (viewsIn (c .before .before .before .before .before .before .args .list .now) 0 (c .before .before .before .before .before .before .args .made))) (c .before .load-view .ensures))
+returns c =
+    let a = c .before .before .before .before .before .before .args in
+    rw (eq-eqb _ _ (c .before .before .if1 .taken)) (c .view-listed .ensures ∙ ap (listed (viewsIn (a .list .now) 0 (a .made))) (c .before .load-view .ensures))
 
 returns-2 : tie.Need-returns-2
 returns-2 c = rw (ne-eqb _ _ (c .if1 .left))

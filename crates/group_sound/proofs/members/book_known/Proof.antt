@@ -30,14 +30,19 @@ load-seat-requires c κs = let l = layout-says (c .before .before .before .befor
 
 ordered-requires : tie.Need-ordered-requires
 unfolding recordIn
-ordered-requires c κs = (c .before .before .before .before .before .before .pre .0, c .before .before .before .before .before .before .pre .2, ap (λ (s : Seat). listedIf (viewsIn (c .before .before .before .before .before .before .args .list .now) 0 (c .before .before .before .before .before .before .args .made)) (seated s)) (c .load-seat .ensures) ∙ record-carrier (viewsIn (c .before .before .before .before .before .before .args .list .now) 0 (c .before .before .before .before .before .before .args .made)) (recordIn (c .before .before .before .before .before .before .args .b .now)) (sym (c .before .before .record-listed .ensures) ∙ not-false _ (c .before .if1 .left)))
+ordered-requires c κs =
+    let a = c .before .before .before .before .before .before .args in
+    let early = c .before .before .before .before .before .before in
+    (early .pre .0, early .pre .2, ap (λ (s : Seat). listedIf (viewsIn (a .list .now) 0 (a .made)) (seated s)) (c .load-seat .ensures) ∙ record-carrier (viewsIn (a .list .now) 0 (a .made)) (recordIn (a .b .now)) (sym (c .before .before .record-listed .ensures) ∙ not-false _ (c .before .if1 .left)))
 
 shared-slice-read-if2 : tie.Need-shared-slice-read-if2
 shared-slice-read-if2 c = let l = layout-says (c .before .before .before .before .before .before .before .before .args .b .now) (c .before .before .before .before .before .before .before .before .pre .1) in omega (arith, l .size)
 
 returns-2 : tie.Need-returns-2
 unfolding bookKnown recordIn
-returns-2 c = sym (stopped _ 1 (ap (λ (k : ℕ). leb (getD (c .before .before .before .before .before .before .before .before .before .args .b .now) takenAt 0) k) (sym (c .before .before .ordered .ensures ∙ ap (λ (s : Seat). orderedIn (viewsIn (c .before .before .before .before .before .before .before .before .before .args .list .now) 0 (c .before .before .before .before .before .before .before .before .before .args .made)) (c .before .before .before .before .before .before .before .before .before .args .queues .now) (seated s)) (c .before .before .before .load-seat .ensures))) ∙ lt-leb _ _ (c .if2 .taken)))
+returns-2 c =
+    let a = c .before .before .before .before .before .before .before .before .before .args in
+    sym (stopped _ 1 (ap (λ (k : ℕ). leb (getD (a .b .now) takenAt 0) k) (sym (c .before .before .ordered .ensures ∙ ap (λ (s : Seat). orderedIn (viewsIn (a .list .now) 0 (a .made)) (a .queues .now) (seated s)) (c .before .before .before .load-seat .ensures))) ∙ lt-leb _ _ (c .if2 .taken)))
 
 add-infos-listed : tie.Need-add-infos-listed
 add-infos-listed c = search needs
@@ -53,7 +58,10 @@ infos-listed-requires c κs = let l = layout-says (c .before .before .before .be
 
 returns-3 : tie.Need-returns-3
 unfolding bookKnown recordIn
-returns-3 c = c .infos-listed .ensures ∙ sym (three _ _ _ ∙ rw (sym (c .before .before .before .before .before .before .before .record-listed .ensures) ∙ not-false _ (c .before .before .before .before .before .before .if1 .left), ap (λ (k : ℕ). leb (getD (c .before .before .before .before .before .before .before .before .before .before .before .args .b .now) takenAt 0) k) (sym (c .before .before .before .before .ordered .ensures ∙ ap (λ (s : Seat). orderedIn (viewsIn (c .before .before .before .before .before .before .before .before .before .before .before .args .list .now) 0 (c .before .before .before .before .before .before .before .before .before .before .before .args .made)) (c .before .before .before .before .before .before .before .before .before .before .before .args .queues .now) (seated s)) (c .before .before .before .before .before .load-seat .ensures))) ∙ le-leb _ _ (c .before .before .if2 .left)))
+returns-3 c =
+    let a = c .before .before .before .before .before .before .before .before .before .before .before .args in
+    let early = c .before .before .before .before in
+    c .infos-listed .ensures ∙ sym (three _ _ _ ∙ rw (sym (early .before .before .before .record-listed .ensures) ∙ not-false _ (early .before .before .if1 .left), ap (λ (k : ℕ). leb (getD (a .b .now) takenAt 0) k) (sym (early .ordered .ensures ∙ ap (λ (s : Seat). orderedIn (viewsIn (a .list .now) 0 (a .made)) (a .queues .now) (seated s)) (early .before .load-seat .ensures))) ∙ le-leb _ _ (c .before .before .if2 .left)))
 
 pub book-known-spec : {M : Type 1} → statement M
 book-known-spec =

@@ -40,7 +40,9 @@ part-member-sound-end : tie.Need-part-member-sound-end Inv-loop μ-loop
 part-member-sound-end c = omega (arith, c .before .before .before .before .before .pre .1, c .before .before .before .before .before .pre .3)
 
 member-sound-requires : tie.Need-member-sound-requires Inv-loop μ-loop
-member-sound-requires c κs = (c .before .before .before .before .before .before .pre .0, c .before .before .before .before .before .before .pre .2)
+member-sound-requires c κs =
+    let early = c .before .before .before .before .before .before in
+    (early .pre .0, early .pre .2)
 
 returns : tie.Need-returns Inv-loop μ-loop
 returns c = sym (every-stop (c .before .before .before .before .before .before .before .before .args .n) (λ (p : ℕ). memberSound (viewsIn (c .before .before .before .before .before .before .before .before .args .list .now) 0 (c .before .before .before .before .before .before .before .before .args .made)) (c .before .before .before .before .before .before .before .before .args .queues .now) (c .before .before .before .before .before .before .before .before .args .n) p (bookBytes (c .before .before .before .before .before .before .before .before .args .books .now) p)) (c .before .before .before .before .loop .p) (omega arith) (part-answer (viewsIn (c .before .before .before .before .before .before .before .before .args .list .now) 0 (c .before .before .before .before .before .before .before .before .args .made)) (c .before .before .before .before .before .before .before .before .args .queues .now) (c .before .before .before .before .before .before .before .before .args .books .now) (c .before .before .before .before .before .before .before .before .args .n) (c .before .before .before .before .loop .p) ∙ sym (c .before .member-sound .ensures) ∙ not-true _ (c .if1 .taken)))
@@ -52,7 +54,10 @@ loop-less : tie.Need-loop-less Inv-loop μ-loop
 loop-less c = omega arith
 
 loop-again : tie.Need-loop-again Inv-loop μ-loop
-loop-again c = below-more (λ (p : ℕ). memberSound (viewsIn (c .before .before .before .before .before .before .before .before .args .list .now) 0 (c .before .before .before .before .before .before .before .before .args .made)) (c .before .before .before .before .before .before .before .before .args .queues .now) (c .before .before .before .before .before .before .before .before .args .n) p (bookBytes (c .before .before .before .before .before .before .before .before .args .books .now) p)) (c .before .before .before .before .loop .p) (c .before .before .before .before .loop .inv) (part-answer (viewsIn (c .before .before .before .before .before .before .before .before .args .list .now) 0 (c .before .before .before .before .before .before .before .before .args .made)) (c .before .before .before .before .before .before .before .before .args .queues .now) (c .before .before .before .before .before .before .before .before .args .books .now) (c .before .before .before .before .before .before .before .before .args .n) (c .before .before .before .before .loop .p) ∙ sym (c .before .member-sound .ensures) ∙ not-false _ (c .if1 .left))
+loop-again c =
+    let a = c .before .before .before .before .before .before .before .before .args in
+    let early = c .before .before .before .before in
+    below-more (λ (p : ℕ). memberSound (viewsIn (a .list .now) 0 (a .made)) (a .queues .now) (a .n) p (bookBytes (a .books .now) p)) (early .loop .p) (early .loop .inv) (part-answer (viewsIn (a .list .now) 0 (a .made)) (a .queues .now) (a .books .now) (a .n) (early .loop .p) ∙ sym (c .before .member-sound .ensures) ∙ not-false _ (c .if1 .left))
 
 returns-2 : tie.Need-returns-2 Inv-loop μ-loop
 returns-2 c = sym (below-end (c .before .before .before .before .before .args .n) (λ (p : ℕ). memberSound (viewsIn (c .before .before .before .before .before .args .list .now) 0 (c .before .before .before .before .before .args .made)) (c .before .before .before .before .before .args .queues .now) (c .before .before .before .before .before .args .n) p (bookBytes (c .before .before .before .before .before .args .books .now) p)) (c .before .loop .p) (omega arith) (c .before .loop .inv))

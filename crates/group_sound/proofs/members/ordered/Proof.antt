@@ -27,7 +27,9 @@ shared-slice-read-result : tie.Need-shared-slice-read-result
 shared-slice-read-result c = omega (arith, ordered-place (viewsIn (c .before .before .before .before .before .before .args .list .now) 0 (c .before .before .before .before .before .before .args .made)) (c .before .before .before .before .before .before .args .seat) (c .before .before .before .if1 .taken) (c .before .before .before .before .before .before .pre .2), length-viewsIn (c .before .before .before .before .before .before .args .list .now) 0 (c .before .before .before .before .before .before .args .made), c .before .place .ensures, c .before .before .before .before .before .before .pre .1)
 
 returns : tie.Need-returns
-returns c = rw (c .before .place .ensures) (ordered-there (viewsIn (c .before .before .before .before .before .before .args .list .now) 0 (c .before .before .before .before .before .before .args .made)) (c .before .before .before .before .before .before .args .queues .now) (c .before .before .before .before .before .before .args .seat) (c .before .before .before .if1 .taken))
+returns c =
+    let a = c .before .before .before .before .before .before .args in
+    rw (c .before .place .ensures) (ordered-there (viewsIn (a .list .now) 0 (a .made)) (a .queues .now) (a .seat) (c .before .before .before .if1 .taken))
 
 returns-2 : tie.Need-returns-2
 unfolding orderedIn

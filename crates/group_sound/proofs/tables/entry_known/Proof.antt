@@ -16,7 +16,9 @@ shared-slice-read-result : tie.Need-shared-slice-read-result
 shared-slice-read-result c = search needs
 
 returns : tie.Need-returns
-returns c = sym (client-known (viewsIn (c .before .before .before .before .before .args .list .now) 0 (c .before .before .before .before .before .args .made)) (c .before .before .before .before .before .args .n) (c .before .before .before .before .before .args .q .now) (c .before .before .before .before .before .args .at) (c .before .if1 .taken))
+returns c =
+    let a = c .before .before .before .before .before .args in
+    sym (client-known (viewsIn (a .list .now) 0 (a .made)) (a .n) (a .q .now) (a .at) (c .before .if1 .taken))
 
 slot-known-requires : tie.Need-slot-known-requires
 slot-known-requires c κs = search needs

@@ -32,7 +32,9 @@ entries-known-requires c κs = search needs
 
 returns-2 : tie.Need-returns-2
 unfolding queueSound
-returns-2 c = c .entries-known .ensures ∙ known-are (viewsIn (c .before .before .before .before .before .before .args .list .now) 0 (c .before .before .before .before .before .before .args .made)) (c .before .before .before .before .before .before .args .n) (c .before .before .before .before .before .before .args .q .now) (c .before .before .before .before .before .before .args .at + 1) (getD (c .before .before .before .before .before .before .args .q .now) (c .before .before .before .before .before .before .args .at) 0) ∙ sym (four _ _ _ _ ∙ rw (le-leb _ _ (c .before .before .if1 .left)))
+returns-2 c =
+    let a = c .before .before .before .before .before .before .args in
+    c .entries-known .ensures ∙ known-are (viewsIn (a .list .now) 0 (a .made)) (a .n) (a .q .now) (a .at + 1) (getD (a .q .now) (a .at) 0) ∙ sym (four _ _ _ _ ∙ rw (le-leb _ _ (c .before .before .if1 .left)))
 
 pub queue-sound-spec : {M : Type 1} → statement M
 queue-sound-spec =

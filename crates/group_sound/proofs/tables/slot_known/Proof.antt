@@ -22,7 +22,9 @@ unfolding entryKnown
 returns-2 c = sym (stopped _ 1 (sym (c .before .entry-sound .ensures) ∙ not-true _ (c .if2 .taken)))
 
 info-listed-requires : tie.Need-info-listed-requires
-info-listed-requires c κs = (c .before .before .before .before .before .before .pre .0, c .before .before .before .before .before .before .pre .1, sym (c .before .before .before .slot-fits .ensures) ∙ not-false _ (c .before .before .if1 .left))
+info-listed-requires c κs =
+    let early = c .before .before .before .before .before .before in
+    (early .pre .0, early .pre .1, sym (c .before .before .before .slot-fits .ensures) ∙ not-false _ (c .before .before .if1 .left))
 
 returns-3 : tie.Need-returns-3
 unfolding entryKnown

@@ -32,7 +32,9 @@ loop-less : tie.Need-loop-less Inv-loop μ-loop
 loop-less c = omega arith
 
 loop-again : tie.Need-loop-again Inv-loop μ-loop
-loop-again c = below-more (tableSound (viewsIn (c .before .before .before .before .before .before .args .list .now) 0 (c .before .before .before .before .before .before .args .made)) (c .before .before .before .before .before .before .args .n) (c .before .before .before .before .before .before .args .q .now)) (c .before .before .before .loop .i) (c .before .before .before .loop .inv) (sym (c .before .table-sound .ensures) ∙ not-false _ (c .if1 .left))
+loop-again c =
+    let a = c .before .before .before .before .before .before .args in
+    below-more (tableSound (viewsIn (a .list .now) 0 (a .made)) (a .n) (a .q .now)) (c .before .before .before .loop .i) (c .before .before .before .loop .inv) (sym (c .before .table-sound .ensures) ∙ not-false _ (c .if1 .left))
 
 returns-2 : tie.Need-returns-2 Inv-loop μ-loop
 returns-2 c = sym (below-end (c .before .before .before .before .args .made) (tableSound (viewsIn (c .before .before .before .before .args .list .now) 0 (c .before .before .before .before .args .made)) (c .before .before .before .before .args .n) (c .before .before .before .before .args .q .now)) (c .before .loop .i) (omega arith) (c .before .loop .inv))

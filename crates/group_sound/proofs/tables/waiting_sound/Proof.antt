@@ -53,7 +53,9 @@ loop-less : tie.Need-loop-less Inv-loop μ-loop
 loop-less c = omega arith
 
 loop-again : tie.Need-loop-again Inv-loop μ-loop
-loop-again c = below-more (λ (p : ℕ). queueSound (viewsIn (c .before .before .before .before .before .before .args .list .now) 0 (c .before .before .before .before .before .before .args .made)) (c .before .before .before .before .before .before .args .n) (c .before .before .before .before .before .before .args .q .now) maxWaiting (waitingAt (c .before .before .before .before .before .before .args .i) p)) (c .before .before .before .loop .p) (c .before .before .before .loop .inv) (sym (c .before .queue-sound .ensures) ∙ not-false _ (c .if1 .left))
+loop-again c =
+    let a = c .before .before .before .before .before .before .args in
+    below-more (λ (p : ℕ). queueSound (viewsIn (a .list .now) 0 (a .made)) (a .n) (a .q .now) maxWaiting (waitingAt (a .i) p)) (c .before .before .before .loop .p) (c .before .before .before .loop .inv) (sym (c .before .queue-sound .ensures) ∙ not-false _ (c .if1 .left))
 
 returns-2 : tie.Need-returns-2 Inv-loop μ-loop
 unfolding waitingSound

@@ -17,7 +17,9 @@ refuse-requires : tie.Need-refuse-requires
 refuse-requires c κs = search needs
 
 returns : tie.Need-returns
-returns c = desk-refused (c .before .before .before .before .args .all .now) (c .before .before .before .before .args .p) _ _ _ (c .before .if1 .taken) (c .refuse .ensures)
+returns c =
+    let a = c .before .before .before .before .args in
+    desk-refused (a .all .now) (a .p) _ _ _ (c .before .if1 .taken) (c .refuse .ensures)
 
 mul-a : tie.Need-mul-a
 mul-a c = search needs

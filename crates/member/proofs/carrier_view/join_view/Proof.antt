@@ -25,7 +25,10 @@ same-length : tie.Need-same-length
 same-length c = search needs
 
 returns-2 : tie.Need-returns-2
-returns-2 c = join-fits (c .before .before .before .before .before .before .before .before .args .b .now) (c .before .before .before .before .before .before .before .before .args .v) _ (c .before .before .before .before .before .set-fits .ensures) (c .before .before .before .before .if1 .left) _ _ (c .before .before .join .ensures)
+returns-2 c =
+    let a = c .before .before .before .before .before .before .before .before .args in
+    let early = c .before .before .before .before in
+    join-fits (a .b .now) (a .v) _ (early .before .set-fits .ensures) (early .if1 .left) _ _ (c .before .before .join .ensures)
 
 pub join-view-spec : {M : Type 1} → statement M
 join-view-spec =

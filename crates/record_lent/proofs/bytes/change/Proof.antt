@@ -14,13 +14,17 @@ same-length : tie.Need-same-length
 same-length c = search needs
 
 returns : tie.Need-returns
-returns c = unsound-changes (c .before .before .before .before .args .b .now) (c .before .before .before .before .args .kind) (viewOf (c .before .before .before .before .args .id) (c .before .before .before .before .args .set)) _ (c .before .sound .ensures) (c .if1 .taken)
+returns c =
+    let a = c .before .before .before .before .args in
+    unsound-changes (a .b .now) (a .kind) (viewOf (a .id) (a .set)) _ (c .before .sound .ensures) (c .if1 .taken)
 
 load-requires : tie.Need-load-requires
 load-requires c κs = omega (arith, sound-size _ (sound-by (c .before .before .before .before .before .args .b .now) (c .before .before .before .before .before .args .kind) (viewOf (c .before .before .before .before .before .args .id) (c .before .before .before .before .before .args .set)) _ (c .before .before .sound .ensures) (c .before .if1 .left)))
 
 asked-requires : tie.Need-asked-requires
-asked-requires c κs = sound-by (c .before .before .before .before .before .before .before .args .b .now) (c .before .before .before .before .before .before .before .args .kind) (viewOf (c .before .before .before .before .before .before .before .args .id) (c .before .before .before .before .before .before .before .args .set)) _ (c .before .before .before .before .sound .ensures) (c .before .before .before .if1 .left)
+asked-requires c κs =
+    let a = c .before .before .before .before .before .before .before .args in
+    sound-by (a .b .now) (a .kind) (viewOf (a .id) (a .set)) _ (c .before .before .before .before .sound .ensures) (c .before .before .before .if1 .left)
 
 lend-requires : tie.Need-lend-requires
 lend-requires c κs = search needs
@@ -35,7 +39,10 @@ same-length-2 : tie.Need-same-length-2
 same-length-2 c = search needs
 
 returns-2 : tie.Need-returns-2
-returns-2 c = change-done (c .before .before .before .before .before .before .before .before .before .before .before .before .before .before .args .b .now) (c .before .before .before .before .before .before .before .before .before .before .before .before .before .before .args .kind) (viewOf (c .before .before .before .before .before .before .before .before .before .before .before .before .before .before .args .id) (c .before .before .before .before .before .before .before .before .before .before .before .before .before .before .args .set)) (sound-by (c .before .before .before .before .before .before .before .before .before .before .before .before .before .before .args .b .now) (c .before .before .before .before .before .before .before .before .before .before .before .before .before .before .args .kind) (viewOf (c .before .before .before .before .before .before .before .before .before .before .before .before .before .before .args .id) (c .before .before .before .before .before .before .before .before .before .before .before .before .before .before .args .set)) _ (c .before .before .before .before .before .before .before .before .before .before .before .sound .ensures) (c .before .before .before .before .before .before .before .before .before .before .if1 .left)) _ (c .before .before .before .before .before .before .before .before .load .ensures) _ (c .before .before .before .before .before .before .asked .ensures) _ (c .before .before .before .before .before .lend .ensures) _ _ _ (c .before .before .keep .ensures)
+returns-2 c =
+    let a = c .before .before .before .before .before .before .before .before .before .before .before .before .before .before .args in
+    let early = c .before .before .before .before .before in
+    change-done (a .b .now) (a .kind) (viewOf (a .id) (a .set)) (sound-by (a .b .now) (a .kind) (viewOf (a .id) (a .set)) _ (early .before .before .before .before .before .before .sound .ensures) (early .before .before .before .before .before .if1 .left)) _ (early .before .before .before .load .ensures) _ (early .before .asked .ensures) _ (early .lend .ensures) _ _ _ (c .before .before .keep .ensures)
 
 pub change-spec : {M : Type 1} → statement M
 change-spec =

@@ -12,16 +12,22 @@ read-numeral-requires : tie.Need-read-numeral-requires
 read-numeral-requires c κs = search needs
 
 make-requires : tie.Need-make-requires
-make-requires c κs = fits-one (c .before .before .before .before .args .form) (c .before .before .before .before .args .rest .now) _ (c .before .before .before .before .pre) (c .read-numeral .ensures)
+make-requires c κs =
+    let a = c .before .before .before .before .args in
+    fits-one (a .form) (a .rest .now) _ (c .before .before .before .before .pre) (c .read-numeral .ensures)
 
 returns : tie.Need-returns
-returns c = c .make .ensures ∙ sym (operands-one (c .before .before .before .before .before .args .form) (c .before .before .before .before .before .args .rest .now) _ (c .before .before .if1 .taken) (c .before .read-numeral .ensures))
+returns c =
+    let a = c .before .before .before .before .before .args in
+    c .make .ensures ∙ sym (operands-one (a .form) (a .rest .now) _ (c .before .before .if1 .taken) (c .before .read-numeral .ensures))
 
 find-requires : tie.Need-find-requires
 find-requires c κs = search needs
 
 returns-2 : tie.Need-returns-2
-returns-2 c = sym (operands-short (c .before .before .before .before .before .args .form) (c .before .before .before .before .before .args .rest .now) _ (c .before .before .if1 .left) (c .before .find .ensures) (c .if2 .taken))
+returns-2 c =
+    let a = c .before .before .before .before .before .args in
+    sym (operands-short (a .form) (a .rest .now) _ (c .before .before .if1 .left) (c .before .find .ensures) (c .if2 .taken))
 
 add-from : tie.Need-add-from
 add-from c = omega (arith, find-le 32 (c .before .before .before .before .before .args .rest .now) 0)
@@ -45,10 +51,15 @@ read-numeral-requires-3 : tie.Need-read-numeral-requires-3
 read-numeral-requires-3 c κs = search needs
 
 make-requires-2 : tie.Need-make-requires-2
-make-requires-2 c κs = fits-two (c .before .before .before .before .before .before .before .before .before .args .form) _ _ _ _ (c .before .before .before .before .before .before .before .before .before .pre) (c .before .before .read-numeral2 .ensures) (c .read-numeral3 .ensures)
+make-requires-2 c κs =
+    let early = c .before .before .before .before .before .before .before .before .before in
+    fits-two (early .args .form) _ _ _ _ (early .pre) (c .before .before .read-numeral2 .ensures) (c .read-numeral3 .ensures)
 
 returns-3 : tie.Need-returns-3
-returns-3 c = c .make2 .ensures ∙ sym (operands-two (c .before .before .before .before .before .before .before .before .before .before .args .form) (c .before .before .before .before .before .before .before .before .before .before .args .rest .now) _ _ _ (c .before .before .before .before .before .before .before .if1 .left) (c .before .before .before .before .before .before .find .ensures) (c .before .before .before .before .before .if2 .left) (c .before .before .before .read-numeral2 .ensures) (c .before .read-numeral3 .ensures))
+returns-3 c =
+    let a = c .before .before .before .before .before .before .before .before .before .before .args in
+    let early = c .before .before .before .before .before in
+    c .make2 .ensures ∙ sym (operands-two (a .form) (a .rest .now) _ _ _ (early .before .before .if1 .left) (early .before .find .ensures) (early .if2 .left) (c .before .before .before .read-numeral2 .ensures) (c .before .read-numeral3 .ensures))
 
 pub read-spec : {M : Type 1} → statement M
 read-spec =

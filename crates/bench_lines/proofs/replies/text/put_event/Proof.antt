@@ -31,7 +31,9 @@ same-length : tie.Need-same-length
 same-length c = search needs
 
 returns : tie.Need-returns
-returns c = put-same _ _ (c .before .before .before .before .before .before .before .before .before .before .before .before .before .args .text .now) _ 0 _ (sym (event-attempt (c .before .before .before .before .before .before .before .before .before .before .before .before .before .args .e) (c .before .before .before .before .before .before .before .if1 .taken))) (c .before .before .put-spoken .ensures)
+returns c =
+    let a = c .before .before .before .before .before .before .before .before .before .before .before .before .before .args in
+    put-same _ _ (a .text .now) _ 0 _ (sym (event-attempt (a .e) (c .before .before .before .before .before .before .before .if1 .taken))) (c .before .before .put-spoken .ensures)
 
 slice-aggregate-put-spoken-3 : tie.Need-slice-aggregate-put-spoken-3
 slice-aggregate-put-spoken-3 c = search needs
@@ -46,7 +48,9 @@ same-length-2 : tie.Need-same-length-2
 same-length-2 c = search needs
 
 returns-2 : tie.Need-returns-2
-returns-2 c = put-same _ _ (c .before .before .before .before .before .before .before .before .before .before .before .before .before .before .args .text .now) _ 0 _ (sym (event-register (c .before .before .before .before .before .before .before .before .before .before .before .before .before .before .args .e) (c .before .before .before .before .before .before .if2 .taken))) (c .before .before .put-spoken2 .ensures)
+returns-2 c =
+    let a = c .before .before .before .before .before .before .before .before .before .before .before .before .before .before .args in
+    put-same _ _ (a .text .now) _ 0 _ (sym (event-register (a .e) (c .before .before .before .before .before .before .if2 .taken))) (c .before .before .put-spoken2 .ensures)
 
 slice-aggregate-put-spoken-5 : tie.Need-slice-aggregate-put-spoken-5
 slice-aggregate-put-spoken-5 c = search needs
@@ -61,7 +65,9 @@ same-length-3 : tie.Need-same-length-3
 same-length-3 c = search needs
 
 returns-3 : tie.Need-returns-3
-returns-3 c = put-same _ _ (c .before .before .before .before .before .before .before .before .before .before .before .before .before .before .before .before .args .text .now) _ 0 _ (sym (event-send (c .before .before .before .before .before .before .before .before .before .before .before .before .before .before .before .before .args .e) (c .before .before .before .before .before .before .if3 .taken))) (c .before .before .put-spoken3 .ensures)
+returns-3 c =
+    let a = c .before .before .before .before .before .before .before .before .before .before .before .before .before .before .before .before .args in
+    put-same _ _ (a .text .now) _ 0 _ (sym (event-send (a .e) (c .before .before .before .before .before .before .if3 .taken))) (c .before .before .put-spoken3 .ensures)
 
 slice-aggregate-put-spoken-7 : tie.Need-slice-aggregate-put-spoken-7
 slice-aggregate-put-spoken-7 c = search needs
@@ -76,7 +82,9 @@ same-length-4 : tie.Need-same-length-4
 same-length-4 c = search needs
 
 returns-4 : tie.Need-returns-4
-returns-4 c = put-same _ _ (c .before .before .before .before .before .before .before .before .before .before .before .before .before .before .before .before .before .before .args .text .now) _ 0 _ (sym (event-hand (c .before .before .before .before .before .before .before .before .before .before .before .before .before .before .before .before .before .before .args .e) (c .before .before .before .before .before .before .if4 .taken))) (c .before .before .put-spoken4 .ensures)
+returns-4 c =
+    let a = c .before .before .before .before .before .before .before .before .before .before .before .before .before .before .before .before .before .before .args in
+    put-same _ _ (a .text .now) _ 0 _ (sym (event-hand (a .e) (c .before .before .before .before .before .before .if4 .taken))) (c .before .before .put-spoken4 .ensures)
 
 slice-aggregate-put-spoken-9 : tie.Need-slice-aggregate-put-spoken-9
 slice-aggregate-put-spoken-9 c = search needs
@@ -91,7 +99,9 @@ same-length-5 : tie.Need-same-length-5
 same-length-5 c = search needs
 
 returns-5 : tie.Need-returns-5
-returns-5 c = put-same _ _ (c .before .before .before .before .before .before .before .before .before .before .before .before .before .before .before .before .before .before .before .before .args .text .now) _ 0 _ (sym (event-safe (c .before .before .before .before .before .before .before .before .before .before .before .before .before .before .before .before .before .before .before .before .args .e) (c .before .before .before .before .before .before .if5 .taken))) (c .before .before .put-spoken5 .ensures)
+returns-5 c =
+    let a = c .before .before .before .before .before .before .before .before .before .before .before .before .before .before .before .before .before .before .before .before .args in
+    put-same _ _ (a .text .now) _ 0 _ (sym (event-safe (a .e) (c .before .before .before .before .before .before .if5 .taken))) (c .before .before .put-spoken5 .ensures)
 
 slice-aggregate-put : tie.Need-slice-aggregate-put
 slice-aggregate-put c = search needs
@@ -103,7 +113,10 @@ same-length-6 : tie.Need-same-length-6
 same-length-6 c = search needs
 
 returns-6 : tie.Need-returns-6
-returns-6 c = put-same _ _ (c .before .before .before .before .before .before .before .before .before .before .before .before .before .before .before .before .before .before .before .args .text .now) _ 0 _ (sym (event-none (c .before .before .before .before .before .before .before .before .before .before .before .before .before .before .before .before .before .before .before .args .e) (c .before .before .before .before .before .before .before .before .before .before .before .before .before .if1 .left) (c .before .before .before .before .before .before .before .before .before .before .before .if2 .left) (c .before .before .before .before .before .before .before .before .before .if3 .left) (c .before .before .before .before .before .before .before .if4 .left) (c .before .before .before .before .before .if5 .left))) (c .before .before .put .ensures)
+returns-6 c =
+    let a = c .before .before .before .before .before .before .before .before .before .before .before .before .before .before .before .before .before .before .before .args in
+    let early = c .before .before .before .before .before in
+    put-same _ _ (a .text .now) _ 0 _ (sym (event-none (a .e) (early .before .before .before .before .before .before .before .before .if1 .left) (early .before .before .before .before .before .before .if2 .left) (early .before .before .before .before .if3 .left) (early .before .before .if4 .left) (early .if5 .left))) (c .before .before .put .ensures)
 
 pub put-event-spec : {M : Type 1} → statement M
 put-event-spec =

@@ -15,7 +15,9 @@ same-length : tie.Need-same-length
 same-length c = search needs
 
 returns-2 : tie.Need-returns-2
-returns-2 c = wrote-whole (c .before .before .before .before .before .before .before .args .line .now) (c .before .before .before .before .before .before .before .args .out .now) _ _ (c .before .before .before .before .if1 .left) (c .before .before .put .ensures)
+returns-2 c =
+    let a = c .before .before .before .before .before .before .before .args in
+    wrote-whole (a .line .now) (a .out .now) _ _ (c .before .before .before .before .if1 .left) (c .before .before .put .ensures)
 
 pub put-front-spec : {M : Type 1} → statement M
 put-front-spec = tie.close (tie.spec returns put-requires same-length returns-2)

@@ -33,13 +33,18 @@ same-length : tie.Need-same-length
 same-length c = search needs
 
 returns : tie.Need-returns
-returns c = put-same _ _ (c .before .before .before .before .before .before .before .before .before .before .before .args .text .now) _ 0 _ (reply-refused (c .before .before .before .before .before .before .before .before .before .before .before .args .r) _ (c .before .before .before .before .before .before .number .result) (c .before .before .before .before .before .before .before .before .verdict .given .1) (c .before .before .before .before .before .before .number .ensures)) (c .before .before .put-spoken .ensures)
+returns c =
+    let a = c .before .before .before .before .before .before .before .before .before .before .before .args in
+    let early = c .before .before .before .before .before .before in
+    put-same _ _ (a .text .now) _ 0 _ (reply-refused (a .r) _ (early .number .result) (early .before .before .verdict .given .1) (early .number .ensures)) (c .before .before .put-spoken .ensures)
 
 same-length-2 : tie.Need-same-length-2
 same-length-2 c = search needs
 
 returns-2 : tie.Need-returns-2
-returns-2 c = put-same _ _ (c .before .before .before .before .before .before .before .before .args .text .now) _ 0 _ (reply-accepted (c .before .before .before .before .before .before .before .before .args .r) (c .before .before .before .before .before .enum-told .given .1)) (c .before .before .put-event .ensures)
+returns-2 c =
+    let a = c .before .before .before .before .before .before .before .before .args in
+    put-same _ _ (a .text .now) _ 0 _ (reply-accepted (a .r) (c .before .before .before .before .before .enum-told .given .1)) (c .before .before .put-event .ensures)
 
 pub put-reply-spec : {M : Type 1} → statement M
 put-reply-spec =

@@ -12,7 +12,9 @@ returns : tie.Need-returns
 returns c = answer-unfit (c .before .before .before .args .n) (c .before .before .before .args .v) (c .before .before .before .args .taken) (c .before .before .before .args .q .0) (c .before .before .before .args .f) _ (c .before .all-fit .ensures) (c .if1 .taken)
 
 returns-2 : tie.Need-returns-2
-returns-2 c = answer-other (c .before .before .before .before .before .before .args .n) (c .before .before .before .before .before .before .args .v) (c .before .before .before .before .before .before .args .taken) (c .before .before .before .before .before .before .args .q .0) (c .before .before .before .before .before .before .args .f) _ (c .before .before .before .before .all-fit .ensures) (c .before .before .before .if1 .left) (c .if2 .taken)
+returns-2 c =
+    let a = c .before .before .before .before .before .before .args in
+    answer-other (a .n) (a .v) (a .taken) (a .q .0) (a .f) _ (c .before .before .before .before .all-fit .ensures) (c .before .before .before .if1 .left) (c .if2 .taken)
 
 contains-requires : tie.Need-contains-requires
 contains-requires c κs = search needs

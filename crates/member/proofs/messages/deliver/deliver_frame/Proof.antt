@@ -25,16 +25,24 @@ enum-told : tie.Need-enum-told
 enum-told c = search needs
 
 deliver-requires : tie.Need-deliver-requires
-deliver-requires c κs = (c .before .before .before .before .before .before .before .pre .0, sender-small _ _ _ (c .before .before .before .before .before .before .before .pre .0) (c .before .before .before .before .before .before .before .pre .1) (frame-sender (c .before .before .before .before .before .before .before .args .b .now) (c .before .before .before .before .before .before .before .args .v) (c .before .before .before .before .before .before .before .args .q .0) (c .before .before .before .before .before .before .before .args .f) (c .before .before .before .before .before .before .before .pre .2) _ (c .before .before .before .answer .ensures) (c .before .enum-told .given .1)), frame-room (c .before .before .before .before .before .before .before .args .b .now) (c .before .before .before .before .before .before .before .args .v) (c .before .before .before .before .before .before .before .args .q .0) (c .before .before .before .before .before .before .before .args .f) (c .before .before .before .before .before .before .before .pre .2) _ (c .before .before .before .answer .ensures) (c .before .enum-told .given .1), carrier-mark _ _ (c .before .before .before .before .before .before .before .pre .1))
+deliver-requires c κs =
+    let a = c .before .before .before .before .before .before .before .args in
+    let early = c .before .before .before .before .before .before .before in
+    (early .pre .0, sender-small _ _ _ (early .pre .0) (early .pre .1) (frame-sender (a .b .now) (a .v) (a .q .0) (a .f) (early .pre .2) _ (c .before .before .before .answer .ensures) (c .before .enum-told .given .1)), frame-room (a .b .now) (a .v) (a .q .0) (a .f) (early .pre .2) _ (c .before .before .before .answer .ensures) (c .before .enum-told .given .1), carrier-mark _ _ (early .pre .1))
 
 returns : tie.Need-returns
-returns c = frame-refused _ _ _ _ (c .before .before .before .before .before .before .before .before .pre .2) _ (c .before .before .before .before .answer .ensures) _ (c .before .before .verdict .given .1) _ (c .refuse .ensures)
+returns c =
+    let early = c .before .before .before .before in
+    frame-refused _ _ _ _ (early .before .before .before .before .pre .2) _ (early .answer .ensures) _ (c .before .before .verdict .given .1) _ (c .refuse .ensures)
 
 same-length : tie.Need-same-length
 same-length c = search needs
 
 returns-2 : tie.Need-returns-2
-returns-2 c = frame-taken (c .before .before .before .before .before .before .before .before .before .before .args .b .now) (c .before .before .before .before .before .before .before .before .before .before .args .v) (c .before .before .before .before .before .before .before .before .before .before .args .q .0) (c .before .before .before .before .before .before .before .before .before .before .args .f) (c .before .before .before .before .before .before .before .before .before .before .pre .2) _ (c .before .before .before .before .before .before .answer .ensures) (c .before .before .before .before .enum-told .given .1) _ _ (c .before .before .deliver .ensures)
+returns-2 c =
+    let a = c .before .before .before .before .before .before .before .before .before .before .args in
+    let early = c .before .before .before .before in
+    frame-taken (a .b .now) (a .v) (a .q .0) (a .f) (early .before .before .before .before .before .before .pre .2) _ (early .before .before .answer .ensures) (early .enum-told .given .1) _ _ (c .before .before .deliver .ensures)
 
 pub deliver-frame-spec : {M : Type 1} → statement M
 deliver-frame-spec =

@@ -31,19 +31,25 @@ enum-told : tie.Need-enum-told
 enum-told c = search needs
 
 deliver-frame-requires : tie.Need-deliver-frame-requires
-deliver-frame-requires c κs = (c .before .before .before .before .before .before .before .before .before .before .before .before .pre, read-carrier _ (c .before .before .before .before .before .before .before .before .before .before .before .before .args .bytes .now) 0 _ (c .before .before .before .before .before .before .before .before .load-seat .ensures) (c .before .before .before .before .before .before .if1 .left), read-carries _ _ (c .before .before .before .before .before .read .ensures) (c .before .before .before .enum-told .given .1))
+deliver-frame-requires c κs =
+    let early = c .before .before .before .before .before in
+    (early .before .before .before .before .before .before .before .pre, read-carrier _ (early .before .before .before .before .before .before .before .args .bytes .now) 0 _ (early .before .before .before .load-seat .ensures) (early .before .if1 .left), read-carries _ _ (early .read .ensures) (c .before .before .before .enum-told .given .1))
 
 same-length-2 : tie.Need-same-length-2
 same-length-2 c = search needs
 
 returns-2 : tie.Need-returns-2
-returns-2 c = read-refused _ _ _ _ (c .before .before .before .before .before .before .before .load-seat .ensures) (c .before .before .before .before .before .if1 .left) _ (c .before .before .before .before .read .ensures) _ (c .before .before .verdict .given .1) _ (c .refuse2 .ensures)
+returns-2 c =
+    let early = c .before .before .before .before in
+    read-refused _ _ _ _ (early .before .before .before .load-seat .ensures) (early .before .if1 .left) _ (early .read .ensures) _ (c .before .before .verdict .given .1) _ (c .refuse2 .ensures)
 
 same-length-3 : tie.Need-same-length-3
 same-length-3 c = search needs
 
 returns-3 : tie.Need-returns-3
-returns-3 c = read-done _ _ _ _ (c .before .before .before .before .before .before .before .before .before .before .before .load-seat .ensures) (c .before .before .before .before .before .before .before .before .before .if1 .left) _ (c .before .before .before .before .before .before .before .before .read .ensures) (c .before .before .before .before .before .before .enum-told .given .1) _ _ (c .before .before .deliver-frame .ensures)
+returns-3 c =
+    let early = c .before .before .before .before .before .before in
+    read-done _ _ _ _ (early .before .before .before .before .before .load-seat .ensures) (early .before .before .before .if1 .left) _ (early .before .before .read .ensures) (early .enum-told .given .1) _ _ (c .before .before .deliver-frame .ensures)
 
 pub deliver-read-spec : {M : Type 1} → statement M
 deliver-read-spec =

@@ -34,7 +34,9 @@ same-length-3 c = search needs
 
 returns-2 : tie.Need-returns-2
 unfolding passBytes
-returns-2 c = out-accepted _ _ _ _ _ (c .before .before .before .before .before .before .before .before .write .ensures) (c .before .before .before .before .enum-told .given .1) _ (c .before .before .pop .ensures)
+returns-2 c =
+    let early = c .before .before .before .before in
+    out-accepted _ _ _ _ _ (early .before .before .before .before .write .ensures) (early .enum-told .given .1) _ (c .before .before .pop .ensures)
 
 pub give-out-spec : {M : Type 1} → statement M
 give-out-spec =

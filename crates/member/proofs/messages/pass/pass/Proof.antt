@@ -30,7 +30,9 @@ same-length-3 : tie.Need-same-length-3
 same-length-3 c = search needs
 
 returns-2 : tie.Need-returns-2
-returns-2 c = pass-given _ _ _ (c .before .before .before .before .before .before .before .before .before .admit .ensures) (c .before .before .before .before .before .before .before .enum-told .given .1) _ _ _ (c .before .before .before .before .pass-first .ensures)
+returns-2 c =
+    let early = c .before .before .before .before in
+    pass-given _ _ _ (early .before .before .before .before .before .admit .ensures) (early .before .before .before .enum-told .given .1) _ _ _ (early .pass-first .ensures)
 
 pub pass-spec : {M : Type 1} → statement M
 pass-spec =

@@ -22,7 +22,9 @@ same-length-2 : tie.Need-same-length-2
 same-length-2 c = search needs
 
 returns-2 : tie.Need-returns-2
-returns-2 c = pass-emptied _ (c .before .before .before .before .before .before .before .before .pre) _ (c .before .before .before .before .load-seat .ensures) (c .before .before .if1 .left) _ (c .if2 .taken)
+returns-2 c =
+    let early = c .before .before .before .before in
+    pass-emptied _ (early .before .before .before .before .pre) _ (early .load-seat .ensures) (c .before .before .if1 .left) _ (c .if2 .taken)
 
 add-load-frame : tie.Need-add-load-frame
 add-load-frame c = search needs
