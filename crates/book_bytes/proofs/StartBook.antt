@@ -10,10 +10,10 @@ use lib.ListN.{length, getD, set, replicate, length-set, length-replicate}
 use lib.Pow.{pow-mono}
 use lib.Seq.{getD-set-same, getD-set-other}
 use Rattle.views.specs.Limits.{maxMembers}
-use Rattle.views.specs.Sets.{isEmpty, isBeyond}
+use Rattle.views.specs.Sets.{isEmpty, isBeyond, fits}
 use Rattle.views.proofs.SetLaws.{both-true}
 use Rattle.wire.proofs.TripViews.{ViewFits, AreBytes}
-use Rattle.rules.specs.Group.{fits, firstView, fresh}
+use Rattle.rules.specs.Group.{firstView, fresh}
 use Rattle.slots.proofs.BytesKept.{set-bytes}
 use Rattle.book_bytes.specs.declared.Record.{Record}
 use Rattle.book_bytes.specs.Places.{membersAt, selfAt, carrierAt, clientAt, registeredAt, sideAt, opensAt, outgoingAt, inwardAt, bookSize}
@@ -30,7 +30,7 @@ use Rattle.book_bytes.specs.Starts.{freshRecord, startBytes}
 
 -- a set of at most eight members is a byte
 pub fits-byte : (n S : ℕ) → n ≤ maxMembers → fits n S ≡ true → S < 256
-unfolding fits isBeyond
+unfolding isBeyond
 fits-byte n S few h =
     let t = both-true (not (isEmpty S)) (not (isBeyond S n)) h in
     omega (arith, leb-false (2 ^ n) S (not-true (leb (2 ^ n) S) (t .1)), pow-mono few)

@@ -11,11 +11,10 @@ use lib.Dec.{leb}
 use Rattle.views.specs.declared.View.{View}
 use Rattle.views.specs.declared.refusal.Refusal.{Refusal}
 use Rattle.views.specs.Limits.{maxMembers}
-use Rattle.views.specs.Sets.{both, has, isEmpty, isBeyond}
+use Rattle.views.specs.Sets.{both, has, isEmpty, isBeyond, fits}
 use Rattle.views.proofs.SetLaws.{known, both-true, has-past}
 use Rattle.rules.specs.Data.{Result, refused, accepted, need, withView, after}
 use Rattle.rules.specs.Sound.{within, setFits}
-use Rattle.rules.specs.Group.{fits}
 use Rattle.c_answers.specs.Answers.{narrowed}
 use Rattle.c_answers.proofs.AnswerLaws.{narrowed-large, narrowed-small}
 
@@ -62,12 +61,11 @@ pub within-large : (n : ℕ) → 256 ≤ n → within 1 n maxMembers ≡ false
 within-large n h = rw (lt-leb n maxMembers (omega arith)) (both-false (leb 1 n))
 
 pub fits-none : (n : ℕ) → fits n 0 ≡ false
-unfolding fits
 fits-none n = refl
 
 -- a set that does not fit into a byte is beyond the members
 pub fits-large : (n S : ℕ) → n ≤ maxMembers → 256 ≤ S → fits n S ≡ false
-unfolding fits isBeyond
+unfolding isBeyond
 fits-large n S few h =
     let p : 2 ^ n ≤ 2 ^ 8 = pow-le-pow-right (omega arith) {i = n} {j = 8} few in
     rw (le-leb (2 ^ n) S (omega arith)) (both-false (not (isEmpty S)))

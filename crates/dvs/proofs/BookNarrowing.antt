@@ -9,12 +9,11 @@ use borrow.Author.Tests.{le-ltb}
 use lib.Dec.{ltb}
 use Rattle.views.specs.declared.View.{View}
 use Rattle.views.specs.Limits.{maxMembers}
-use Rattle.views.specs.Sets.{has}
+use Rattle.views.specs.Sets.{has, fits}
 use Rattle.views.specs.Lists.{viewOf}
 use Rattle.views.specs.Refusals.{left}
 use Rattle.rules.specs.Data.{Result}
 use Rattle.rules.specs.Sound.{within, setFits}
-use Rattle.rules.specs.Group.{fits}
 use Rattle.rules.specs.Alone.{setFitsIf, bookSound, alone, startAlone, joinAlone, deliverAlone}
 use Rattle.rules.proofs.TestLaws.{within-says, conditions-say}
 use Rattle.events.specs.Replies.{verdictOf}

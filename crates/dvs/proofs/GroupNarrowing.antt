@@ -9,9 +9,10 @@ use Rattle.views.specs.declared.refusal.Verdict.the-variants.{Refused}
 use Rattle.views.specs.Limits.{maxMembers}
 use Rattle.views.proofs.SetLaws.{known}
 use Rattle.views.specs.Refusals.{left}
+use Rattle.views.specs.Sets.{fits}
 use Rattle.rules.specs.Data.{Step}
 use Rattle.rules.specs.Sound.{within}
-use Rattle.rules.specs.Group.{fits, start}
+use Rattle.rules.specs.Group.{start}
 use Rattle.rules.proofs.TestLaws.{within-says}
 use Rattle.events.specs.declared.Reply.{Reply}
 use Rattle.events.specs.Replies.{noEvent, replied}

@@ -12,11 +12,11 @@ use Rattle.views.specs.declared.refusal.Refusal.the-variants.{MembersOutOfRange
 use Rattle.views.specs.declared.refusal.Verdict.the-variants.{Accepted, Refused}
 use Rattle.views.specs.Limits.{maxMembers, maxViews}
 use Rattle.views.specs.Sizes.{viewSize}
-use Rattle.views.specs.Sets.{both}
+use Rattle.views.specs.Sets.{both, fits}
 use Rattle.views.specs.Refusals.{left}
 use Rattle.rules.specs.Data.{need}
 use Rattle.rules.specs.Sound.{conditions, setFits}
-use Rattle.rules.specs.Group.{fits, start, firstView}
+use Rattle.rules.specs.Group.{start, firstView}
 use Rattle.events.specs.Replies.{verdictOf}
 use Rattle.book_bytes.specs.Places.{bookSize}
 use Rattle.book_bytes.specs.Starts.{startBytes}
@@ -83,21 +83,21 @@ module _ (n S : ℕ) (r : Ranges) where
 
       module _ (few : n ≤ maxMembers) where
         pub begin-unfit : setFits n (firstView S) ≡ false → Refused FirstSetUnfit ≡ verdictOf (startResult n S r)
-        unfolding startResult start need fits
+        unfolding startResult start need
         begin-unfit h = rw (long-same, long, le-leb 1 n some, le-leb n maxMembers few, h)
 
         module _ (fit : setFits n (firstView S) ≡ true) where
           pub begin-empty : roomOf (r .list) < 1 → Refused ListLength ≡ verdictOf (startResult n S r)
-          unfolding startResult start need fits
+          unfolding startResult start need
           begin-empty h = rw (long-same, long, le-leb 1 n some, le-leb n maxMembers few, fit, lt-leb 1 (roomOf (r .list)) h)
 
           module _ (room : 1 ≤ roomOf (r .list)) where
             pub begin-longer : maxViews < roomOf (r .list) → Refused ListLength ≡ verdictOf (startResult n S r)
-            unfolding startResult start need fits
+            unfolding startResult start need
             begin-longer h = rw (long-same, long, le-leb 1 n some, le-leb n maxMembers few, fit, le-leb 1 (roomOf (r .list)) room, lt-leb (roomOf (r .list)) maxViews h)
 
             pub begin-accepted : roomOf (r .list) ≤ maxViews → Accepted ≡ verdictOf (startResult n S r)
-            unfolding startResult start need fits
+            unfolding startResult start need
             begin-accepted h = rw (long-same, long, le-leb 1 n some, le-leb n maxMembers few, fit, le-leb 1 (roomOf (r .list)) room, le-leb (roomOf (r .list)) maxViews h)
 
 -- ---- the books, one after another

@@ -11,13 +11,13 @@ use lib.Pow.{pow-mono}
 use Rattle.views.specs.declared.View.{View}
 use Rattle.views.specs.Limits.{maxMembers}
 use Rattle.views.specs.Sizes.{viewSize}
-use Rattle.views.specs.Sets.{isEmpty, isBeyond}
+use Rattle.views.specs.Sets.{isEmpty, isBeyond, fits as setFits}
 use Rattle.views.specs.Lists.{idOf, viewOf}
 use Rattle.views.proofs.SetLaws.{both-true}
 use Rattle.views.proofs.Members.{In}
 use Rattle.rules.specs.Data.{Group, accepted}
 use Rattle.rules.specs.Member.{all}
-use Rattle.rules.specs.Group.{Next, fits as setFits, creates}
+use Rattle.rules.specs.Group.{Next, creates}
 use Rattle.rules.proofs.TestLaws.{all-at}
 use Rattle.rules.proofs.Holding.{Holds, gives, need-holds}
 use Rattle.book_steps.proofs.Means.{gave}
@@ -39,7 +39,7 @@ abbrev pub created : Ranges → ℕ → ℕ → Group
 created r g S = record { members = membersOf r; room = roomOf (r .list); views = viewsMade r ++ (viewOf g S ∷ []); books = bookOf r; waiting = waitingIn r; order = orderIn r }
 
 set-byte : (n S : ℕ) → n ≤ maxMembers → setFits n S ≡ true → S < 256
-unfolding setFits isBeyond
+unfolding isBeyond
 set-byte n S h e =
     let t = both-true (not (isEmpty S)) (not (leb (2 ^ n) S)) e in
     let m : 2 ^ n ≤ 2 ^ 8 = pow-mono {i = n} {j = 8} h in

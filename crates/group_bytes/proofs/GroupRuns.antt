@@ -9,11 +9,11 @@ use lib.ListN.{length}
 use Rattle.views.specs.declared.refusal.Refusal.the-variants.{RecordsUnsound}
 use Rattle.views.specs.Limits.{maxMembers, maxViews}
 use Rattle.views.specs.Sizes.{viewSize}
-use Rattle.views.specs.Sets.{one}
+use Rattle.views.specs.Sets.{one, fits}
 use Rattle.views.proofs.Members.{top, pop}
 use Rattle.rules.specs.Data.{Group, Step, Event as Outward, item, attempt, register, send, hand, safe, Answer, ok, event, refusal, Result, refused, accepted, need}
 use Rattle.rules.specs.Sound.{within, sound}
-use Rattle.rules.specs.Group.{Next, fits, start, started, settles, stepOf, step}
+use Rattle.rules.specs.Group.{Next, start, started, settles, stepOf, step}
 use Rattle.rules.specs.Runs.{lastOf, answersOf, eventsOf}
 use Rattle.rules.proofs.TestLaws.{conditions-say, within-says}
 use Rattle.rules.proofs.Demand3.{demand3}

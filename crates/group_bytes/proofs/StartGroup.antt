@@ -15,12 +15,12 @@ use Rattle.numbers.proofs.NumberLaws.{length-put}
 use Rattle.views.specs.declared.View.{View}
 use Rattle.views.specs.Limits.{maxMembers, maxViews, maxWaiting, maxOrdered}
 use Rattle.views.specs.Sizes.{viewSize}
-use Rattle.views.specs.Sets.{both}
+use Rattle.views.specs.Sets.{both, fits}
 use Rattle.views.proofs.SetLaws.{known}
 use Rattle.wire.specs.Reader.{viewIn, viewsIn}
 use Rattle.wire.proofs.TripViews.{AreBytes}
 use Rattle.rules.specs.Data.{Entry}
-use Rattle.rules.specs.Group.{fits, firstView, fresh, started}
+use Rattle.rules.specs.Group.{firstView, fresh, started}
 use Rattle.slots.proofs.Stored.{view-stored}
 use Rattle.slots.proofs.BytesKept.{set-bytes, storeView-bytes}
 use Rattle.book_bytes.specs.Places.{bookSize}

@@ -17,12 +17,12 @@ use Rattle.views.specs.declared.refusal.Verdict.{Verdict}
 use Rattle.views.specs.declared.refusal.Verdict.the-variants.{Accepted, Refused}
 use Rattle.views.specs.Limits.{maxViews}
 use Rattle.views.specs.Lists.{idOf, viewOf, noView, listOf, places, placed}
-use Rattle.views.specs.Sets.{both, isEmpty, isBeyond}
+use Rattle.views.specs.Sets.{both, isEmpty, isBeyond, fits}
 use Rattle.views.proofs.PlaceLaws.{drop-used, length-places, list-placed}
 use Rattle.views.specs.Refusals.{left}
 use Rattle.rules.specs.Data.{need}
 use Rattle.rules.specs.Member.{all}
-use Rattle.rules.specs.Group.{fits, creates}
+use Rattle.rules.specs.Group.{creates}
 use Rattle.events.specs.Replies.{verdictOf}
 use Rattle.group_steps.specs.CarrierParts.{allBelow}
 use Rattle.group_listed.specs.declared.list.Creation.{Creation}
@@ -49,26 +49,26 @@ module _ (count : ℕ) (at : List View) (i : ℕ) (h : i < length (take count at
 
 module _ (n room : ℕ) (views : List View) (g S : ℕ) where
   pub empty-set : isEmpty S ≡ true → Refused SetUnfit ≡ verdictOf (creating n room views g S)
-  unfolding creating creates fits need
+  unfolding creating creates need
   empty-set e = rw e refl
 
   module _ (a : isEmpty S ≡ false) where
     pub beyond-set : isBeyond S n ≡ true → Refused SetUnfit ≡ verdictOf (creating n room views g S)
-    unfolding creating creates fits need
+    unfolding creating creates need
     beyond-set e = rw (a, e) refl
 
     module _ (b : isBeyond S n ≡ false) where
       pub not-above : allBelow g views ≡ false → Refused IdentifierNotAbove ≡ verdictOf (creating n room views g S)
-      unfolding creating creates fits need
+      unfolding creating creates need
       not-above e = rw (a, b, e) refl
 
       module _ (c : allBelow g views ≡ true) where
         pub list-full : room ≤ length views → Refused ListFull ≡ verdictOf (creating n room views g S)
-        unfolding creating creates fits need
+        unfolding creating creates need
         list-full h = rw (a, b, c, le-ltb _ _ h) refl
 
         pub made-next : length views < room → Accepted ≡ verdictOf (creating n room views g S)
-        unfolding creating creates fits need
+        unfolding creating creates need
         made-next h = rw (a, b, c, lt-ltb _ _ h) refl
 
 pub created-by : (l : Views) (made g S n : ℕ) (views : Views) (room : ℕ) (v : Verdict) (at : ℕ) → listOf views ≡ take made (listOf l) → room ≡ min (l .count) maxViews → v ≡ verdictOf (creating n room (listOf views) g S) → at ≡ atOf v made (l .count)

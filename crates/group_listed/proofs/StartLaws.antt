@@ -20,7 +20,7 @@ use Rattle.views.specs.declared.refusal.Verdict.the-variants.{Accepted, Refused
 use Rattle.views.specs.Limits.{maxViews, maxMembers}
 use Rattle.views.specs.Sizes.{viewSize}
 use Rattle.views.specs.Lists.{noView, listOf, placed}
-use Rattle.views.specs.Sets.{both}
+use Rattle.views.specs.Sets.{both, fits}
 use Rattle.views.proofs.PlaceLaws.{length-places, list-placed}
 use Rattle.views.specs.Refusals.{left}
 use Rattle.wire.specs.Format.{viewsBytes}
@@ -29,7 +29,7 @@ use Rattle.wire.proofs.ReaderLaws.{length-viewsIn}
 use Rattle.wire.proofs.SeamLaws.{length-viewsBytes}
 use Rattle.rules.specs.Data.{Group, Result, refused, need}
 use Rattle.rules.specs.Sound.{conditions}
-use Rattle.rules.specs.Group.{firstView, fits, start}
+use Rattle.rules.specs.Group.{firstView, start}
 use Rattle.slots.proofs.Outside.{storeView-changed, view-apart}
 use Rattle.slots.proofs.Stored.{view-stored}
 use Rattle.wire.specs.Writer.{storeView}

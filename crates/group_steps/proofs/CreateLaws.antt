@@ -14,14 +14,14 @@ use Rattle.views.specs.declared.refusal.Refusal.the-variants.{SetUnfit, Identif
 use Rattle.views.specs.declared.refusal.Verdict.the-variants.{Accepted, Refused}
 use Rattle.views.specs.Limits.{maxMembers}
 use Rattle.views.specs.Sizes.{viewSize}
-use Rattle.views.specs.Sets.{both, isEmpty, isBeyond}
+use Rattle.views.specs.Sets.{both, isEmpty, isBeyond, fits}
 use Rattle.views.specs.Lists.{viewOf}
 use Rattle.views.specs.Refusals.{left}
 use Rattle.wire.specs.Reader.{viewsIn}
 use Rattle.wire.specs.Writer.{storeView}
 use Rattle.rules.specs.Data.{ok, accepted, need}
 use Rattle.rules.specs.Member.{all}
-use Rattle.rules.specs.Group.{fits, creates}
+use Rattle.rules.specs.Group.{creates}
 use Rattle.events.specs.Replies.{verdictOf}
 use Rattle.group_bytes.specs.Places.{roomOf, madeAt, orderAt, waitingAt}
 use Rattle.group_bytes.specs.Groups.{Ranges, membersOf, madeOf, viewsMade, groupIn}
@@ -35,14 +35,10 @@ use Rattle.group_steps.specs.CarrierParts.{allBelow, creating, Created}
 
 -- a set that is no byte is beyond any members
 pub fit-wide : (n S : ℕ) → n ≤ maxMembers → 256 ≤ S → false ≡ fits n S
-unfolding fits isBeyond
+unfolding isBeyond
 fit-wide n S h k =
     let m : 2 ^ n ≤ 2 ^ 8 = pow-mono {i = n} {j = 8} h in
     rw (ne-eqb S 0 (λ e. omega arith), le-leb (2 ^ n) S (omega arith))
-
-pub fit-byte : (n S : ℕ) → both (not (isEmpty S)) (not (isBeyond S n)) ≡ fits n S
-unfolding fits
-fit-byte n S = refl
 
 -- ---- the identifiers, by turns: the views from the i-th on
 

@@ -16,7 +16,7 @@ use Rattle.views.specs.declared.refusal.Verdict.{Verdict}
 use Rattle.views.specs.declared.refusal.Verdict.the-variants.{Accepted, Refused}
 use Rattle.views.specs.Limits.{maxMembers, maxOrdered}
 use Rattle.views.specs.Refusals.{require, left}
-use Rattle.views.specs.Sets.{has, isEmpty, isBeyond}
+use Rattle.views.specs.Sets.{has, isEmpty, isBeyond, fits}
 use Rattle.views.specs.Lists.{idOf, listOf}
 use Rattle.views.proofs.SetLaws.{known, both-true, has-below}
 use Rattle.wire.specs.declared.Frame.{Frame}
@@ -24,7 +24,6 @@ use Rattle.wire.proofs.VerdictLaws.{need-accepted}
 use Rattle.rules.specs.Data.{Result, refused, need}
 use Rattle.rules.specs.Member.{Done, all, joins}
 use Rattle.rules.specs.Sound.{setFits}
-use Rattle.rules.specs.Group.{fits}
 use Rattle.rules.specs.Alone.{viewsOf, bookSound}
 use Rattle.rules.proofs.TestLaws.{conditions-say, within-says}
 use Rattle.book_bytes.specs.Places.{carrierAt, takenAt}
@@ -48,14 +47,14 @@ answers-refused r x new b y e h = refused-by r x new b y (ap verdictOf e) h
 module _ (b : List ℕ) (v : View) (t : Bool) (tested : t ≡ setFits (membersIn b) v) where
   pub join-unfit : not t ≡ true → (y : Reply) → y ≡ replied (Refused SetUnfit) noEvent
       → Answers (joining (membersIn b) (selfIn b) v (bookIn b)) (joinBytes v b) b y b
-  unfolding need fits
+  unfolding need
   join-unfit h y e =
       let f : setFits (membersIn b) v ≡ false = sym tested ∙ not-true t h in
       answers-refused (joining (membersIn b) (selfIn b) v (bookIn b)) SetUnfit (joinBytes v b) b y (rw f refl) e
 
   pub join-fits : not t ≡ false → (y : Reply) (d : List ℕ) → Answers (joins (selfIn b) v (bookIn b)) (joinBytes v b) b y d
       → Answers (joining (membersIn b) (selfIn b) v (bookIn b)) (joinBytes v b) b y d
-  unfolding need fits
+  unfolding need
   join-fits h y d a = let f : setFits (membersIn b) v ≡ true = sym tested ∙ not-false t h in rw f a
 
 -- ---- deliver: 7, 41, 42, 16 in the code

@@ -15,8 +15,8 @@ use Rattle.views.specs.declared.refusal.Verdict.the-variants.{Accepted, Refused
 use Rattle.views.specs.Limits.{maxMembers}
 use Rattle.views.proofs.SetLaws.{known}
 use Rattle.views.specs.Refusals.{left}
+use Rattle.views.specs.Sets.{fits}
 use Rattle.rules.specs.Data.{Book as Ruled, Result, refused, accepted, need}
-use Rattle.rules.specs.Group.{fits}
 use Rattle.rules.specs.Alone.{startAlone}
 use Rattle.rules.proofs.TestLaws.{within-from}
 use Rattle.book_bytes.specs.Places.{bookSize}

@@ -13,14 +13,13 @@ use Rattle.views.specs.declared.refusal.Verdict.the-variants.{Accepted, Refused
 use Rattle.views.specs.declared.View.{View}
 use Rattle.views.specs.Limits.{maxOrdered}
 use Rattle.views.specs.Refusals.{require, left}
-use Rattle.views.specs.Sets.{has}
+use Rattle.views.specs.Sets.{has, fits}
 use Rattle.views.specs.Lists.{idOf, listOf}
 use Rattle.wire.specs.declared.Frame.{Frame}
 use Rattle.wire.specs.Writer.{frameBytes, writeVerdict, overwritten}
 use Rattle.rules.specs.Data.{Member, Book as Ruled, Result, accepted, need, withView, after}
 use Rattle.rules.specs.Member.{Done, all, joins, Passing, passing}
 use Rattle.rules.specs.Sound.{setFits}
-use Rattle.rules.specs.Group.{fits}
 use Rattle.rules.specs.Alone.{Sent, messageOf, viewsOf, passedBytes}
 use Rattle.book_bytes.specs.Books.{bytesSound, membersIn, selfIn}
 use Rattle.book_steps.specs.Acts.{taking, passBytes}

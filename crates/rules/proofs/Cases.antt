@@ -11,7 +11,7 @@ use Rattle.views.specs.declared.refusal.Refusal.the-variants.{TestFailed, NotAb
 use Rattle.views.specs.declared.refusal.Verdict.the-variants.{Accepted}
 use Rattle.views.specs.Points.{at, at2}
 use Rattle.views.specs.Refusals as R
-use Rattle.views.specs.Sets.{has, isBeyond, inCommon, weigh, one}
+use Rattle.views.specs.Sets.{has, isBeyond, inCommon, weigh, one, fits}
 use Rattle.views.specs.Lists.{isRising, risesAbove, findOf, insertOf, among, unionOf, aboveOf, placed, places}
 use Rattle.wire.specs.declared.Reading.{Reading}
 use Rattle.wire.specs.declared.Message.the-variants.{Info, Registered}
@@ -20,7 +20,7 @@ use Rattle.wire.specs.Reader as W
 use Rattle.rules.specs.Data.{Member, Message, Step, Answer, event, refusal, Event, attempt, Result, refused, accepted, Group, need, withView, withFirst, after}
 use Rattle.rules.specs.Member.{every, all, passes, queues, joined, joins, passing, settledBy, learned, received, delivered, opened, attempted, attempts, registers, sends, hands, tells, safes, collected, collects}
 use Rattle.rules.specs.Sound.{conditions, everyBook, everyQueue, bookCounts, counts, listed, bookListed, sound}
-use Rattle.rules.specs.Group.{fits, withListed, booked, own, fresh, started, start, creates, joinStep, passStep, orderStep, deliverStep, pick, stepOf, step}
+use Rattle.rules.specs.Group.{withListed, booked, own, fresh, started, start, creates, joinStep, passStep, orderStep, deliverStep, pick, stepOf, step}
 use Rattle.rules.specs.Runs.{lastOf}
 
 -- ---- scripts
@@ -110,5 +110,5 @@ unfolding table each times made sent taken begun settled lastAnswer group
     isKnown viewsAllowed numbersAllowed someEmpty toldFits contentOf W.viewsIn W.numberIn W.messageOf W.scanOf W.given W.readFront W.readOf
     need withView withFirst after every all passes queues joined joins passing settledBy learned received delivered opened attempted attempts registers sends hands tells safes collected collects
     conditions everyBook everyQueue bookCounts counts listed bookListed sound
-    fits withListed booked own fresh started start creates joinStep passStep orderStep deliverStep pick stepOf step lastOf
+    withListed booked own fresh started start creates joinStep passStep orderStep deliverStep pick stepOf step lastOf
 cases = refl

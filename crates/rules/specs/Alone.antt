@@ -13,7 +13,7 @@ use Rattle.views.specs.declared.refusal.Refusal.the-variants.{BufferTooShort, A
 use Rattle.views.specs.declared.refusal.Verdict.{Verdict}
 use Rattle.views.specs.declared.refusal.Verdict.the-variants.{Accepted, Refused}
 use Rattle.views.specs.Limits.{maxMembers, maxOpen, maxOutgoing, maxOrdered}
-use Rattle.views.specs.Sets.{has}
+use Rattle.views.specs.Sets.{has, fits}
 use Rattle.views.specs.Lists.{idOf, risesAbove, listOf, noView}
 use Rattle.wire.specs.declared.Message.{Message as Carried}
 use Rattle.wire.specs.declared.Message.the-variants.{Client, Info, Registered, Told}
@@ -25,7 +25,7 @@ use Rattle.rules.specs.Data.{Entry, entry, BookOf, Book, ok, Result, ref
 use Rattle.rules.specs.Member.{DoneOf, does, all, joins, Passing, passing, delivered, attempts}
 use Rattle.rules.specs.Sound.{within, conditions, countFits, bookCounts, setFits, opensRise, fromMember}
 use Rattle.rules.specs.Sound.{itemFromMember}
-use Rattle.rules.specs.Group.{fits, fresh}
+use Rattle.rules.specs.Group.{fresh}
 
 -- ---- messages in bytes
 

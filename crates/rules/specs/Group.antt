@@ -1,5 +1,5 @@
 -- The group: start, the carrier's steps, the joint steps, and one step by its kind's number.
-use mathlib.Core.Bool.{Bool, false, cond, not}
+use mathlib.Core.Bool.{false, cond}
 use mathlib.Core.Option.{none, some}
 use mathlib.Core.List.{List, [], _∷_, _++_}
 use Prim.Native.Nat.{ℕ, zero, suc, _+_}
@@ -13,7 +13,7 @@ use Rattle.views.specs.declared.refusal.Refusal.the-variants.{RecordsUnsound, U
 use Rattle.views.specs.declared.refusal.Refusal.the-variants.{IdentifierNotAbove, ListFull, NoSuchView, WaitingFull}
 use Rattle.views.specs.declared.refusal.Refusal.the-variants.{NoneWaiting, OrderFull, NoCarrierView, NoneToDeliver}
 use Rattle.views.specs.Limits.{maxMembers, maxViews, maxWaiting, maxOrdered}
-use Rattle.views.specs.Sets.{both, has, isEmpty, isBeyond}
+use Rattle.views.specs.Sets.{both, has, fits}
 use Rattle.views.specs.Points.{at, at2}
 use Rattle.views.specs.Lists.{idOf, findOf}
 use Rattle.rules.specs.Data.{Identifier, Member, EntryOf, entry, BookOf, GroupOf, Group, Step, AnswerOf, ok}
@@ -31,10 +31,6 @@ pub record NextOf (M : Type 0) : Type 0 where
 
 abbrev pub Next : Type 0
 Next = NextOf ℕ
-
--- a set of members of the group, not empty
-unfoldable pub fits : ℕ → ℕ → Bool
-fits n S = both (not (isEmpty S)) (not (isBeyond S n))
 
 -- the view of an identifier among those made, or 10
 unfoldable pub withListed : {A : Type 0} → Lookup → (View → Result A) → Result A

@@ -1,7 +1,7 @@
 -- Refusal 4: records that no step may touch. The parts stand in the order and words of the refusal table. What only
 -- bytes can hold (a count beyond its places, an entry of unknown kind, a range not of its length) is the layout's part
 -- of it.
-use mathlib.Core.Bool.{Bool, true, false, cond, not}
+use mathlib.Core.Bool.{Bool, true, false, cond}
 use mathlib.Core.Option.{Option, none, some}
 use mathlib.Core.List.{List, [], _∷_}
 use Prim.Native.Nat.{ℕ, _+_}
@@ -9,7 +9,7 @@ use lib.Dec.{eqb, ltb, leb}
 use lib.ListN.{length}
 use Rattle.views.specs.declared.View.{View}
 use Rattle.views.specs.Limits.{maxMembers, maxViews, maxOpen, maxOutgoing, maxWaiting, maxOrdered}
-use Rattle.views.specs.Sets.{both, isEmpty, isBeyond}
+use Rattle.views.specs.Sets.{both, fits}
 use Rattle.views.specs.Lists.{idOf, isRising, risesAbove}
 use Rattle.rules.specs.Data.{client, info, registered, told, EntryOf, entry, Item, item, BookOf, GroupOf}
 use Rattle.rules.specs.Member.{every, all, clientIsCarrier}
@@ -32,7 +32,7 @@ limitAt (some v) l = length l
 
 -- the view's set is not empty and not beyond n members
 abbrev pub setFits : ℕ → View → Bool
-setFits n v = both (not (isEmpty (v .set))) (not (isBeyond (v .set) n))
+setFits n v = fits n (v .set)
 
 abbrev pub sameView : View → View → Bool
 sameView v w = both (eqb (idOf v) (idOf w)) (eqb (v .set) (w .set))

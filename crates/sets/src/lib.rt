@@ -2,8 +2,7 @@
 use views::Member;
 use views::limits;
 ghost use mathlib.Core.Path.{_≡_};
-ghost use mathlib.Core.Bool.{not};
-ghost use Rattle.views.specs.Sets.{has, isEmpty, isBeyond, inCommon, majorityOf, both};
+ghost use Rattle.views.specs.Sets.{has, isEmpty, isBeyond, inCommon, majorityOf, fits};
 
 // The member is in the set.
 pub fn contains(set: u8, member: Member) -> bool
@@ -33,6 +32,16 @@ pub fn beyond(set: u8, members: u8) -> bool
     0 < set >> members
 }
 
+// The set is not empty and within n members.
+pub fn fits(n: u8, set: u8) -> bool
+    ensures { λ r. ⌜ r ≡ fits n set ⌝ }
+{
+    if empty(set) {
+        return false;
+    }
+    !beyond(set, n)
+}
+
 // The members that both sets have.
 pub fn common(a: u8, b: u8) -> u8
     ensures { λ r. ⌜ r ≡ inCommon a b ⌝ }
@@ -45,14 +54,4 @@ pub fn majority(set: u8, held: u8) -> bool
     ensures { λ r. ⌜ r ≡ majorityOf set held ⌝ }
 {
     u8::count_ones(held) < 2 * u8::count_ones(set & held)
-}
-
-// The set is not empty and within n members.
-pub fn fits(n: u8, set: u8) -> bool
-    ensures { λ r. ⌜ r ≡ both (not (isEmpty set)) (not (isBeyond set n)) ⌝ }
-{
-    if empty(set) {
-        return false;
-    }
-    !beyond(set, n)
 }

@@ -1,5 +1,5 @@
 -- Sets of members as bytes, and the majority test in words of members.
-use mathlib.Core.Bool.{Bool, true, false, cond}
+use mathlib.Core.Bool.{Bool, true, false, cond, not}
 use Prim.Native.Nat.{ℕ, zero, suc, _+_, _*_, _/_, _%_, _^_}
 use lib.Dec.{eqb, ltb, leb}
 use lib.Bits.{bitAnd}
@@ -41,3 +41,7 @@ size s = weigh one (has s) maxMembers
 -- Test: twice the members in common exceed the members of the held view
 unfoldable pub majorityOf : ℕ → ℕ → Bool
 majorityOf s held = ltb (size held) (2 * size (inCommon s held))
+
+-- the set is not empty and not beyond n members
+abbrev pub fits : ℕ → ℕ → Bool
+fits n S = both (not (isEmpty S)) (not (isBeyond S n))

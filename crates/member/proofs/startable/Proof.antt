@@ -2,9 +2,9 @@
 use mathlib.Core.Path.{sym, _∙_}
 use native.Mathlib.Omega.{arith}
 use borrow.Author.Tests.{not-true, not-false}
-use Rattle.rules.specs.Group.{fits}
 use Rattle.member.proofs.StartLaws.{start-length, start-none, start-many, start-unfit, start-beyond, start-passes}
 use borrow.Author.Needs.{needs}
+use Rattle.views.specs.Sets.{fits}
 use Rattle.member.proofs.startable.Statement.{statement}
 use Rattle.member.proofs.startable.Tie as tie
 
@@ -21,15 +21,12 @@ set-fits-requires : tie.Need-set-fits-requires
 set-fits-requires c κs = search needs
 
 returns-4 : tie.Need-returns-4
-unfolding fits
 returns-4 c = start-unfit (c .before .before .before .before .before .before .args .members) (c .before .before .before .before .before .before .args .set) (c .before .before .before .before .before .before .args .own) (c .before .before .before .before .before .before .args .b .now) (omega arith) (omega arith) (omega arith) (sym (c .before .set-fits .ensures) ∙ not-true _ (c .if4 .taken))
 
 returns-5 : tie.Need-returns-5
-unfolding fits
 returns-5 c = start-beyond (c .before .before .before .before .before .before .before .args .members) (c .before .before .before .before .before .before .before .args .set) (c .before .before .before .before .before .before .before .args .own) (c .before .before .before .before .before .before .before .args .b .now) (omega arith) (omega arith) (omega arith) (sym (c .before .before .set-fits .ensures) ∙ not-false _ (c .before .if4 .left)) (c .if5 .taken)
 
 returns-6 : tie.Need-returns-6
-unfolding fits
 returns-6 c = start-passes (c .before .before .before .before .before .before .before .args .members) (c .before .before .before .before .before .before .before .args .set) (c .before .before .before .before .before .before .before .args .own) (c .before .before .before .before .before .before .before .args .b .now) (omega arith) (omega arith) (omega arith) (sym (c .before .before .set-fits .ensures) ∙ not-false _ (c .before .if4 .left)) (omega arith)
 
 pub startable-spec : {M : Type 1} → statement M

@@ -5,10 +5,11 @@ use lib.Dec.{ltb}
 use borrow.Author.Tests.{leb-true, ltb-true}
 use Rattle.views.specs.declared.View.{View}
 use Rattle.views.specs.Limits.{maxMembers}
+use Rattle.views.specs.Sets.{fits}
 use Rattle.rules.specs.Data.{Member, BookOf, Book, Result, accepted}
 use Rattle.rules.specs.Member.{DoneOf, PassingOf, Passing, passing, attempted, attempts, registers, sends, hands, tells, safes, collects}
 use Rattle.rules.specs.Sound.{within}
-use Rattle.rules.specs.Group.{fits, fresh}
+use Rattle.rules.specs.Group.{fresh}
 use Rattle.rules.specs.Alone.{startAlone, alone, joinAlone, passAlone, attemptAlone}
 use Rattle.rules.proofs.Holding.{Holds, gives, given, need-holds, after-holds, then-holds}
 use Rattle.rules.proofs.Sound.BookParts.{BookKept, Keeps}
@@ -20,7 +21,7 @@ module _ {M : Type 0} where
   -- ---- start
 
   pub start-kept : (n S : ℕ) (p : Member) (b : BookOf M) → startAlone n S p ≡ accepted b → KeptAlone n b
-  unfolding startAlone fits
+  unfolding startAlone
   start-kept n S p b e =
       let h : Holds (KeptAlone {M = M} n) (startAlone n S p)
       = need-holds (within 1 n maxMembers) _ _ (λ m.
@@ -47,7 +48,7 @@ module _ {M : Type 0} where
   -- ---- join, attempt
 
   pub join-kept : (n : ℕ) (p : Member) (v : View) (b : BookOf M) (d : DoneOf M) → KeptAlone n b → joinAlone n p v b ≡ accepted d → KeptAlone n (d .book)
-  unfolding joinAlone fits
+  unfolding joinAlone
   join-kept n p v b d k e = call-keeps n p b _ d k (λ i s. need-holds (fits n (v .set)) _ _ (λ h. joins-keep (byItself n) p v b i h s)) e
 
   pub attempt-kept : (weight : Member → ℕ) (n : ℕ) (p : Member) (b : BookOf M) (d : DoneOf M) → KeptAlone n b → attemptAlone weight n p b ≡ accepted d → KeptAlone n (d .book)

@@ -18,7 +18,7 @@ use Rattle.views.specs.declared.refusal.Refusal.{Refusal}
 use Rattle.views.specs.Limits.{maxMembers}
 use Rattle.views.specs.Members.{In, top, pop}
 use Rattle.views.specs.Points.{at, at2}
-use Rattle.views.specs.Sets.{both, has, isEmpty, isBeyond, inCommon, weigh}
+use Rattle.views.specs.Sets.{both, has, isEmpty, isBeyond, inCommon, weigh, fits}
 use Rattle.views.specs.Lists.{idOf, findOf, insertOf, unionOf, aboveOf}
 use Rattle.views.proofs.Members.{in-nil, in-cons, in-append, in-left, in-right}
 use Rattle.views.proofs.SetLaws.{both-true, has-common, has-below, has-some}
@@ -29,7 +29,7 @@ use Rattle.rules.specs.Data as D
 use Rattle.rules.specs.Data.{Member, MessageOf, EntryOf, entry, Item, item, Held, AtCarrierOf, AtClientOf, BookOf, GroupOf, Step, Event, AnswerOf, ok, event, refusal, Result, refused, accepted, need, withView, withFirst, rank}
 use Rattle.rules.specs.Member.{DoneOf, every, everyOf, all, isAbove, clientIsCarrier, passes, outgoes, queues, hasRoom, joined, joins, PassingOf, passing, ownOr, settledBy, learned, takes, received, delivered, opened, attempted, attempts, noted, registers, sends, moves, hands, tells, safes, collected, collects}
 use Rattle.rules.specs.Sound.{limitAt}
-use Rattle.rules.specs.Group.{NextOf, fits, booked, own, creates, joinStep, passStep, orderStep, takeFrom, deliverStep}
+use Rattle.rules.specs.Group.{NextOf, booked, own, creates, joinStep, passStep, orderStep, takeFrom, deliverStep}
 use Rattle.rules.specs.Figure1.{At}
 use Rattle.rules.proofs.Flat as F
 use Rattle.rules.proofs.Flat.{Flat, Move}
@@ -91,7 +91,7 @@ module _ {M : Type 0} where
 
     -- ---- 1. create
     pub create-moves : (s : GroupOf M) → Sound s → Own s → (g S : ℕ) → Holds (Moved s) (creates s g S)
-    unfolding creates fits shown isBeyond
+    unfolding creates shown isBeyond
     create-moves s i o g S =
         need-holds _ _ _ (λ f. need-holds _ _ _ (λ a. need-holds _ _ _ (λ _.
         gives (

@@ -11,13 +11,13 @@ use Rattle.views.specs.declared.View.{View}
 use Rattle.views.specs.declared.refusal.Refusal.{Refusal}
 use Rattle.views.specs.Limits.{maxMembers, maxViews}
 use Rattle.views.specs.Members.{In}
-use Rattle.views.specs.Sets.{both, has, isEmpty, isBeyond}
+use Rattle.views.specs.Sets.{both, has, isEmpty, isBeyond, fits}
 use Rattle.views.specs.Lists.{idOf}
 use Rattle.views.proofs.Members.{in-nil}
 use Rattle.views.proofs.SetLaws.{both-true, has-below, has-some}
 use Rattle.rules.specs.Data.{Member, Entry, Group, GroupOf, Step, Event, Answer, ok, event, refusal, Result, refused, accepted, need, rank}
 use Rattle.rules.specs.Sound.{sound}
-use Rattle.rules.specs.Group.{Next, fits, stepOf, settles, step, start, started, firstView, fresh}
+use Rattle.rules.specs.Group.{Next, stepOf, settles, step, start, started, firstView, fresh}
 use Rattle.rules.specs.Runs.{lastOf, answersOf, eventsOf}
 use Rattle.rules.proofs.Flat.{Flat, Move, Steps, flat0}
 use Rattle.rules.proofs.Flat.Flatten.{flat}
@@ -144,7 +144,6 @@ pub record Began {M : Type 0} (n S room : ℕ) (s : GroupOf M) : Type 0 where
 
 module _ (n S room : ℕ) where
   unfit : fits n S ≡ true → (isEmpty S ≡ false) × (isBeyond S n ≡ false)
-  unfolding fits
   unfit f = let h = both-true (not (isEmpty S)) (not (isBeyond S n)) f in (not-true (isEmpty S) (h .0), not-true (isBeyond S n) (h .1))
 
   start-began : {M : Type 0} → Holds (Began {M = M} n S room) (start n S room)

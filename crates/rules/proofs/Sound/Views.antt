@@ -10,14 +10,14 @@ use lib.ListN.{length}
 use borrow.Author.Tests.{ltb-true, not-true}
 use Rattle.views.specs.declared.View.{View}
 use Rattle.views.specs.Limits.{maxMembers, maxViews}
-use Rattle.views.specs.Sets.{isEmpty, isBeyond}
+use Rattle.views.specs.Sets.{isEmpty, isBeyond, fits}
 use Rattle.views.specs.Lists.{idOf, isRising, risesAbove}
 use Rattle.views.proofs.SetLaws.{known, both-true}
 use Rattle.views.proofs.Members.{In, top, in-nil, in-cons, in-left}
 use Rattle.rules.specs.Data.{Identifier, Member, EntryOf, GroupOf, accepted}
 use Rattle.rules.specs.Member.{all}
 use Rattle.rules.specs.Sound.{within}
-use Rattle.rules.specs.Group.{fits, firstView, fresh, started, start, creates}
+use Rattle.rules.specs.Group.{firstView, fresh, started, start, creates}
 use Rattle.rules.proofs.Sound.{EntryFacts, clientEntry, infoEntry, registeredEntry, toldEntry, QueueFacts, Listed, inGroup, all-at, within-says}
 use Rattle.rules.proofs.Holding.{Holds, gives, given, need-holds}
 use Rattle.rules.proofs.Sound.ListsWithin.{Within, rising-snoc}
@@ -27,7 +27,6 @@ use Rattle.rules.proofs.Sound.Members.{fresh-kept}
 use Rattle.rules.proofs.Sound.Kept.{Kept, KeepsGroup, book-kept, book-moves}
 
 fits-say : (n S : ℕ) → fits n S ≡ true → (isEmpty S ≡ false) × (isBeyond S n ≡ false)
-unfolding fits
 fits-say n S h = let t = both-true (not (isEmpty S)) (not (isBeyond S n)) h in (not-true _ (t .0), not-true _ (t .1))
 
 module _ {M : Type 0} where

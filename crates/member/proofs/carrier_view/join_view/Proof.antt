@@ -16,7 +16,9 @@ refuse-requires : tie.Need-refuse-requires
 refuse-requires c κs = search needs
 
 returns : tie.Need-returns
-returns c = join-unfit _ _ _ (c .before .before .set-fits .ensures) (c .before .if1 .taken) _ (c .refuse .ensures)
+returns c =
+    let a = c .before .before .before .before .before .args in
+    join-unfit (a .b .now) (a .v) _ (c .before .before .set-fits .ensures) (c .before .if1 .taken) _ (c .refuse .ensures)
 
 join-requires : tie.Need-join-requires
 join-requires c κs = search needs

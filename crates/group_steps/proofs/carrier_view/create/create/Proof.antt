@@ -4,12 +4,12 @@ use native.Mathlib.Omega.{arith}
 use borrow.Author.Tests.{not-true, not-false}
 use mathlib.Core.Bool.{true}
 use Rattle.views.specs.declared.refusal.Refusal.the-variants.{SetUnfit, IdentifierNotAbove, ListFull}
-use Rattle.rules.specs.Group.{fits}
 use Rattle.group_bytes.specs.Groups.{Ranges, membersOf, viewsMade}
 use Rattle.group_steps.specs.CarrierParts.{allBelow}
 use Rattle.group_steps.proofs.Rows.{ranged}
 use Rattle.group_steps.proofs.CreateLaws.{create-refused, create-accepted, unfit, not-above, list-full, made-says}
 use borrow.Author.Needs.{needs}
+use Rattle.views.specs.Sets.{fits}
 use Rattle.group_steps.proofs.carrier_view.create.create.Statement.{statement}
 use Rattle.group_steps.proofs.carrier_view.create.create.Tie as tie
 
