@@ -354,11 +354,11 @@ def count():
 
 
 def check():
-    folder = os.path.join(os.path.dirname(os.path.abspath(__file__)), '..', '..', 'crates', 'vectors')
+    folder = os.path.join(os.path.dirname(os.path.abspath(__file__)), '..', '..', 'crates', 'test_vectors')
     for name, text in (('stdin', INPUT), ('stdout', OUTPUT)):
         with open(os.path.join(folder, name)) as f:
             if f.read() != text:
-                sys.exit('crates/vectors/%s differs' % name)
+                sys.exit('crates/test_vectors/%s differs' % name)
 
 
 def main():
