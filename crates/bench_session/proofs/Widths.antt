@@ -23,50 +23,49 @@ use Rattle.bench_lines.specs.declared.lines.Line.the-variants.{Unreadable, Grou
 use Rattle.bench_lines.specs.declared.lines.names.Form.{Form}
 use Rattle.bench_lines.specs.Lines.{Row, row, table, largest, unknown, longestLine, formOf, made, withOperands, asks, lineOf}
 
--- the three within the widths of kind, first and second operand
-abbrev pub wide : ℕ → ℕ → ℕ → Bool
-wide k x y = both (leb k (largest 1)) (both (leb x (largest 4)) (leb y (largest 8)))
+-- the two within the widths of the first and the second operand
+abbrev pub wide : ℕ → ℕ → Bool
+wide x y = both (leb x (largest 4)) (leb y (largest 8))
 
 unfoldable pub lineWide : Line → Bool
 lineWide Unreadable = true
 lineWide (Group s) = true
-lineWide (Step c) = wide (c .kind) (c .first) (c .second)
+lineWide (Step c) = wide (c .first) (c .second)
 
 rowsWide : List Row → Bool
 rowsWide [] = true
-rowsWide (row n f ∷ rows) = both (wide (f .kind) (f .first) (f .second)) (rowsWide rows)
+rowsWide (row n f ∷ rows) = both (wide (f .first) (f .second)) (rowsWide rows)
 
-rows-wide : (rows : List Row) (w : List ℕ) → rowsWide rows ≡ true → wide (formOf rows w .kind) (formOf rows w .first) (formOf rows w .second) ≡ true
+rows-wide : (rows : List Row) (w : List ℕ) → rowsWide rows ≡ true → wide (formOf rows w .first) (formOf rows w .second) ≡ true
 unfolding formOf rowsWide
 rows-wide [] w h = refl
 rows-wide (row n f ∷ rows) w h =
-    let t = both-true (wide (f .kind) (f .first) (f .second)) (rowsWide rows) h in
+    let t = both-true (wide (f .first) (f .second)) (rowsWide rows) h in
     ⊎-elim (λ (e : same w n ≡ true). rw e (t .0)) (λ (e : same w n ≡ false). rw e (rows-wide rows w (t .1))) (known (same w n))
 
-form-wide : (w : List ℕ) → wide (formOf table w .kind) (formOf table w .first) (formOf table w .second) ≡ true
+form-wide : (w : List ℕ) → wide (formOf table w .first) (formOf table w .second) ≡ true
 unfolding rowsWide
 form-wide w = rows-wide table w refl
 
-narrower : (k f s x y : ℕ) → wide k f s ≡ true → leb x f ≡ true → leb y s ≡ true → wide k x y ≡ true
-narrower k f s x y h p q =
-    let t = both-true (leb k (largest 1)) _ h in
-    let u = both-true (leb f (largest 4)) _ (t .1) in
+narrower : (f s x y : ℕ) → wide f s ≡ true → leb x f ≡ true → leb y s ≡ true → wide x y ≡ true
+narrower f s x y h p q =
+    let u = both-true (leb f (largest 4)) _ h in
     let a : leb x (largest 4) ≡ true = le-leb x (largest 4) (omega (arith, leb-true x f p, leb-true f (largest 4) (u .0))) in
     let b : leb y (largest 8) ≡ true = le-leb y (largest 8) (omega (arith, leb-true y s q, leb-true s (largest 8) (u .1))) in
-    rw (t .0, a, b)
+    rw (a, b)
 
-made-wide : (f : Form) (a b : Numeral) → wide (f .kind) (f .first) (f .second) ≡ true → within (f .first) a ≡ true → within (f .second) b ≡ true
+made-wide : (f : Form) (a b : Numeral) → wide (f .first) (f .second) ≡ true → within (f .first) a ≡ true → within (f .second) b ≡ true
     → lineWide (made f a b) ≡ true
 unfolding made lineWide
 made-wide f Unfit b h p q = refl
 made-wide f (Number x) Unfit h p q = refl
 made-wide f (Number x) (Number y) h p q =
-    ⊎-elim (λ (e : eqb (f .kind) 0 ≡ true). rw e) (λ (e : eqb (f .kind) 0 ≡ false). rw e (narrower (f .kind) (f .first) (f .second) x y h p q)) (known (eqb (f .kind) 0))
+    ⊎-elim (λ (e : eqb (f .kind) 0 ≡ true). rw e) (λ (e : eqb (f .kind) 0 ≡ false). rw e (narrower (f .first) (f .second) x y h p q)) (known (eqb (f .kind) 0))
 
 zero-within : (m : ℕ) → within m (Number 0) ≡ true
 zero-within m = le-leb 0 m (omega arith)
 
-operands-wide : (f : Form) (l : List (List ℕ)) → wide (f .kind) (f .first) (f .second) ≡ true → lineWide (withOperands f l) ≡ true
+operands-wide : (f : Form) (l : List (List ℕ)) → wide (f .first) (f .second) ≡ true → lineWide (withOperands f l) ≡ true
 unfolding withOperands lineWide
 operands-wide f [] h = refl
 operands-wide f (w ∷ []) h =
@@ -92,8 +91,7 @@ line-wide s =
     (known (leb (length s) longestLine))
 
 -- such a step can be given
-pub wide-given : (k x y : ℕ) → wide k x y ≡ true → Given (asked k x y)
+pub wide-given : (k x y : ℕ) → wide x y ≡ true → Given (asked k x y)
 wide-given k x y h =
-    let t = both-true (leb k (largest 1)) _ h in
-    let u = both-true (leb x (largest 4)) _ (t .1) in
-    record { kind = omega (arith, leb-true k 255 (t .0)); first = omega (arith, leb-true x 4294967295 (u .0)); second = omega (arith, leb-true y 18446744073709551615 (u .1)) }
+    let u = both-true (leb x (largest 4)) _ h in
+    record { first = omega (arith, leb-true x 4294967295 (u .0)); second = omega (arith, leb-true y 18446744073709551615 (u .1)) }

@@ -118,7 +118,7 @@ start-says : (n S : ℕ) (r : Ranges) (s : Group) → startResult n S r ≡ acce
     → Startable n S r × (start n S (roomOf (r .list)) ≡ accepted s) × (s ≡ started n S (roomOf (r .list)))
 start-says n S r s e = gave (startResult n S r) s (start-holds n S r) e
 
-begun : (n S : ℕ) (r : Ranges) (s : Group) → startResult n S r ≡ accepted s → MeansGroup (startRanges n S r) s
+pub begun : (n S : ℕ) (r : Ranges) (s : Group) → startResult n S r ≡ accepted s → MeansGroup (startRanges n S r) s
 begun n S r s e = let t = start-says n S r s e in rw (t .2) (start-group n S r (t .0))
 
 -- ---- the promises

@@ -9,7 +9,6 @@ use lib.ListN.{length, getD}
 use Rattle.views.specs.Limits.{maxMembers, maxViews, maxWaiting, maxOrdered}
 use Rattle.views.specs.Sizes.{viewSize}
 use Rattle.views.proofs.SetLaws.{both-true}
-use Rattle.wire.proofs.TripViews.{AreBytes}
 use Rattle.rules.specs.Data.{Group}
 use Rattle.rules.proofs.TestLaws.{_and_, both-from, within-says, within-from, every-at, every-from, conditions-say, conditions-from}
 use Rattle.slots.specs.Slots.{slotsFit}
@@ -17,12 +16,7 @@ use Rattle.book_bytes.specs.Places.{membersAt, selfAt}
 use Rattle.book_bytes.proofs.LayoutLaws.{Layout, layout-says, layout-from}
 use Rattle.group_bytes.specs.Places.{roomOf, booksSize, bookBytes, orderAt, waitingAt, queuesSize}
 use Rattle.group_bytes.specs.Groups.{Ranges, membersOf, madeOf, queueFits, tableFits, seatFits, rangesFit, groupIn}
-
--- every byte of the ranges is one
-pub record RangesBytes (r : Ranges) : Type 0 where
-  pub list : AreBytes (r .list)
-  pub books : AreBytes (r .books)
-  pub queues : AreBytes (r .queues)
+pub use Rattle.group_bytes.specs.Promises.{RangesBytes}
 
 -- ---- a queue with its count at c
 

@@ -1,23 +1,30 @@
--- Demand 3 of what the code does to the lent ranges: for every start that was accepted, on ranges of any content, and
--- every list of steps.
+-- Demands 2 and 3 of what the code does to the lent ranges: a start and each step are the rules', on ranges of any
+-- content; and for every start that was accepted and every list of steps the events are promised.
 use mathlib.Core.Path.{_≡_}
-use mathlib.Core.Bool.{true, cond}
+use mathlib.Core.Bool.{true, false, cond}
 use mathlib.Core.List.{List, [], _∷_, _++_}
 use Prim.Native.Nat.{ℕ, _^_, _<_}
 use lib.Dec.{eqb}
+use Rattle.views.specs.declared.refusal.Refusal.{Refusal}
+use Rattle.views.specs.declared.refusal.Refusal.the-variants.{RecordsUnsound}
 use Rattle.views.specs.declared.refusal.Verdict.{Verdict}
 use Rattle.views.specs.declared.refusal.Verdict.the-variants.{Accepted, Refused}
 use Rattle.events.specs.Kinds.{attemptKind, registerKind, sendKind, handKind, safeKind}
 use Rattle.views.specs.Members.{In}
 use Rattle.views.specs.Sets.{one}
 use Rattle.views.specs.Lists.{idOf}
-use Rattle.rules.specs.Data.{item, Group, Step, Event as Outward, attempt, register, send, hand, safe, accepted}
+use Rattle.wire.specs.Widths.{AreBytes}
+use Rattle.rules.specs.Data.{item, Group, Step, Event as Outward, attempt, register, send, hand, safe, refusal}
+use Rattle.rules.specs.Data.{refused, accepted}
+use Rattle.rules.specs.Group.{start, step}
 use Rattle.rules.specs.Promise.{Promised}
 use Rattle.events.specs.declared.Event.{Event}
 use Rattle.events.specs.declared.Reply.{Reply}
-use Rattle.group_bytes.specs.Groups.{Ranges, rangesSound}
+use Rattle.group_bytes.specs.Places.{roomOf}
+use Rattle.group_bytes.specs.Groups.{Ranges, groupIn, rangesFit, rangesSound}
+use Rattle.group_bytes.specs.Answers.{answerReply}
 use Rattle.group_bytes.specs.Starts.{startRanges}
-use Rattle.group_bytes.specs.Steps.{startResult, lastRanges, repliesOf}
+use Rattle.group_bytes.specs.Steps.{rangesLong, startResult, stepRanges, stepReply, lastRanges, repliesOf}
 
 -- the outward event that a reply shows, if it shows one: attempt P I S, register P I, send P I V, hand P I Q V, safe P
 -- I Q V
@@ -43,22 +50,53 @@ unfoldable pub eventsShown : List Reply → List (Outward ℕ)
 eventsShown [] = []
 eventsShown (x ∷ l) = shownBy (x .verdict) (x .event) ++ eventsShown l
 
--- operands that the step can be given: the kind in one byte, the first in four, the second in eight
+-- operands that the step can be given: the first in four bytes, the second in eight; the kind is any number
 pub record Given (c : Step) : Type 0 where
-  pub kind : c .kind < 256 ^ 1
   pub first : c .first < 256 ^ 4
   pub second : c .second < 256 ^ 8
 
--- any steps that can be given: of any kind number and operands, refused ones among them
+-- any steps that can be given: of any kind number and such operands, refused ones among them
 abbrev pub AllGiven : List Step → Type 0
 AllGiven steps = (c : Step) → In c steps → Given c
+
+-- ---- demand 2
+
+-- every byte of the ranges is one
+pub record RangesBytes (r : Ranges) : Type 0 where
+  pub list : AreBytes (r .list)
+  pub books : AreBytes (r .books)
+  pub queues : AreBytes (r .queues)
+
+-- the ranges are the group s, and nothing in their layout gets 4
+pub record AreGroup (r : Ranges) (s : Group) : Type 0 where
+  pub group : groupIn r ≡ s
+  pub fits : rangesFit r ≡ true
+  pub bytes : RangesBytes r
+
+pub record Demand2 : Type 0 where
+  -- a start of ranges not of their lengths gets 4; of others it is the rules', for as many views as the list has records
+  pub start-unfit : (n S : ℕ) (r : Ranges) → rangesLong r ≡ false → startResult n S r ≡ refused RecordsUnsound
+  pub start-result : (n S : ℕ) (r : Ranges) → rangesLong r ≡ true → startResult n S r ≡ start n S (roomOf (r .list))
+  pub start-group : (n S : ℕ) (r : Ranges) (s : Group) → startResult n S r ≡ accepted s
+      → AreGroup (startRanges n S r) s
+  -- a step on ranges that are no group gets 4, and they stay; on others it has the rules' answer and leaves the rules'
+  -- group
+  pub step-unfit : (r : Ranges) → rangesFit r ≡ false → (c : Step)
+      → (stepReply r c ≡ answerReply (refusal RecordsUnsound)) × (stepRanges r c ≡ r)
+  pub step-reply : (r : Ranges) → rangesFit r ≡ true → (c : Step)
+      → stepReply r c ≡ answerReply (step one (groupIn r) c .answer)
+  pub step-group : (r : Ranges) → rangesFit r ≡ true → RangesBytes r → (c : Step) → Given c
+      → AreGroup (stepRanges r c) (step one (groupIn r) c .state)
+  -- whatever the ranges are, a refused step leaves every byte as it was
+  pub step-refused : (r : Ranges) (c : Step) (f : Refusal) → stepReply r c .verdict ≡ Refused f → stepRanges r c ≡ r
+
+-- ---- demand 3, and that no list of steps leads to ranges that 4 refuses
 
 abbrev pub Demand3 : Type 0
 Demand3 =
     (n S : ℕ) (r : Ranges) (s : Group) → startResult n S r ≡ accepted s → (steps : List Step) → AllGiven steps
     → Promised one S (eventsShown (repliesOf (startRanges n S r) steps))
 
--- no list of steps leads to ranges that 4 refuses
 abbrev pub NeverWedged : Type 0
 NeverWedged =
     (n S : ℕ) (r : Ranges) (s : Group) → startResult n S r ≡ accepted s → (steps : List Step) → AllGiven steps

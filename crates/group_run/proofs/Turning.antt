@@ -24,10 +24,10 @@ same-ranges x y p q r = λ i. record { list = p i; books = q i; queues = r i }
 -- ---- one step
 
 -- a step was put whose operands are those that its record holds
-pub asked-as-held : (b : List ℕ) (at first second : ℕ) → getD b at 0 < 256 → first ≡ get b (at + 1) 4 → second ≡ get b (at + 5) 8 → first < 256 ^ 4 → second < 256 ^ 8
+pub asked-as-held : (b : List ℕ) (at first second : ℕ) → first ≡ get b (at + 1) 4 → second ≡ get b (at + 5) 8 → first < 256 ^ 4 → second < 256 ^ 8
     → (r d : Ranges) (x : Reply) → Went r (asked (getD b at 0) first second) d x → Asked r (stepAt b at) d x
 unfolding stepAt
-asked-as-held b at first second k e f m n r d x w = rw (← e, ← f) (record { went = w; given = record { kind = k; first = m; second = n } })
+asked-as-held b at first second e f m n r d x w = rw (← e, ← f) (record { went = w; given = record { first = m; second = n } })
 
 pub turned : (r : Ranges) (c : Step) (d : Ranges) (x : Reply) (a : List ℕ) (at : ℕ) (e : List ℕ) → Asked r c d x → Wrote a at x e → Turned r c a at d e
 turned r c d x a at e s w = record {

@@ -3,28 +3,30 @@ use mathlib.Core.Path.{_≡_, refl, _∙_}
 use mathlib.Core.Bool.{true}
 use mathlib.Core.Option.{Option, none, some}
 use mathlib.Core.List.{List}
-use Prim.Native.Nat.{ℕ, _^_, _<_}
+use Prim.Native.Nat.{ℕ, _^_, _≤_, _<_}
 use native.Mathlib.Omega.{arith}
 use borrow.Author.Tests.{leb-true, ltb-true}
 use lib.Dec.{leb, ltb}
 use lib.ListN.{length, getD}
 use Rattle.views.specs.declared.View.{View}
 use Rattle.views.specs.declared.refusal.Refusal.{Refusal}
-use Rattle.views.specs.Limits.{maxOpen, maxOrdered}
+use Rattle.views.specs.Limits.{maxMembers, maxOpen, maxOrdered}
 use Rattle.views.specs.Sets.{one, has}
 use Rattle.views.specs.Refusals.{left}
+use Rattle.views.specs.Lists.{idOf}
 use Rattle.wire.specs.Reader.{readOf}
-use Rattle.wire.proofs.TripViews.{ViewFits, AreBytes}
+use Rattle.wire.proofs.TripViews.{AreBytes}
 use Rattle.rules.specs.Data.{Book as Ruled, Message, client, info, registered, told, entry, ok, Result, refused, accepted, withView, after}
 use Rattle.rules.specs.Member.{Done, Passing, passing, delivered, attempts}
 use Rattle.rules.specs.Sound.{countFits}
-use Rattle.rules.specs.Alone.{Sent, sentOf, alone, joinAlone, passAlone, deliverAlone, attemptAlone}
-use Rattle.rules.proofs.TestLaws.{within-says}
+use Rattle.rules.specs.Alone.{Sent, sentOf, bookSound, alone, joinAlone, passAlone, deliverAlone, attemptAlone}
+use Rattle.rules.proofs.TestLaws.{within-says, conditions-say}
 use Rattle.rules.proofs.Alone.Readable.{Carries, reading-readable, reading-fits}
 use Rattle.slots.proofs.Stored.{MessageFits}
 use Rattle.book_bytes.specs.Places.{takenAt}
 use Rattle.book_bytes.specs.Records.{recordIn}
-use Rattle.book_bytes.specs.Books.{bookIn, membersIn, selfIn}
+use Rattle.book_bytes.specs.Books.{bookIn, bytesSound, membersIn, selfIn}
+use Rattle.book_bytes.proofs.StartBook.{fits-byte}
 use Rattle.events.specs.declared.Reply.{Reply}
 use Rattle.book_steps.specs.Acts.{joinBytes, passBytes, takeBytes, attemptBytes, registerBytes, sendBytes, handBytes, tellBytes, safeBytes, collectBytes}
 use Rattle.book_steps.proofs.Means.{Means}
@@ -38,12 +40,12 @@ use Rattle.member.proofs.ArriveLaws.{carrier-mark, sender-small}
 
 -- ---- what an accepted result met
 
-view-gave : {A : Type 0} (o : Option View) (r : Refusal) (f : View → Result A) (y : A) → withView o r f ≡ accepted y → (v : View) × (o ≡ some v) × (f v ≡ accepted y)
+pub view-gave : {A : Type 0} (o : Option View) (r : Refusal) (f : View → Result A) (y : A) → withView o r f ≡ accepted y → (v : View) × (o ≡ some v) × (f v ≡ accepted y)
 unfolding withView
 view-gave none r f y e = let z : _≡_ {A = ℕ} 0 1 = cc in absurd (omega arith)
 view-gave (some v) r f y e = (v, refl, e)
 
-after-gave : {A B : Type 0} (r : Result A) (f : A → Result B) (y : B) → after r f ≡ accepted y → (x : A) × (r ≡ accepted x) × (f x ≡ accepted y)
+pub after-gave : {A B : Type 0} (r : Result A) (f : A → Result B) (y : B) → after r f ≡ accepted y → (x : A) × (r ≡ accepted x) × (f x ≡ accepted y)
 unfolding after
 after-gave (refused x) f y e = let z : _≡_ {A = ℕ} 0 1 = cc in absurd (omega arith)
 after-gave (accepted x) f y e = (x, refl, e)
@@ -76,11 +78,17 @@ taken-means b q read x B d is given m = rw (is, ← given) m
 -- ---- the calls
 
 module _ (b : List ℕ) (bytes : AreBytes b) where
-  pub join-call : (v : View) → ViewFits v → (d : Done) → joinCall v b ≡ accepted d → Means b (joinBytes v b) (d .book)
+  few-members : bytesSound b ≡ true → membersIn b ≤ maxMembers
+  unfolding bytesSound bookSound
+  few-members h = let (_, (s, _)) = conditions-say _ h in within-says 1 (membersIn b) maxMembers (conditions-say _ s .0) .1
+
+  -- a set that fits is one byte
+  pub join-call : (v : View) → idOf v < 256 ^ 4 → (d : Done) → joinCall v b ≡ accepted d → Means b (joinBytes v b) (d .book)
   unfolding joinCall joinAlone
   join-call v w d e =
       let (a, r) = called-gave b _ d e in
-      join-means b bytes (a .sound) v w d (need-gave _ _ _ _ r .1)
+      let (set, j) = need-gave _ _ _ _ r in
+      join-means b bytes (a .sound) v (record { id = w; set = fits-byte _ _ (few-members (a .sound)) set }) d j
 
   pub pass-call : (room : ℕ) (x : Passing) → passCall room b ≡ accepted x → Means b (passBytes b) (x .book)
   unfolding passCall passAlone

@@ -7,3 +7,5 @@ pub mod NeverFour
 pub mod PassLaws
 pub mod ReadLaws
 pub mod SetWalks
+pub mod PassReads
+pub mod Demand2

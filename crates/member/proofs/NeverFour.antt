@@ -23,7 +23,8 @@ use Rattle.book_bytes.proofs.LayoutLaws.{Layout, layout-from}
 use Rattle.book_steps.proofs.Means.{Means}
 use Rattle.book_bytes.specs.Starts.{startBytes}
 use Rattle.member.specs.Calls.{onBook, joinCall, passCall, deliverCall, attemptCall, registerCall, sendCall, handCall, tellCall, safeCall, collectCall, startCall}
-use Rattle.member.specs.Drives.{Call, after, lastOf, Within, AllWithin, NeverFour}
+use Rattle.member.specs.Drives.{Call, after, lastOf, Within, AllWithin}
+use Rattle.member.specs.Promises.{NeverFour}
 use Rattle.member.proofs.CallLaws.{need-gave}
 use Rattle.member.proofs.StartMeans.{start-gave, start-means}
 use Rattle.member.proofs.CallMeans.{delivers-read, join-call, pass-call, deliver-call, attempt-call, register-call, send-call, hand-call, tell-call, safe-call, collect-call}
@@ -81,11 +82,11 @@ module _ (b : List ℕ) (k : Kept b) where
   after-kept : (c : Call) → Within c → Kept (after c b)
   unfolding after Within joinCall passCall deliverCall attemptCall registerCall sendCall handCall tellCall safeCall collectCall
   after-kept (Call.join g S) w =
-      step-kept _ _ (join-call b (k .bytes) (viewOf g S) (record { id = w .0; set = w .1 })) (λ d e. join-kept n p (viewOf g S) (bookIn b) d (k .book) e)
+      step-kept _ _ (join-call b (k .bytes) (viewOf g S) w) (λ d e. join-kept n p (viewOf g S) (bookIn b) d (k .book) e)
   after-kept (Call.pass buffer) w =
       call-kept (λ (x : Passing). x .book) _ _ (pass-call b (k .bytes) (length buffer)) (λ x e. pass-kept n p (length buffer) (bookIn b) x (k .book) e)
   after-kept (Call.deliver bytes q) w =
-      step-kept _ _ (deliver-call b (k .bytes) bytes q (w .0)) (λ d e. taken-kept (sentOf (readOf bytes)) (reading-readable bytes) q d e)
+      step-kept _ _ (deliver-call b (k .bytes) bytes q w) (λ d e. taken-kept (sentOf (readOf bytes)) (reading-readable bytes) q d e)
   after-kept Call.attempt w = step-kept _ _ (attempt-call b (k .bytes)) (λ d e. attempt-kept one n p (bookIn b) d (k .book) e)
   after-kept Call.register w = step-kept _ _ (register-call b (k .bytes)) (λ d e. register-kept n p (bookIn b) d (k .book) e)
   after-kept (Call.send x) w = step-kept _ _ (send-call b (k .bytes) x w) (λ d e. send-kept n p x (bookIn b) d (k .book) e)
@@ -103,11 +104,11 @@ last-kept (c ∷ l) w b k = last-kept l (w .1) (after c b) (after-kept b k c (w 
 
 -- ---- from an accepted start
 
-begun-kept : (n S p : ℕ) (b : List ℕ) (x : Ruled) → S < 256 → startCall n S p b ≡ accepted x → Kept (startBytes n S p b)
+begun-kept : (n S p : ℕ) (b : List ℕ) (x : Ruled) → startCall n S p b ≡ accepted x → Kept (startBytes n S p b)
 unfolding startCall
-begun-kept n S p b x w e =
+begun-kept n S p b x e =
     let s = start-gave n S p b x e in
-    let m = start-means n S p b x w e in
+    let m = start-means n S p b x e in
     record {
       bytes = m .bytes;
       layout = m .layout;
@@ -116,4 +117,4 @@ begun-kept n S p b x w e =
     }
 
 pub never-four : NeverFour
-never-four n S p b x w e calls within = kept-sound (lastOf (startBytes n S p b) calls) (last-kept calls within (startBytes n S p b) (begun-kept n S p b x w e))
+never-four n S p b x e calls within = kept-sound (lastOf (startBytes n S p b) calls) (last-kept calls within (startBytes n S p b) (begun-kept n S p b x e))

@@ -167,7 +167,7 @@ outgoing-says b h e i =
     let (_, (_, (_, (c, (_, (_, (_, (t, (_, (o, _)))))))))) = conditions-say _ s in
     record { count = all-at countFits (outgoingIn b) c e i; sets = all-at (setsFit (membersIn b)) (outgoingIn b) t e i; opens = all-at opensRise (outgoingIn b) o e i }
 
-abbrev firstAt : ℕ
+abbrev pub firstAt : ℕ
 firstAt = outgoingAt + 1
 
 -- the frame of a seat's view, written and gone, is the rule's answer
@@ -184,6 +184,19 @@ sent-as f x b d out end r a e o =
     (known (leb (length (passedBytes x)) (length out)))
 
 module _ (b : List ℕ) (sound : bytesSound b ≡ true) where
+  -- the frame of the first outgoing message, sent in any view, is one that the writer accepts
+  pub first-frame : 0 < getD b outgoingAt 0 → (g : ℕ) → EntryOk b firstAt × (frameVerdict (frameAt b firstAt g) ≡ Accepted)
+  first-frame h g =
+      let (l, first) = entries-first b firstAt (getD b outgoingAt 0) h in
+      let says = outgoing-says b sound (entryIn b firstAt) (rw first top) in
+      let slot = slots-first b firstAt (getD b outgoingAt 0) h (sound-layout b sound .slots) in
+      let ok : EntryOk b firstAt = record { fits = slot; told = told-small b firstAt (getD b firstAt 0) (says .count) } in
+      let content = message-content (membersIn b) (getD b firstAt 0) (messageIn b firstAt) (says .count) (says .sets) (says .opens) in (
+        ok,
+        frame-accepted (frameAt b firstAt g) (messageIn b firstAt) (frame-carried b firstAt g ok) (frame-views b firstAt g ok)
+            (frame-count b firstAt g (framed-few b firstAt slot) ∙ ap length (frame-views b firstAt g ok)) (content .0) (content .1),
+      )
+
   pub first-few : 0 < getD b outgoingAt 0 → framed b (outgoingAt + 1) ≤ maxViews
   first-few h = framed-few b firstAt (slots-first b firstAt (getD b outgoingAt 0) h (sound-layout b sound .slots))
 
@@ -220,18 +233,12 @@ module _ (b : List ℕ) (sound : bytesSound b ≡ true) where
       unfolding after
       pass-done h f e d out end r o =
           let (l, first) = entries-first b firstAt (getD b outgoingAt 0) h in
-          let says = outgoing-says b sound (entryIn b firstAt) (rw first top) in
-          let slot = slots-first b firstAt (getD b outgoingAt 0) h (sound-layout b sound .slots) in
-          let ok : EntryOk b firstAt = record { fits = slot; told = told-small b firstAt (getD b firstAt 0) (says .count) } in
           let g = idOf (s .view) in
+          let (ok, frame) = first-frame h g in
           let v = viewIn b (carrierAt + 1) in
           let same : s .view ≡ v = ap (λ (x : Seat). x .view) loaded in
           let x : Passing = record { to = v; first = entryIn b firstAt; book = outgoes l (bookIn b) } in
           let gives : passing (bookIn b) ≡ accepted x = passing-first (bookIn b) v (entryIn b firstAt) l carrier-is (out-is l first) in
-          let content = message-content (membersIn b) (getD b firstAt 0) (messageIn b firstAt) (says .count) (says .sets) (says .opens) in
-          let frame : frameVerdict (frameAt b firstAt g) ≡ Accepted
-          = frame-accepted (frameAt b firstAt g) (messageIn b firstAt) (frame-carried b firstAt g ok) (frame-views b firstAt g ok)
-          (frame-count b firstAt g (framed-few b firstAt slot) ∙ ap length (frame-views b firstAt g ok)) (content .0) (content .1) in
           let bytes : frameBytes f ≡ passedBytes x = ap frameBytes e ∙ frame-message b firstAt g ok ∙ ap (λ (w : View). messageBytes (idOf w) (messageIn b firstAt)) same in
           rw gives (sent-as f x b d out end r (ap frameVerdict e ∙ frame) bytes o)
 

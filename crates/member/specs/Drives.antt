@@ -1,20 +1,18 @@
 -- A host that drives a member: its calls with their operands, and the book's bytes after any list of them, refused or
 -- not.
-use mathlib.Core.Path.{_≡_}
-use mathlib.Core.Bool.{true}
 use mathlib.Core.List.{List, [], _∷_}
 use Prim.Native.Nat.{ℕ, _^_, _<_}
-use lib.ListN.{length, getD}
+use lib.ListN.{length}
 use Rattle.views.specs.Lists.{viewOf}
 use Rattle.views.specs.Refusals.{left}
-use Rattle.rules.specs.Data.{Identifier, Member, Book, accepted}
+use Rattle.wire.specs.Widths.{AreBytes}
+use Rattle.rules.specs.Data.{Identifier, Member, Book, Result, refused, accepted}
+use Rattle.rules.specs.Member.{Done, Passing}
 use Rattle.events.specs.Replies.{verdictOf}
-use Rattle.book_bytes.specs.Books.{bytesSound}
 use Rattle.book_steps.specs.Acts.{joinBytes, passBytes, attemptBytes, registerBytes, sendBytes, handBytes, tellBytes}
 use Rattle.book_steps.specs.Acts.{safeBytes, collectBytes}
-use Rattle.book_bytes.specs.Starts.{startBytes}
 use Rattle.member.specs.Calls.{joinCall, passCall, deliverCall, deliverBytes, attemptCall, registerCall, sendCall}
-use Rattle.member.specs.Calls.{handCall, tellCall, safeCall, collectCall, startCall}
+use Rattle.member.specs.Calls.{handCall, tellCall, safeCall, collectCall}
 
 pub data Call : Type 0 where
   join : Identifier → ℕ → Call  -- the view's identifier and set
@@ -41,16 +39,37 @@ after tell b = left (verdictOf (tellCall b)) (tellBytes b) b
 after safe b = left (verdictOf (safeCall b)) (safeBytes b) b
 after collect b = left (verdictOf (collectCall b)) (collectBytes b) b
 
+-- what the rules say of a call on the book that the bytes are: the book after it, or the refusal
+abbrev pub bookDone : Result Done → Result Book
+bookDone (refused r) = refused r
+bookDone (accepted d) = accepted (d .book)
+
+abbrev pub bookPassed : Result Passing → Result Book
+bookPassed (refused r) = refused r
+bookPassed (accepted x) = accepted (x .book)
+
+unfoldable pub ruled : Call → List ℕ → Result Book
+ruled (join g S) b = bookDone (joinCall (viewOf g S) b)
+ruled (pass buffer) b = bookPassed (passCall (length buffer) b)
+ruled (deliver bytes q) b = bookDone (deliverCall bytes q b)
+ruled attempt b = bookDone (attemptCall b)
+ruled register b = bookDone (registerCall b)
+ruled (send x) b = bookDone (sendCall x b)
+ruled hand b = bookDone (handCall b)
+ruled tell b = bookDone (tellCall b)
+ruled safe b = bookDone (safeCall b)
+ruled collect b = bookDone (collectCall b)
+
 -- after one call after another
 unfoldable pub lastOf : List ℕ → List Call → List ℕ
 lastOf b [] = b
 lastOf b (c ∷ l) = lastOf (after c b) l
 
--- the operands are within their widths
+-- the operands are within their widths; sets and senders are any numbers
 unfoldable pub Within : Call → Type 0
-Within (join g S) = (g < 256 ^ 4) × (S < 256)
+Within (join g S) = g < 256 ^ 4
 Within (pass buffer) = Unit {0}
-Within (deliver bytes q) = (((j : ℕ) → getD bytes j 0 < 256) × (q < 256))
+Within (deliver bytes q) = AreBytes bytes
 Within attempt = Unit {0}
 Within register = Unit {0}
 Within (send x) = x < 256 ^ 8
@@ -62,9 +81,3 @@ Within collect = Unit {0}
 unfoldable pub AllWithin : List Call → Type 0
 AllWithin [] = Unit {0}
 AllWithin (c ∷ l) = Within c × AllWithin l
-
--- ---- the promise: from an accepted start no list of calls leads to bytes that get 4
-
-abbrev pub NeverFour : Type 0
-NeverFour = (n S p : ℕ) (b : List ℕ) (x : Book) → S < 256 → startCall n S p b ≡ accepted x
-    → (calls : List Call) → AllWithin calls → bytesSound (lastOf (startBytes n S p b) calls) ≡ true

@@ -3,6 +3,7 @@
 pub mod Kept
 pub mod Taken
 pub mod Readable
+pub mod Written
 pub mod Peculiar
 use mathlib.Core.Path.{_≡_, refl}
 use mathlib.Core.Bool.{Bool, true}

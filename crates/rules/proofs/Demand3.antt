@@ -14,7 +14,7 @@ use Rattle.rules.specs.Runs.{lastOf, answersOf, eventsOf, Attempted}
 use Rattle.rules.specs.Promise.{Demand3}
 use Rattle.rules.proofs.Flat.RunMoves.{began, runs}
 use Rattle.rules.proofs.Run.Whole as W
-use Rattle.rules.proofs.Run.Whole.{trace, share}
+use Rattle.rules.proofs.Run.Whole.{trace, unique, share}
 
 pub demand3 : Demand3
 demand3 weight n S room s e steps =
@@ -22,6 +22,7 @@ demand3 weight n S room s e steps =
     let st = runs weight n S room s e steps in
     record {
       run = trace maxMembers weight S (g .below) (g .some-one) st;
+      same = unique maxMembers weight S (g .below) (g .some-one) st;
       share = λ v w av aw lt nn. let c = share maxMembers weight S (g .below) (g .some-one) st v w av aw lt nn in (c .0, c .2, c .3, c .4);
     }
 

@@ -8,10 +8,11 @@ use Rattle.views.specs.declared.refusal.Refusal.{Refusal}
 use Rattle.rules.specs.Data.{Member, Group, Step, Answer, ok, event, refusal, Result, refused, accepted, need}
 use Rattle.rules.specs.Member.{Done, joins, passing, attempts, registers, sends, hands, tells, safes, collects}
 use Rattle.rules.specs.Group.{Next, own, creates, joinStep, passStep, orderStep, deliverStep, stepOf, settles, step}
+use Rattle.rules.specs.Promise.{RefusedKeeps}
 use Rattle.rules.proofs.Holding.{Holds, refuses, gives, need-holds, view-holds, first-holds, after-holds, then-holds, listed-holds, pick-holds}
 
 -- no refusal
-abbrev Says : Answer → Type 0
+abbrev pub Says : Answer → Type 0
 Says ok = Unit {0}
 Says (event e) = Unit {0}
 Says (refusal r) = ⊥
@@ -19,7 +20,7 @@ Says (refusal r) = ⊥
 abbrev Done-says : Done → Type 0
 Done-says d = Says (d .answer)
 
-abbrev Next-says : Next → Type 0
+abbrev pub Next-says : Next → Type 0
 Next-says x = Says (x .answer)
 
 module _ (weight : Member → ℕ) (s : Group) where
@@ -27,7 +28,7 @@ module _ (weight : Member → ℕ) (s : Group) where
   unfolding own
   own-says p r h = after-holds Done-says r _ h (λ d k. gives k)
 
-  step-says : (c : Step) → Holds Next-says (stepOf weight s c)
+  pub step-says : (c : Step) → Holds Next-says (stepOf weight s c)
   unfolding stepOf creates joinStep passStep orderStep deliverStep passing joins attempts registers sends hands tells safes collects
   step-says c =
       let p = c .first in
@@ -73,6 +74,6 @@ module _ (weight : Member → ℕ) (s : Group) where
   keeps (refused q) h r e = refl
   keeps (accepted x) (gives h) r e = absurd (subst Says e h)
 
-  pub refused-keeps : (c : Step) (r : Refusal) → step weight s c .answer ≡ refusal r → step weight s c .state ≡ s
-  unfolding step
-  refused-keeps c r e = keeps _ (need-holds _ _ _ (λ _. step-says c)) r e
+pub refused-keeps : RefusedKeeps
+unfolding step
+refused-keeps weight s c r e = keeps weight s _ (need-holds _ _ _ (λ _. step-says weight s c)) r e

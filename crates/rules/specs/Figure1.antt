@@ -56,8 +56,9 @@ Apart d v w =
 -- ---- its steps, each with what it is fed
 
 pub data Act {M : Type 0} : Outer M → Outer M → List (Event M) → Type 0 where
-  -- create, unfed: the identifier is new
-  create : {d : Outer M} (v : View) → ((w : View) → In w (d .created) → (idOf w ≢ idOf v) × Apart d v w)
+  -- create, unfed: a view has members, and its identifier is new
+  create : {d : Outer M} (v : View) → ((p : Member) × T (has (v .set) p))
+      → ((w : View) → In w (d .created) → (idOf w ≢ idOf v) × Apart d v w)
       → Act d (record {
         created = v ∷ d .created;
         current = d .current;

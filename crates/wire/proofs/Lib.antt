@@ -11,3 +11,4 @@ pub mod RoundTrip
 pub mod MessageCases
 pub mod RecordLaws
 pub mod RecordTrip
+pub mod Demand2

@@ -1,5 +1,5 @@
 -- Records and frames: the frame of a record's bytes is the frame they were stored from, and the record of a message, written and read again, is that record.
-use mathlib.Core.Path.{_≡_, refl, sym, ap, _∙_}
+use mathlib.Core.Path.{_≡_, refl, sym, ap, subst, _∙_}
 use mathlib.Core.Logic.{⊎-elim}
 use mathlib.Core.Bool.{true, false}
 use mathlib.Core.List.{List, [], _∷_, _++_, append-assoc, append-nil}
@@ -7,7 +7,7 @@ use Prim.Native.Nat.{ℕ, zero, suc, _^_, _<_}
 use native.Mathlib.Omega.{arith}
 use borrow.Author.Tests.{leb-true, eqb-true, eqb-false}
 use lib.Dec.{eqb, leb}
-use lib.ListN.{length, take, replicate, length-append, length-take}
+use lib.ListN.{length, getD, take, replicate, length-append, length-take}
 use Rattle.numbers.specs.Number.{get, digits}
 use Rattle.numbers.proofs.NumberLaws.{length-digits, get-digits}
 use Rattle.views.specs.declared.View.{View}
@@ -21,14 +21,15 @@ use Rattle.wire.specs.declared.Message.{Message}
 use Rattle.wire.specs.declared.Message.the-variants.{Client, Info, Registered, Told}
 use Rattle.wire.specs.declared.Frame.{Frame}
 use Rattle.wire.specs.declared.Reading.{Reading}
-use Rattle.wire.specs.Format.{kindOf, viewsBytes, toldFits, viewsAllowed, contentOf}
-use Rattle.wire.specs.Reader.{viewsIn, readOf}
+use Rattle.wire.specs.Format.{kindOf, viewsBytes, isKnown, toldFits, viewsAllowed, contentOf}
+use Rattle.wire.specs.Reader.{viewsIn, readFront, readOf}
 use Rattle.wire.specs.Writer.{numberOf, frameBytes, frameVerdict}
 use Rattle.wire.proofs.VerdictLaws.{need-accepted}
-use Rattle.wire.proofs.TripViews.{ViewFits, EachFits, views-back}
+use Rattle.wire.proofs.TripViews.{ViewFits, EachFits, AreBytes, views-back}
 use Rattle.wire.proofs.TripMessages.{told-met, number-fits, message-back}
-use Rattle.wire.proofs.RoundTrip.{Fits, canonical, canonical-same-bytes, written-reads}
-use Rattle.wire.specs.Records.{headBytes, recordBytes, counted, frameOf}
+use Rattle.wire.proofs.RoundTrip.{Fits, canonical, WrittenAs, canonical-same-bytes, written-reads, read-is-written, read-takes-all, read-whole-is-written}
+use Rattle.wire.specs.Records.{recordKind, headBytes, recordBytes, counted, frameOf}
+use Rattle.wire.specs.Promises.{RecordOf}
 use Rattle.wire.proofs.RecordLaws.{length-head, counted-small, counted-other}
 
 -- ---- the places of views
@@ -110,19 +111,51 @@ frame-back f hg hx told hn z each =
 
 -- ---- written and read
 
--- the record of a message that can be written, with 0 in the places it does not use, is what reading gives of what writing it gives
-pub written-record-returns : (f : Frame) → Fits f → frameVerdict f ≡ Accepted
-    → recordBytes (readOf (frameBytes (frameOf (recordBytes (canonical f)))) .frame) ≡ recordBytes (canonical f)
+-- the record of a message that can be written, with 0 in the places it does not use, is its frame again
+record-back : (f : Frame) → Fits f → frameVerdict f ≡ Accepted → frameOf (recordBytes (canonical f)) ≡ canonical f
 unfolding frameVerdict
-written-record-returns f fit v =
+record-back f fit v =
     let m = f .message in
     let l = listOf (f .views) in
     let content = need-accepted (viewsAllowed (kindOf m) (f .views .count)) _ (contentOf (kindOf m) l (numberOf m)) v .1 in
     let told = told-met (kindOf m) l (numberOf m) content in
     let few : length l < 256 ^ 1 = omega (arith, length-take (f .views .count) (f .views .at), fit .room) in
-    let back : frameOf (recordBytes (canonical f)) ≡ canonical f =
     frame-back (canonical f) (fit .view) (number-bound m (fit .entry) told) told few (length-places l) (places-fit l (fit .each))
-    in
-    ap (λ (y : Frame). recordBytes (readOf (frameBytes y) .frame)) back
+
+-- and is what reading gives of what writing it gives
+pub written-record-returns : (f : Frame) → Fits f → frameVerdict f ≡ Accepted
+    → recordBytes (readOf (frameBytes (frameOf (recordBytes (canonical f)))) .frame) ≡ recordBytes (canonical f)
+written-record-returns f fit v =
+    ap (λ (y : Frame). recordBytes (readOf (frameBytes y) .frame)) (record-back f fit v)
     ∙ ap (λ (y : List ℕ). recordBytes (readOf y .frame)) (canonical-same-bytes f fit)
     ∙ ap (λ (y : Reading). recordBytes (y .frame)) (written-reads f fit v)
+
+-- ---- read and written
+
+kind-in : (f : Frame) → getD (recordBytes f) recordKind 0 ≡ kindOf (f .message)
+unfolding recordBytes headBytes
+kind-in f = refl
+
+kind-known : (m : Message) → isKnown (kindOf m) ≡ true
+unfolding isKnown
+kind-known (Client x) = refl
+kind-known Info = refl
+kind-known Registered = refl
+kind-known (Told k) = refl
+
+-- the record that reading gives is written as the bytes that were read
+pub read-record-is-written : (b : List ℕ) → AreBytes b → readOf b .verdict ≡ Accepted → RecordOf (recordBytes (readOf b .frame)) b
+read-record-is-written b y e =
+    let f = readOf b .frame in
+    let same = read-takes-all b e .0 in
+    let was : readFront b .verdict ≡ Accepted = rw same at e in
+    let written = subst (WrittenAs b) (sym same) (read-is-written b y was) in
+    let bytes : b ≡ frameBytes f = read-whole-is-written b y e in
+    -- what was read has the zero view in its unused places
+    let plain : f ≡ canonical f = ap (λ (z : List ℕ). readOf z .frame) bytes ∙ ap (λ (r : Reading). r .frame) (written-reads f (written .fits) (written .verdict)) in
+    let back : frameOf (recordBytes f) ≡ f = ap (λ (z : Frame). frameOf (recordBytes z)) plain ∙ record-back f (written .fits) (written .verdict) ∙ sym plain in
+    record {
+      kind = rw (kind-in f) (kind-known (f .message));
+      verdict = ap frameVerdict back ∙ written .verdict;
+      bytes = ap (λ (z : Frame). frameBytes z) back ∙ sym bytes;
+    }

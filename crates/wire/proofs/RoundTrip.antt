@@ -21,7 +21,9 @@ use Rattle.wire.specs.declared.Reading.{Reading}
 use Rattle.wire.specs.Format.{kindOf, numbersOf, bytesOf, viewsAllowed, contentOf}
 use Rattle.wire.specs.Reader.{viewCount, numbersPlace, numberCount, endOf, viewsIn, numberIn, scanOf, wholeOf, frameIn, given, readFront, readOf}
 use Rattle.wire.specs.Writer.{numberOf, frameBytes, frameVerdict, overwritten}
-use Rattle.wire.proofs.TripViews.{EachFits, AreBytes, get-fits, views-fit}
+pub use Rattle.wire.specs.Widths.{Fits}
+pub use Rattle.wire.specs.Promises.{canonical, asWritten, WrittenAs}
+use Rattle.wire.proofs.TripViews.{AreBytes, get-fits, views-fit}
 use Rattle.wire.proofs.TripWritten.{Holds, bytes-hold, held-reads}
 use Rattle.wire.proofs.TripRead.{Scanned, scanned, given-met, given-then, message-read, list-read, bytes-again, verdict-again}
 use Rattle.wire.proofs.TripMessages.{told-met, number-fits, sections-short}
@@ -30,22 +32,7 @@ use Rattle.views.proofs.PlaceLaws.{length-places, list-placed}
 use Rattle.wire.proofs.FormatLaws.{views-few}
 use Rattle.wire.proofs.WriterLaws.{length-bytes}
 
--- a frame's fields are within their widths, and its views have their 32 places
-pub record Fits (f : Frame) : Type 0 where
-  pub view : f .view .0 < 256 ^ 4
-  pub entry : (x : ℕ) → f .message ≡ Client x → x < 256 ^ 8
-  pub each : EachFits (listOf (f .views))
-  pub room : length (f .views .at) ≡ maxViews
-
--- the frame with the zero view in each unused place
-abbrev pub canonical : Frame → Frame
-canonical f = record { view = f .view; message = f .message; views = placed (listOf (f .views)) }
-
 -- ---- what is written is read
-
--- what the bytes of a frame read as
-abbrev pub asWritten : Frame → Reading
-asWritten f = record { verdict = Accepted; taken = length (frameBytes f); frame = canonical f }
 
 pub written-reads-back : (f : Frame) → Fits f → frameVerdict f ≡ Accepted → (rest : List ℕ)
     → readFront (frameBytes f ++ rest) ≡ asWritten f
@@ -77,12 +64,6 @@ pub buffer-reads-back : (f : Frame) → Fits f → frameVerdict f ≡ Accepted �
 buffer-reads-back f fit v b = written-reads-back f fit v (drop (length (frameBytes f)) b)
 
 -- ---- what is read is written
-
--- the bytes that the reading r took of b are those of its frame, a frame that the writer accepts
-pub record WrittenAs (b : List ℕ) (r : Reading) : Type 0 where
-  pub bytes : take (r .taken) b ≡ frameBytes (r .frame)
-  pub verdict : frameVerdict (r .frame) ≡ Accepted
-  pub fits : Fits (r .frame)
 
 frame-fits : (b : List ℕ) → AreBytes b → Scanned b → wholeOf b ≡ Accepted → Fits (frameIn b)
 unfolding numberIn

@@ -13,19 +13,7 @@ use Rattle.views.specs.Lists.{idOf, noView}
 use Rattle.wire.specs.Format.{viewBytes, viewsBytes}
 use Rattle.wire.specs.Reader.{viewIn, viewsIn}
 use Rattle.wire.proofs.SeamLaws.{length-viewBytes}
-
--- a view's fields are within their widths
-pub record ViewFits (v : View) : Type 0 where
-  pub id : idOf v < 256 ^ 4
-  pub set : v .set < 256
-
--- each view of a list: past its end stands the zero view, which fits
-abbrev pub EachFits : List View → Type 0
-EachFits l = (j : ℕ) → ViewFits (getD l j noView)
-
--- every byte is one; past the end stands 0
-abbrev pub AreBytes : List ℕ → Type 0
-AreBytes b = (j : ℕ) → getD b j 0 < 256
+pub use Rattle.wire.specs.Widths.{ViewFits, EachFits, AreBytes}
 
 -- ---- what is written is read
 

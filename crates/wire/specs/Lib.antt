@@ -1,4 +1,6 @@
+pub mod Widths
 pub mod Format
 pub mod Reader
 pub mod Writer
 pub mod Records
+pub mod Promises

@@ -139,7 +139,7 @@ module _ (size : ℕ) (weight : ℕ → ℕ) (n : Naming size) where
             known q g Plus2.new = (v, here, refl)
         attempt-beside (no x) =
             let fresh : (w : View) → In w (d .created) → idOf w ≢ idOf v = λ w h e. x (w, h, e) in
-            let first = D.create v (λ w h. (fresh w h, apart w h (fresh w h) (tri (idOf w) (idOf v)))) in (
+            let first = D.create v (p, from-named n ag v p hv own) (λ w h. (fresh w h, apart w h (fresh w h) (tri (idOf w) (idOf v)))) in (
               attemptS a p (idOf v),
               _,
               reach⁺,

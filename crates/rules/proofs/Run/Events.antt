@@ -62,7 +62,7 @@ module _ {M : Type 0} where
   -- ---- one step
 
   pub created-stays : {d e : Outer M} {k : List (Event M)} → Act d e k → (w : View) → In w (d .created) → In w (e .created)
-  created-stays (D.create v h) w i = pop i
+  created-stays (D.create v m h) w i = pop i
   created-stays (D.order p g m r h) w i = i
   created-stays (D.newView p v h t l) w i = i
   created-stays (D.registers p g h) w i = i
@@ -72,7 +72,7 @@ module _ {M : Type 0} where
 
   -- the view of a new-view event is created, and is the member's current view after it
   event-step : {d e : Outer M} {k : List (Event M)} → Act d e k → (p : ℕ) (v : View) → In (attempt p v) k → In v (e .created) × (suc (idOf v) ≡ e .current p)
-  event-step (D.create v h) q u i = absurd (in-nil i)
+  event-step (D.create v m h) q u i = absurd (in-nil i)
   event-step (D.order p g m r h) q u i = absurd (in-nil i)
   event-step {d} (D.newView p v h t l) q u top = (h, sym (upd-here p (suc (idOf v)) (d .current)))
   event-step (D.newView p v h t l) q u (pop i) = absurd (in-nil i)
@@ -82,7 +82,7 @@ module _ {M : Type 0} where
   event-step (D.safes p v x h c t z) q u (pop i) = absurd (in-nil i)
 
   current-rises : {d e : Outer M} {k : List (Event M)} → Act d e k → (p : ℕ) → d .current p ≤ e .current p
-  current-rises (D.create v h) p = omega arith
+  current-rises (D.create v m h) p = omega arith
   current-rises (D.order q g m r h) p = omega arith
   current-rises {d} (D.newView q v h t l) p = upd-up q (suc (idOf v)) (d .current) (omega arith) p
   current-rises (D.registers q g h) p = omega arith
@@ -93,7 +93,7 @@ module _ {M : Type 0} where
   -- a current view was current before, or the step showed it
   current-step : {d e : Outer M} {k : List (Event M)} → Act d e k → (p g : ℕ) → e .current p ≡ suc g
       → (d .current p ≡ suc g) ⊎ ((v : View) × (idOf v ≡ g) × In (attempt p v) k)
-  current-step (D.create v h) p g c = inl c
+  current-step (D.create v m h) p g c = inl c
   current-step (D.order q i m r h) p g c = inl c
   current-step {d} (D.newView q v h t l) p g c =
       upd-ind q (suc (idOf v)) (d .current) (λ r x. x ≡ suc g → (d .current r ≡ suc g) ⊎ ((u : View) × (idOf u ≡ g) × In {A = Event M} (attempt r u) (attempt q v ∷ [])))
@@ -105,7 +105,7 @@ module _ {M : Type 0} where
 
   -- who registered did so before, or does so now, in its current view
   registered-step : {d e : Outer M} {k : List (Event M)} → Act d e k → (g p : ℕ) → T (e .registered g p) → T (d .registered g p) ⊎ (In (register p g) k × (d .current p ≡ suc g))
-  registered-step (D.create v h) g p t = inl t
+  registered-step (D.create v m h) g p t = inl t
   registered-step (D.order q i m r h) g p t = inl t
   registered-step (D.newView q v h u l) g p t = inl t
   registered-step {d} (D.registers q i h) g p t =

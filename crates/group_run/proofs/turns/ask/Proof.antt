@@ -38,10 +38,9 @@ same-length-3 c = search needs
 returns : tie.Need-returns
 returns c =
     let a = c .before .before .before .before .before .before .before .before .before .before .before .before .before .before .before .before .before .args in
-    let kind = c .before .before .before .before .before .before .before .before .before .before .before .before .before .shared-slice-known .given (a .at) in
     let first = c .before .before .before .before .before .before .before .before .before .before .before .get-number .ensures in
     let second = c .before .before .before .before .before .before .before .before .before .before .get-number2 .ensures in
-    asked-as-held (a .steps .now) (a .at) _ _ (omega (arith, kind)) (first .0) (second .0) (first .1) (second .1) _ _ _ (c .before .before .before .before .before .before .step .ensures)
+    asked-as-held (a .steps .now) (a .at) _ _ (first .0) (second .0) (first .1) (second .1) _ _ _ (c .before .before .before .before .before .before .step .ensures)
 
 pub ask-spec : {M : Type 1} → statement M
 ask-spec =
