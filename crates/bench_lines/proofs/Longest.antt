@@ -18,6 +18,7 @@ use Rattle.events.specs.declared.Reply.{Reply}
 use Rattle.bench_lines.specs.Words.{bytes, space, lineFeed}
 use Rattle.bench_lines.specs.Numerals.{decimalBy, decimal}
 use Rattle.bench_lines.proofs.DecimalLaws.{by-small, by-step, tenth, decimal-length}
+use Rattle.bench_lines.specs.Promises.{Sized, RepliesFit}
 use Rattle.bench_lines.specs.ReplyLines.{numbersText, spoken, eventLine, verdictLine, replyLine, longestReply}
 
 -- a number below ten to the k + 1 has at most k + 1 digits
@@ -50,14 +51,6 @@ none-length = refl
 more-length : (x : ℕ) (xs : List ℕ) → length (numbersText (x ∷ xs)) ≡ 1 + length (decimal x) + length (numbersText xs)
 unfolding numbersText
 more-length x xs = length-append (space ∷ decimal x) (numbersText xs) ∙ omega arith
-
--- an event's numbers are within their types
-pub record Sized (e : Event) : Type 0 where
-  pub member : e .member .0 < 256
-  pub identifier : idOf (e .view) < 2 ^ 32
-  pub set : e .view .set < 256
-  pub sender : e .sender .0 < 256
-  pub entry : e .entry < 2 ^ 64
 
 four : (w : List ℕ) (p i q v : ℕ) → length w ≤ 4 → p < 256 → i < 2 ^ 32 → q < 256 → length (spoken w (p ∷ i ∷ q ∷ v ∷ [])) ≤ longestReply
 four w p i q v h a b c =
@@ -98,5 +91,5 @@ verdict-fits (Refused r) e s =
 
 -- ---- the theorem
 
-pub reply-fits : (r : Reply) → Sized (r .event) → length (replyLine r) ≤ longestReply
+pub reply-fits : RepliesFit
 reply-fits r s = verdict-fits (r .verdict) (r .event) s

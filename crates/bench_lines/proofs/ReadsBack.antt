@@ -9,6 +9,7 @@ use lib.Dec.{eqb, ltb}
 use borrow.Author.Tests.{le-leb, ltb-true, ltb-false, ne-eqb, eqb-true, eqb-false}
 use Rattle.views.proofs.SetLaws.{known}
 use Rattle.bench_lines.specs.declared.texts.numerals.Numeral.the-variants.{Number}
+use Rattle.bench_lines.specs.Promises.{ReadsBack}
 use Rattle.bench_lines.specs.Numerals.{isDigit, digitsOnly, begun, valueFrom, numeralOf, decimalBy, decimal}
 use Rattle.bench_lines.proofs.DecimalLaws.{by-none, by-small, by-step, tenth}
 
@@ -79,7 +80,7 @@ begun-by x h =
 
 -- ---- the theorem
 
-pub reads-back : (x max : ℕ) → x < 2 ^ 64 → x ≤ max → numeralOf max (decimal x) ≡ Number x
+pub reads-back : ReadsBack
 unfolding numeralOf
 reads-back x max h l =
     let k : x < 10 ^ 20 = omega arith in

@@ -4,3 +4,4 @@ pub mod TextParts
 pub mod Lines
 pub mod LineParts
 pub mod ReplyLines
+pub mod Promises

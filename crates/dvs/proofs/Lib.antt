@@ -5,3 +5,4 @@ pub mod EventLaws
 pub mod GroupLaws
 pub mod GroupNarrowing
 pub mod Chain
+pub mod Demand2

@@ -1,12 +1,21 @@
--- Demand 3 of a host's calls: a start of a group that gave 0, then calls of step, each on the ranges left before.
+-- Demand 3 of a host's calls: a start of a group that gave 0, then calls of step, each on the ranges left before. Demand
+-- 2 of its messages: what is read is written again, and what is written is read again.
+use mathlib.Core.Path.{_≡_}
 use mathlib.Core.List.{List, [], _++_}
-use Prim.Native.Nat.{ℕ}
+use Prim.Native.Nat.{ℕ, _≤_}
+use lib.ListN.{length, take}
 use Rattle.views.specs.Sets.{one}
+use Rattle.wire.specs.Widths.{AreBytes}
+use Rattle.wire.specs.Writer.{frameBytes, overwritten}
+use Rattle.wire.specs.Records.{recordSize, recordBytes, frameOf}
+use Rattle.wire.specs.Promises.{canonical}
 use Rattle.rules.specs.Data.{Step, Event as Outward}
 use Rattle.rules.specs.Promise.{Promised}
 use Rattle.group_bytes.specs.Groups.{Ranges}
 use Rattle.group_bytes.specs.Steps.{stepReply}
 use Rattle.group_bytes.specs.Promises.{shownBy, Given}
+use Rattle.c_answers.specs.Answers.{lengthSize, lengthBytes}
+use Rattle.dvs.specs.MessageCalls.{Reads, Writes}
 use Rattle.dvs.specs.GroupCalls.{Begins, Steps, stepping}
 
 -- from the ranges r to f by calls of dvs_group_step, each as its contract has it, and the events they show in order
@@ -19,3 +28,15 @@ pub data Called : Ranges → List (Outward ℕ) → Ranges → Type 0 where
 -- any steps that can be given, with event ranges of any bytes and lengths, refused ones among them
 abbrev pub Demand3 : Type 0
 Demand3 = (n S : ℕ) (r d f : Ranges) (l : List (Outward ℕ)) → Begins r n S d 0 → Called d l f → Promised one S l
+
+-- s are bytes over the line, m a message's record, o a buffer and l the bytes of a length, each before a call, and with
+-- a ' after it
+pub record Demand2 : Type 0 where
+  -- the record that dvs_read made of the bytes s, dvs_write writes as s, into any buffer that is long enough
+  pub read-then-written : (s m m' o o' l l' : List ℕ) (x : ℕ) → AreBytes s → Reads s m m' 0
+      → length s ≤ length o → length l ≡ lengthSize → Writes m' o o' l l' x
+      → (x ≡ 0) × (o' ≡ overwritten s o) × (l' ≡ lengthBytes (length s))
+  -- what dvs_write wrote of the record m, dvs_read gives as m, where what m does not use is 0
+  pub written-then-read : (m o o' l l' k k' : List ℕ) (x : ℕ) → AreBytes m → recordBytes (canonical (frameOf m)) ≡ m
+      → Writes m o o' l l' 0 → length k ≡ recordSize → Reads (take (length (frameBytes (frameOf m))) o') k k' x
+      → (x ≡ 0) × (k' ≡ m)

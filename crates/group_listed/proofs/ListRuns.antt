@@ -1,4 +1,4 @@
--- A list of steps put to records is that list put to their bytes: demand 3, and that 4 never comes, are those of the bytes.
+-- A list of steps put to records is that list put to their bytes: demands 2 and 3, and that 4 never comes, are those of the bytes.
 use mathlib.Core.Path.{_≡_, refl, _∙_, ap}
 use mathlib.Core.Bool.{true}
 use mathlib.Core.List.{List, _∷_}
@@ -17,7 +17,7 @@ use Rattle.group_bytes.specs.Steps.{stepRanges, lastRanges, repliesOf}
 use Rattle.group_bytes.specs.Promises.{eventsShown, AllGiven}
 use Rattle.group_bytes.proofs.GroupRuns.{demand3-ranges, never-wedged-ranges}
 use Rattle.group_listed.specs.Calls.{rangesOf, Began}
-use Rattle.group_listed.specs.Runs.{WentOn, done, then, Demand3, NeverWedged}
+use Rattle.group_listed.specs.Runs.{WentOn, done, then, Demand2, Demand3, NeverWedged}
 use Rattle.group_listed.proofs.ListBytes.{went-fits, went-ranges, began-group, began-fits, began-ranges}
 
 went-on : {l m : List View} {b q f g : List ℕ} {steps : List Step} {replies : List Reply} → EachFits l → WentOn l b q steps replies m f g
@@ -55,3 +55,13 @@ demand3-views = promised
 
 pub never-wedged-views : NeverWedged
 never-wedged-views = sound-still
+
+-- ---- demand 2
+
+pub demand2-views : Demand2
+demand2-views = record {
+  start-ranges = λ n S l k b q d e v w. began-ranges l b q n S k d e v w;
+  start-fits = λ n S l k b q d e w. began-fits l b q n S k d e Accepted w refl;
+  step-ranges = λ l k b q d e c x fits w. went-ranges l b q c k d e x w fits;
+  step-fits = λ l k b q d e c x fits w. went-fits l b q c k d e x w fits;
+}

@@ -1,12 +1,11 @@
 -- What pass gives out, deliver reads as that message, sent in the carrier view.
 use mathlib.Core.Path.{_≡_, refl, sym, ap, _∙_}
 use mathlib.Core.Logic.{⊎-elim}
-use mathlib.Core.Bool.{Bool, true, false, cond}
+use mathlib.Core.Bool.{true, false}
 use mathlib.Core.Option.{none, some}
 use mathlib.Core.List.{List, [], _∷_}
-use Prim.Native.Nat.{ℕ, zero, suc, _+_, _%_, _^_, _≤_, _<_}
+use Prim.Native.Nat.{ℕ, zero, suc, _+_, _^_, _≤_, _<_}
 use native.Mathlib.Omega.{arith}
-use lib.Dec.{eqb}
 use lib.ListN.{getD}
 use Rattle.views.specs.declared.View.{View}
 use Rattle.views.specs.declared.refusal.Refusal.{Refusal}
@@ -15,12 +14,11 @@ use Rattle.views.specs.Limits.{maxViews}
 use Rattle.views.specs.Lists.{idOf}
 use Rattle.views.proofs.SetLaws.{known}
 use Rattle.views.proofs.PlaceLaws.{length-places}
-use Rattle.wire.specs.declared.Message.the-variants.{Client, Info, Registered, Told}
 use Rattle.wire.specs.Widths.{AreBytes, Fits}
-use Rattle.wire.specs.Format.{clientKind, infoKind, registeredKind}
-use Rattle.wire.specs.Reader.{viewIn, viewsIn, messageOf, readOf}
+use Rattle.wire.specs.Reader.{viewIn, viewsIn, readOf}
 use Rattle.wire.specs.Writer.{frameBytes, frameVerdict}
 use Rattle.wire.proofs.TripViews.{get-fits, views-fit}
+use Rattle.wire.proofs.TripMessages.{client-number}
 use Rattle.wire.proofs.ReaderLaws.{list-viewsIn}
 use Rattle.rules.specs.Data.{Message, Entry, entry, Result, accepted, withFirst}
 use Rattle.rules.specs.Member.{Passing, passing, outgoes}
@@ -64,16 +62,6 @@ carrier-view b v e =
     (known (flagIn b carrierAt))
 
 -- ---- the frame of an entry in bytes is within its widths
-
-client-of : (a b c : Bool) (y z x : ℕ) → cond a (Client y) (cond b Info (cond c Registered (Told z))) ≡ Client x → x ≡ y
-client-of true b c y z x e = cc
-client-of false true c y z x e = let k : _≡_ {A = ℕ} 0 1 = cc in absurd (omega arith)
-client-of false false true y z x e = let k : _≡_ {A = ℕ} 0 1 = cc in absurd (omega arith)
-client-of false false false y z x e = let k : _≡_ {A = ℕ} 0 1 = cc in absurd (omega arith)
-
-client-number : (k y x : ℕ) → messageOf k y ≡ Client x → x ≡ y
-unfolding messageOf
-client-number k y x e = client-of (eqb k clientKind) (eqb k infoKind) (eqb k registeredKind) y (y % 256) x e
 
 frame-fits : (b : List ℕ) (at g : ℕ) → AreBytes b → g < 256 ^ 4 → framed b at ≤ maxViews → Fits (frameAt b at g)
 unfolding frameAt

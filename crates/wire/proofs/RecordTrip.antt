@@ -1,12 +1,12 @@
 -- Records and frames: the frame of a record's bytes is the frame they were stored from, and the record of a message, written and read again, is that record.
 use mathlib.Core.Path.{_≡_, refl, sym, ap, subst, _∙_}
 use mathlib.Core.Logic.{⊎-elim}
-use mathlib.Core.Bool.{true, false}
+use mathlib.Core.Bool.{Bool, true, false, cond}
 use mathlib.Core.List.{List, [], _∷_, _++_, append-assoc, append-nil}
 use Prim.Native.Nat.{ℕ, zero, suc, _^_, _<_}
 use native.Mathlib.Omega.{arith}
 use borrow.Author.Tests.{leb-true, eqb-true, eqb-false}
-use lib.Dec.{eqb, leb}
+use lib.Dec.{eqb, ltb, leb}
 use lib.ListN.{length, getD, take, replicate, length-append, length-take}
 use Rattle.numbers.specs.Number.{get, digits}
 use Rattle.numbers.proofs.NumberLaws.{length-digits, get-digits}
@@ -21,14 +21,15 @@ use Rattle.wire.specs.declared.Message.{Message}
 use Rattle.wire.specs.declared.Message.the-variants.{Client, Info, Registered, Told}
 use Rattle.wire.specs.declared.Frame.{Frame}
 use Rattle.wire.specs.declared.Reading.{Reading}
-use Rattle.wire.specs.Format.{kindOf, viewsBytes, isKnown, toldFits, viewsAllowed, contentOf}
+use Rattle.wire.specs.Format.{toldKind, kindOf, viewsBytes, isKnown, toldFits, viewsAllowed, contentOf}
 use Rattle.wire.specs.Reader.{viewsIn, readFront, readOf}
 use Rattle.wire.specs.Writer.{numberOf, frameBytes, frameVerdict}
 use Rattle.wire.proofs.VerdictLaws.{need-accepted}
-use Rattle.wire.proofs.TripViews.{ViewFits, EachFits, AreBytes, views-back}
-use Rattle.wire.proofs.TripMessages.{told-met, number-fits, message-back}
+use Rattle.wire.proofs.TripViews.{ViewFits, EachFits, AreBytes, get-fits, views-fit, views-back}
+use Rattle.wire.proofs.ReaderLaws.{length-viewsIn}
+use Rattle.wire.proofs.TripMessages.{told-met, number-fits, message-back, client-number}
 use Rattle.wire.proofs.RoundTrip.{Fits, canonical, WrittenAs, canonical-same-bytes, written-reads, read-is-written, read-takes-all, read-whole-is-written}
-use Rattle.wire.specs.Records.{recordKind, headBytes, recordBytes, counted, frameOf}
+use Rattle.wire.specs.Records.{recordKind, recordIdentifier, recordNumber, recordCount, recordViews, headBytes, recordBytes, counted, frameOf}
 use Rattle.wire.specs.Promises.{RecordOf}
 use Rattle.wire.proofs.RecordLaws.{length-head, counted-small, counted-other}
 
@@ -159,3 +160,29 @@ read-record-is-written b y e =
       verdict = ap frameVerdict back ∙ written .verdict;
       bytes = ap (λ (z : Frame). frameBytes z) back ∙ sym bytes;
     }
+
+-- ---- any record
+
+counted-few : (t u : Bool) (x : ℕ) → x < 256 ^ 8 → cond t (cond u x 0) x < 256 ^ 8
+counted-few true true x h = h
+counted-few true false x h = omega arith
+counted-few false u x h = h
+
+-- the frame that a record's bytes are is within its widths
+pub record-fits : (m : List ℕ) → AreBytes m → Fits (frameOf m)
+unfolding frameOf counted
+record-fits m y = record {
+  view = get-fits m recordIdentifier 4 y;
+  entry = λ x e.
+      let k = client-number (getD m recordKind 0) _ x e in
+      rw k (counted-few (eqb (getD m recordKind 0) toldKind) (ltb (get m recordNumber 8) 256) (get m recordNumber 8) (get-fits m recordNumber 8 y));
+  each = take-fit (get m recordCount 1) (viewsIn m recordViews maxViews) (views-fit m recordViews maxViews y);
+  room = length-viewsIn m recordViews maxViews;
+}
+
+-- what was read has its 32 places
+pub read-places : (b : List ℕ) → AreBytes b → readOf b .verdict ≡ Accepted → length (readOf b .frame .views .at) ≡ maxViews
+read-places b y e =
+    let same = read-takes-all b e .0 in
+    let was : readFront b .verdict ≡ Accepted = rw same at e in
+    rw same (read-is-written b y was .fits .room)

@@ -1,10 +1,10 @@
 -- The four messages: the kind and the number of each say which it is, and what an accepted verdict tells of a message.
 use mathlib.Core.Path.{_≡_, refl, sym}
-use mathlib.Core.Bool.{Bool, true, false}
+use mathlib.Core.Bool.{Bool, true, false, cond}
 use mathlib.Core.List.{List}
 use Prim.Native.Nat.{ℕ, zero, suc, _+_, _*_, _%_, _^_, _≤_, _<_}
 use native.Mathlib.Omega.{arith}
-use lib.Dec.{leb}
+use lib.Dec.{eqb, leb}
 use lib.ListN.{length}
 use borrow.Author.Tests.{leb-true, eqb-true}
 use Rattle.views.specs.declared.View.{View}
@@ -14,7 +14,7 @@ use Rattle.views.specs.Limits.{maxViews, maxOrdered, longest}
 use Rattle.views.specs.Sets.{both}
 use Rattle.wire.specs.declared.Message.{Message}
 use Rattle.wire.specs.declared.Message.the-variants.{Client, Info, Registered, Told}
-use Rattle.wire.specs.Format.{kindOf, numbersOf, isKnown, viewsAllowed, numbersAllowed, toldFits, contentOf}
+use Rattle.wire.specs.Format.{clientKind, infoKind, registeredKind, kindOf, numbersOf, isKnown, viewsAllowed, numbersAllowed, toldFits, contentOf}
 use Rattle.wire.specs.Reader.{messageOf}
 use Rattle.wire.specs.Writer.{numberOf}
 use Rattle.wire.proofs.VerdictLaws.{need-accepted}
@@ -121,3 +121,15 @@ sections-short (Client x) n e = omega (arith, eqb-true n 0 e)
 sections-short Info n e = omega (arith, leb-true n maxViews (both-second (leb 1 n) (leb n maxViews) e))
 sections-short Registered n e = omega (arith, eqb-true n 0 e)
 sections-short (Told k) n e = omega (arith, eqb-true n 0 e)
+
+-- ---- a message by its kind's number
+
+client-of : (a b c : Bool) (y z x : ℕ) → cond a (Client y) (cond b Info (cond c Registered (Told z))) ≡ Client x → x ≡ y
+client-of true b c y z x e = cc
+client-of false true c y z x e = let k : _≡_ {A = ℕ} 0 1 = cc in absurd (omega arith)
+client-of false false true y z x e = let k : _≡_ {A = ℕ} 0 1 = cc in absurd (omega arith)
+client-of false false false y z x e = let k : _≡_ {A = ℕ} 0 1 = cc in absurd (omega arith)
+
+pub client-number : (k y x : ℕ) → messageOf k y ≡ Client x → x ≡ y
+unfolding messageOf
+client-number k y x e = client-of (eqb k clientKind) (eqb k infoKind) (eqb k registeredKind) y (y % 256) x e
