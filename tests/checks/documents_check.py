@@ -5,24 +5,13 @@ bench and the stored example.
 
     python3 tests/checks/documents_check.py          says what is wrong, and exits with 1 where something is
     python3 tests/checks/documents_check.py write    puts the right counts into docs/TRUST.md"""
-import pathlib
 import re
 import sys
 
-ROOT = pathlib.Path(__file__).resolve().parents[2]
+from documents import ROOT, TRUST, files_of, function, host_functions
+
 DOCUMENTS = [ROOT / 'README.md'] + sorted((ROOT / 'docs').glob('*.md')) + sorted((ROOT / 'tests').glob('**/README.md'))
-TRUST = ROOT / 'docs' / 'TRUST.md'
 faults = []
-
-
-def files_of(cell):
-    """The files that a table's first cell names: a path, then names beside it, or in the folder of another crate."""
-    paths, folder = [], None
-    for name in re.findall(r'`([^`]+)`', cell):
-        path = ROOT / name if name.startswith('crates/') else ROOT / 'crates' / name if '/' in name else folder / name
-        folder = path.parent
-        paths.append(path)
-    return paths
 
 
 def lines(path):
@@ -72,23 +61,7 @@ named = believed()
 for path in sorted((ROOT / 'crates').glob('*/specs/**/*.antt')):
     if path not in named and not path.stem.endswith('Parts') and path.stem != 'Lib':
         faults.append('docs/TRUST.md does not name %s, and it is no Parts' % path.relative_to(ROOT))
-
-
-def function(crate, path):
-    """The text of a public function up to its body, or nothing."""
-    *modules, name = path.split('::')
-    source = ROOT / 'crates' / crate / 'src' / ('/'.join(modules) + '.rt' if modules else 'lib.rt')
-    found = re.search(r'^pub (?:extern "C" )?fn %s\(.*?^\{' % name, source.read_text(), re.M | re.S) if source.is_file() else None
-    return found and found.group(0)
-
-
-# what a host may call, by the table of docs/DECISIONS.md, and every exported function
-decided = (ROOT / 'docs' / 'DECISIONS.md').read_text().split('**What a host may call')[1].split('Every other public function')[0]
-called = [(crate, path) for crates, paths in re.findall(r'^  \| (`.*?) \| (.*) \|$', decided, re.M)
-          for crate in re.findall(r'`(\w+)`', crates) for path in re.findall(r'`([\w:]+)`', paths)]
-for source in sorted((ROOT / 'crates' / 'dvs' / 'src').glob('*.rt')):
-    called += [('dvs', source.stem + '::' + name) for name in re.findall(r'^pub extern "C" fn (\w+)', source.read_text(), re.M)]
-for crate, path in called:
+for crate, path in host_functions():
     contract = function(crate, path)
     if not contract:
         faults.append('docs/DECISIONS.md names %s::%s, which is no public function' % (crate, path))
