@@ -8,6 +8,5 @@ pub mod TripMessages
 pub mod TripWritten
 pub mod TripRead
 pub mod RoundTrip
-pub mod MessageCases
 pub mod RecordLaws
 pub mod RecordTrip
