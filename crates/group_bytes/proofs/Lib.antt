@@ -19,3 +19,4 @@ pub mod CreateGroup
 pub mod PassGroup
 pub mod StepGroup
 pub mod GroupRuns
+pub mod GroupReplies
