@@ -9,4 +9,4 @@ pub mod LineCases
 pub mod BufferLaws
 pub mod SpokenLaws
 pub mod Longest
-pub mod BenchCases
+pub mod ReplyCases

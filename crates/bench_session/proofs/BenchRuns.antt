@@ -59,7 +59,7 @@ steps-shown r (Step c ∷ l) h =
 
 -- ---- they can be given
 
-given-more : (c : Asked) (l : List Asked) → Given c → AllGiven l → AllGiven (c ∷ l)
+pub given-more : (c : Asked) (l : List Asked) → Given c → AllGiven l → AllGiven (c ∷ l)
 given-more c l g a d top = g
 given-more c l g a d (pop i) = a d i
 
@@ -69,7 +69,7 @@ given-by Unreadable l w a = a
 given-by (Group s) l w a = a
 given-by (Step c) l w a = given-more (asked (c .kind) (c .first) (c .second)) (stepsOf l) (wide-given (c .kind) (c .first) (c .second) w) a
 
-none-given : AllGiven []
+pub none-given : AllGiven []
 none-given c = elim [ ]
 
 steps-given : (m : List (List ℕ)) → AllGiven (stepsOf (linesOf m))

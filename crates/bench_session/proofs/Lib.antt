@@ -1,3 +1,4 @@
 pub mod AnswerLaws
 pub mod Widths
 pub mod BenchRuns
+pub mod WholeCase

@@ -20,3 +20,4 @@ pub mod PassGroup
 pub mod StepGroup
 pub mod GroupRuns
 pub mod Demand2
+pub mod GroupReplies

@@ -2,7 +2,6 @@
 use mathlib.Core.Path.{_≡_, refl, ap, fun-ext}
 use mathlib.Core.Logic.{_⊎_, inl, inr, ⊎-elim}
 use mathlib.Core.Bool.{Bool, true, false, cond}
-use mathlib.Core.List.{List, [], _∷_}
 use Prim.Native.Nat.{ℕ, zero, suc, _+_, _*_, _<_, _≤_}
 use native.Mathlib.Omega.{arith}
 use borrow.Author.Tests.{ltb-true}
@@ -64,29 +63,3 @@ majorities-meet s t h i j =
     (omega (arith, size-common s h, ltb-true (size h) (2 * size (inCommon s h)) i))
     (omega (arith, size-common t h, ltb-true (size h) (2 * size (inCommon t h)) j)) in
     (r .0, r .1, r .2, r .3)
-
--- ---- worked examples
-
-pub record Example : Type 0 where
-  pub set : ℕ
-  pub held : ℕ
-  pub passes : Bool
-
--- sets with bit 0 for member 0, as 'Views that pass and fail' has them
-abbrev pub examples : List Example
-examples =
-    record { set = 0b11100; held = 0b11111; passes = true }
-    ∷ record { set = 0b00011; held = 0b11111; passes = false }
-    ∷ record { set = 0b11100; held = 0b00111; passes = false }
-    ∷ record { set = 0b00011; held = 0b00111; passes = true }
-    ∷ record { set = 0b00011; held = 0b01111; passes = false }
-    ∷ []
-
--- the test gives each row's answer
-abbrev pub Agrees : List Example → Type 0
-Agrees [] = Unit {0}
-Agrees (e ∷ l) = (majorityOf (e .set) (e .held) ≡ e .passes) × Agrees l
-
-pub examples-agree : Agrees examples
-unfolding majorityOf weigh has inCommon
-examples-agree = (refl, (refl, (refl, (refl, (refl, tt)))))

@@ -8,7 +8,6 @@ pub mod TripMessages
 pub mod TripWritten
 pub mod TripRead
 pub mod RoundTrip
-pub mod MessageCases
 pub mod RecordLaws
 pub mod RecordTrip
 pub mod Demand2
