@@ -4,6 +4,7 @@ mod pieces;
 
 ghost use lib.ListN.{length};
 ghost use Prim.Native.Nat.{_≤_};
+ghost use Rattle.bench_lines.specs.ReplyLines.{longestReply};
 
 // The bench lends 8 view records, and the books and queues that go with them.
 const ROOM: usize = 8;
@@ -23,7 +24,9 @@ fn main() {
 
 // Round after round until the input ends. A proved loop has to end, so it counts down from a number that no run uses
 // up.
-fn run(list: &mut [u8], all: &mut [u8], queues: &mut [u8], input: &mut [u8], out: &mut [u8]) {
+fn run(list: &mut [u8], all: &mut [u8], queues: &mut [u8], input: &mut [u8], out: &mut [u8])
+    requires { ⌜ longestReply ≤ length (now out) ⌝ }
+{
     let mut running = false;
     let mut held: usize = 0;
     let mut turns = u64::MAX;
@@ -48,7 +51,9 @@ fn finish(
     running: bool,
     line: &[u8],
     out: &mut [u8],
-) {
+)
+    requires { ⌜ longestReply ≤ length (now out) ⌝ }
+{
     if line.len() == 0 {
         return;
     }
@@ -73,6 +78,7 @@ fn answer_all(
     input: &[u8],
     out: &mut [u8],
 ) -> Turn
+    requires { ⌜ longestReply ≤ length (now out) ⌝ }
     ensures { λ r. ⌜ r .at ≤ length (now (input .entry)) ⌝ }
 {
     let mut now_running = running;

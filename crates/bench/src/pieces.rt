@@ -5,6 +5,9 @@ use libc::STDOUT_FILENO;
 ghost use Prim.Native.Nat.{_+_, _≤_, min};
 ghost use lib.ListN.{length};
 ghost use mathlib.Core.Path.{_≡_};
+ghost use Rattle.bench_lines.specs.TextParts.{Put};
+ghost use Rattle.bench_lines.specs.ReplyLines.{replyLine, longestReply};
+ghost use Rattle.bench.specs.PieceParts.{Filled, Kept, placeFor};
 
 // A line longer than the longest that is read is unreadable whatever follows: so many bytes of an unfinished one tell.
 const KEPT: usize = bench_lines::lines::LONGEST_LINE + 1;
@@ -12,7 +15,7 @@ const KEPT: usize = bench_lines::lines::LONGEST_LINE + 1;
 // One read behind the bytes that are held; how many bytes of the buffer count then.
 pub fn fill(input: &mut [u8], held: usize) -> usize
     requires { ⌜ held ≤ length (now input) ⌝ }
-    ensures { λ r. ⌜ (held ≤ r) × (r ≤ length (now (input .exit))) ⌝ }
+    ensures { λ r. ⌜ Filled held (now (input .entry)) (now (input .exit)) r ⌝ }
 {
     let got = libc::read(STDIN_FILENO, &mut input[held..]);
     held + io::count(got, &input[held..])
@@ -28,7 +31,7 @@ pub fn line_after(s: &[u8], end: usize) -> usize
 // What the unfinished line from `at` to n has goes to the front, as far as it tells; how many bytes that is.
 pub fn keep(input: &mut [u8], at: usize, n: usize) -> usize
     requires { ⌜ n ≤ length (now input) ⌝ }
-    ensures { λ r. ⌜ r ≤ length (now (input .exit)) ⌝ }
+    ensures { λ r. ⌜ Kept at n (now (input .entry)) (now (input .exit)) r ⌝ }
 {
     let mut i: usize = 0;
     while i < KEPT {
@@ -51,14 +54,16 @@ pub fn send(out: &[u8], filled: usize)
     io::write_all(STDOUT_FILENO, &out[..filled]);
 }
 
-// A reply's line goes behind the bytes that are filled; those are written first where there is no room for any reply.
+// A reply's line goes behind the bytes that are filled; those are written first where there is no room for every reply.
 pub fn say(out: &mut [u8], filled: usize, r: Reply) -> usize
-    requires { ⌜ filled ≤ length (now out) ⌝ }
-    ensures { λ n. ⌜ n ≤ length (now (out .exit)) ⌝ }
+    requires { ⌜ (filled ≤ length (now out)) × (longestReply ≤ length (now out)) ⌝ }
+    ensures { λ n. ⌜ Put (replyLine r) (now (out .entry)) (placeFor filled (now (out .entry))) (now (out .exit)) n ⌝ }
 {
     if out.len() - filled < bench_lines::replies::LONGEST_REPLY {
         send(out, filled);
-        return bench_lines::replies::write(out, r);
+        let w = bench_lines::replies::write(out, r);
+        return w.length;
     }
-    filled + bench_lines::replies::write(&mut out[filled..], r)
+    let w = bench_lines::replies::write(&mut out[filled..], r);
+    filled + w.length
 }

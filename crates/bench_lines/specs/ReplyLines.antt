@@ -5,12 +5,14 @@ use mathlib.Core.List.{List, [], _∷_, _++_}
 use Prim.Native.Nat.{ℕ}
 use lib.Dec.{eqb, leb}
 use lib.ListN.{length}
+use Rattle.views.specs.declared.refusal.Refusal.the-variants.{BufferTooShort}
 use Rattle.views.specs.declared.refusal.Verdict.{Verdict}
 use Rattle.views.specs.declared.refusal.Verdict.the-variants.{Accepted, Refused}
 use Rattle.events.specs.Kinds.{attemptKind, registerKind, sendKind, handKind, safeKind}
-use Rattle.views.specs.Refusals.{numberOf}
+use Rattle.views.specs.Refusals.{numberOf, require, left}
 use Rattle.views.specs.Lists.{idOf}
-use Rattle.wire.specs.Writer.{overwritten}
+use Rattle.wire.specs.declared.Written.{Written}
+use Rattle.wire.specs.Writer.{writtenOf, overwritten}
 use Rattle.events.specs.declared.Event.{Event}
 use Rattle.events.specs.declared.Reply.{Reply}
 use Rattle.bench_lines.specs.Words.{bytes, space, lineFeed}
@@ -56,7 +58,11 @@ longestReply = 45
 
 -- ---- what a call gives and leaves
 
--- the line is at the front of the buffer and its length given; a buffer too short for it is as it was, and 0 given
-pub record Wrote (line entry exit : List ℕ) (n : ℕ) : Type 0 where
-  pub count : n ≡ cond (leb (length line) (length entry)) (length line) 0
-  pub buffer : exit ≡ cond (leb (length line) (length entry)) (overwritten line entry) entry
+-- 39 for a buffer with less room than the line has bytes
+unfoldable pub lineVerdict : List ℕ → ℕ → Verdict
+lineVerdict line room = require (leb (length line) room) BufferTooShort Accepted
+
+-- the number of bytes written, or the refusal alone; the line at the front of the buffer, or the buffer as it was
+pub record Wrote (line entry exit : List ℕ) (r : Written) : Type 0 where
+  pub reply : r ≡ writtenOf (lineVerdict line (length entry)) (length line)
+  pub buffer : exit ≡ left (lineVerdict line (length entry)) (overwritten line entry) entry

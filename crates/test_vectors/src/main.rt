@@ -6,6 +6,10 @@ mod parse;
 mod show;
 
 use wire::Frame;
+ghost use mathlib.Core.Path.{_≡_};
+ghost use lib.ListN.{length};
+ghost use Rattle.views.specs.Refusals.{left};
+ghost use Rattle.wire.specs.Writer.{frameBytes, writeVerdict, overwritten};
 
 fn main() {
     let mut input = io::large_buffer();
@@ -61,7 +65,10 @@ fn write_line(line: &[u8]) {
 }
 
 // The whole buffer is shown, so that what lies behind the message is seen to stay.
-fn write_frame(b: &mut [u8], f: Frame) {
+fn write_frame(b: &mut [u8], f: Frame)
+    ensures { λ _. ⌜ now (b .exit) ≡ left (writeVerdict f (length (now (b .entry))))
+        (overwritten (frameBytes f) (now (b .entry))) (now (b .entry)) ⌝ }
+{
     let w = wire::writer::write(b, f);
     crate::show::written(w);
     test_script::show::hex(b);

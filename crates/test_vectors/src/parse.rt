@@ -4,10 +4,14 @@ use views::ViewId;
 use views::list::Views;
 use wire::Frame;
 ghost use Prim.Native.Nat.{_≤_, _<_};
+ghost use mathlib.Core.Path.{_≡_};
+ghost use lib.ListN.{drop};
+ghost use Rattle.views.specs.Lists.{placed};
+ghost use Rattle.test_vectors.specs.LineParts.{endsAt, Numbered, viewAt, viewsFrom, frameOf};
 
 // How many numbers end at a byte: a space or a colon ends one.
 fn ends(c: u8) -> usize
-    ensures { λ r. ⌜ r ≤ 1 ⌝ }
+    ensures { λ r. ⌜ (r ≤ 1) × (r ≡ endsAt c) ⌝ }
 {
     if c == b' ' {
         return 1;
@@ -20,7 +24,7 @@ fn ends(c: u8) -> usize
 
 // The numbers from `from` on, and how many they are.
 pub fn numbers(line: &[u8], from: usize, xs: &mut [u64; 640]) -> usize
-    ensures { λ r. ⌜ r ≤ 640 ⌝ }
+    ensures { λ r. ⌜ Numbered (drop from (now (line .entry))) (now (xs .entry)) (now (xs .exit)) r ⌝ }
 {
     let mut n: usize = 0;
     let mut i = from;
@@ -40,6 +44,7 @@ pub fn numbers(line: &[u8], from: usize, xs: &mut [u64; 640]) -> usize
 // The view at a place of the numbers: its identifier, then its set.
 fn view(xs: &[u64; 640], at: usize) -> View
     requires { ⌜ at < 639 ⌝ }
+    ensures { λ r. ⌜ r ≡ viewAt (now (xs .entry)) at ⌝ }
 {
     View {
         id: ViewId((xs[at] % 4294967296) as u32),
@@ -48,7 +53,9 @@ fn view(xs: &[u64; 640], at: usize) -> View
 }
 
 // The n views from the fifth number on.
-fn views(xs: &[u64; 640], n: usize) -> Views {
+fn views(xs: &[u64; 640], n: usize) -> Views
+    ensures { λ r. ⌜ r ≡ placed (viewsFrom (now (xs .entry)) 4 n) ⌝ }
+{
     let none = View {
         id: ViewId(0),
         set: 0,
@@ -67,7 +74,9 @@ fn views(xs: &[u64; 640], n: usize) -> Views {
 }
 
 // The frame that n numbers say.
-pub fn frame(xs: &[u64; 640], n: usize) -> Frame {
+pub fn frame(xs: &[u64; 640], n: usize) -> Frame
+    ensures { λ r. ⌜ r ≡ frameOf (now (xs .entry)) n ⌝ }
+{
     let count = if n < 4 { 0 } else { (n - 4) / 2 };
     let list = views(xs, count);
     Frame {

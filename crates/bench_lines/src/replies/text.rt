@@ -5,7 +5,9 @@ use crate::texts::words;
 use events::Event;
 use events::Reply;
 use events::kinds;
+use views::refusal::Refusal;
 use views::refusal::Verdict;
+use wire::Written;
 ghost use Prim.Native.Nat.{_≤_};
 ghost use lib.ListN.{length};
 ghost use Rattle.bench_lines.specs.TextParts.{Put};
@@ -81,11 +83,18 @@ pub fn put_reply(text: &mut [u8], r: Reply) -> usize
 }
 
 // The line goes to the front of a buffer that has room for it.
-pub fn put_front(out: &mut [u8], line: &[u8]) -> usize
-    ensures { λ n. ⌜ Wrote (now (line .entry)) (now (out .entry)) (now (out .exit)) n ⌝ }
+pub fn put_front(out: &mut [u8], line: &[u8]) -> Written
+    ensures { λ w. ⌜ Wrote (now (line .entry)) (now (out .entry)) (now (out .exit)) w ⌝ }
 {
     if out.len() < line.len() {
-        return 0;
+        return Written {
+            verdict: Verdict::Refused(Refusal::BufferTooShort),
+            length: 0,
+        };
     }
-    put(out, 0, line)
+    let length = put(out, 0, line);
+    Written {
+        verdict: Verdict::Accepted,
+        length,
+    }
 }

@@ -1,26 +1,28 @@
--- The bytes kept are among those that count, and each turn keeps one more.
-use mathlib.Core.Path.{_≡_}
+-- Each turn has one byte more at the front.
+use Rattle.bench.specs.PieceParts.{keptCount}
+use mathlib.Core.Path.{_≡_, refl}
 use Prim.Native.Nat.{_-_, _≤_}
 use native.Mathlib.Omega.{arith}
 use borrow.Author.Needs.{needs}
 use lib.ListN.{length, length-set}
+use Rattle.bench.proofs.PieceLaws.{moved, moved-none, moved-turn, kept-all}
 use Rattle.bench.proofs.pieces.keep.Statement.{statement}
 use Rattle.bench.proofs.pieces.keep.Tie as tie
 
 abbrev Inv-loop : tie.InvT-loop
-Inv-loop input₀ at n i₀ input i = (i ≤ n) × (length input ≡ length input₀)
+Inv-loop input₀ at n i₀ input i = (i ≤ keptCount at n) × (length input ≡ length input₀) × (input ≡ moved input₀ at i)
 
 abbrev μ-loop : tie.MeasureT-loop
 μ-loop input₀ at n i₀ input i = 65 - i
 
 loop-holds : tie.Need-loop-holds Inv-loop μ-loop
-loop-holds c = search needs
+loop-holds c = (omega arith, refl, moved-none (c .args .input .now) (c .args .at))
 
 same-length : tie.Need-same-length Inv-loop μ-loop
 same-length c = search needs
 
 returns : tie.Need-returns Inv-loop μ-loop
-returns c = search needs
+returns c = kept-all (c .before .before .before .args .input .now) _ (c .before .before .before .args .at) (c .before .before .before .args .n) (c .before .before .loop .i) (c .before .before .before .pre) (omega arith) (c .before .before .loop .inv .2)
 
 sub-if2 : tie.Need-sub-if2 Inv-loop μ-loop
 sub-if2 c = search needs
@@ -29,7 +31,7 @@ same-length-2 : tie.Need-same-length-2 Inv-loop μ-loop
 same-length-2 c = search needs
 
 returns-2 : tie.Need-returns-2 Inv-loop μ-loop
-returns-2 c = search needs
+returns-2 c = kept-all (c .before .before .before .before .args .input .now) _ (c .before .before .before .before .args .at) (c .before .before .before .before .args .n) (c .before .before .before .loop .i) (c .before .before .before .before .pre) (omega arith) (c .before .before .before .loop .inv .2)
 
 add-input : tie.Need-add-input Inv-loop μ-loop
 add-input c = search needs
@@ -47,13 +49,13 @@ loop-less : tie.Need-loop-less Inv-loop μ-loop
 loop-less c = search needs
 
 loop-again : tie.Need-loop-again Inv-loop μ-loop
-loop-again c = simp length-set (omega arith)
+loop-again c = (omega arith, simp length-set (c .before .before .before .before .loop .inv .1), rw (c .before .before .before .before .loop .inv .2) (moved-turn (c .before .before .before .before .before .args .input .now) (c .before .before .before .before .before .args .at) (c .before .before .before .before .loop .i) (omega arith)))
 
 same-length-3 : tie.Need-same-length-3 Inv-loop μ-loop
 same-length-3 c = search needs
 
 returns-3 : tie.Need-returns-3 Inv-loop μ-loop
-returns-3 c = search needs
+returns-3 c = kept-all (c .before .before .args .input .now) _ (c .before .before .args .at) (c .before .before .args .n) (c .before .loop .i) (c .before .before .pre) (omega arith) (c .before .loop .inv .2)
 
 pub keep-spec : {M : Type 1} → statement M
 keep-spec =

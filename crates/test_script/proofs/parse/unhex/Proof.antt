@@ -1,27 +1,28 @@
--- At most as many bytes are stored as there is room for, and each turn has two more digits.
-use mathlib.Core.Path.{_≡_}
-use Prim.Native.Nat.{_-_, _≤_}
-use borrow.Author.Needs.{needs}
+-- The bytes that are stored, and those of the digits that are left, are the bytes of all digits.
+use Prim.Native.Nat.{_-_}
 use native.Mathlib.Omega.{arith}
+use borrow.Author.Needs.{needs}
+use lib.ListN.{length, drop}
 use Rattle.io.proofs.Counting.{counts}
-use lib.ListN.{length, length-set}
+use Rattle.test_script.specs.ParseParts.{unhexed}
+use Rattle.test_script.proofs.ParseLaws.{Halfway, half-start, half-turn, half-end, no-digits, one-digit, no-room}
 use Rattle.test_script.proofs.parse.unhex.Statement.{statement}
 use Rattle.test_script.proofs.parse.unhex.Tie as tie
 
 abbrev Inv-loop : tie.InvT-loop
-Inv-loop line from bytes₀ n₀ i₀ bytes n i = (n ≤ length bytes) × (length bytes ≡ length bytes₀)
+Inv-loop line from bytes₀ n₀ i₀ bytes n i = Halfway (unhexed (length bytes₀) (drop from line)) line bytes₀ bytes n i
 
 abbrev μ-loop : tie.MeasureT-loop
 μ-loop line from bytes₀ n₀ i₀ bytes n i = length bytes₀ - n
 
 loop-holds : tie.Need-loop-holds Inv-loop μ-loop
-loop-holds c = search needs
+loop-holds c = half-start (c .before .before .args .line .now) (c .before .before .args .bytes .now) (c .before .before .args .from)
 
 same-length : tie.Need-same-length Inv-loop μ-loop
 same-length c = search needs
 
 returns : tie.Need-returns Inv-loop μ-loop
-returns c = counts _ _ (omega arith)
+returns c = (counts _ _ (c .before .before .loop .inv .room), half-end _ (c .before .before .before .before .before .args .line .now) (c .before .before .before .before .before .args .bytes .now) (c .before .before .loop .bytes) (c .before .before .loop .n) (c .before .before .loop .i) (c .before .before .loop .inv) (no-digits (c .before .before .before .before .before .args .line .now) _ (c .before .before .loop .i) (omega arith)))
 
 sub-if2 : tie.Need-sub-if2 Inv-loop μ-loop
 sub-if2 c = search needs
@@ -30,7 +31,7 @@ same-length-2 : tie.Need-same-length-2 Inv-loop μ-loop
 same-length-2 c = search needs
 
 returns-2 : tie.Need-returns-2 Inv-loop μ-loop
-returns-2 c = counts _ _ (omega arith)
+returns-2 c = (counts _ _ (c .before .before .before .loop .inv .room), half-end _ (c .before .before .before .before .before .before .args .line .now) (c .before .before .before .before .before .before .args .bytes .now) (c .before .before .before .loop .bytes) (c .before .before .before .loop .n) (c .before .before .before .loop .i) (c .before .before .before .loop .inv) (one-digit (c .before .before .before .before .before .before .args .line .now) _ (c .before .before .before .loop .i) (omega arith)))
 
 shared-slice-read-nibble : tie.Need-shared-slice-read-nibble Inv-loop μ-loop
 shared-slice-read-nibble c = search needs
@@ -66,13 +67,13 @@ loop-less : tie.Need-loop-less Inv-loop μ-loop
 loop-less c = search needs
 
 loop-again : tie.Need-loop-again Inv-loop μ-loop
-loop-again c = simp length-set (omega arith)
+loop-again c = half-turn _ (c .before .before .before .before .before .before .before .before .before .before .args .line .now) (c .before .before .before .before .before .before .before .before .before .before .args .bytes .now) (c .before .before .before .before .before .before .before .loop .bytes) (c .before .before .before .before .before .before .before .loop .n) (c .before .before .before .before .before .before .before .loop .i) (c .before .before .nibble .result) (c .nibble2 .result) (c .before .before .before .before .before .before .before .loop .inv) (omega arith) (omega arith) (c .before .before .nibble .ensures .1) (c .nibble2 .ensures .1)
 
 same-length-3 : tie.Need-same-length-3 Inv-loop μ-loop
 same-length-3 c = search needs
 
 returns-3 : tie.Need-returns-3 Inv-loop μ-loop
-returns-3 c = counts _ _ (omega arith)
+returns-3 c = (counts _ _ (c .before .loop .inv .room), half-end _ (c .before .before .before .before .args .line .now) (c .before .before .before .before .args .bytes .now) (c .before .loop .bytes) (c .before .loop .n) (c .before .loop .i) (c .before .loop .inv) (no-room (drop (c .before .loop .i) (c .before .before .before .before .args .line .now)) _ (omega arith)))
 
 pub unhex-spec : {M : Type 1} → statement M
 unhex-spec =

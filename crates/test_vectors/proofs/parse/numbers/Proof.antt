@@ -1,21 +1,23 @@
--- The place of the number that is read is kept below 640.
-use Prim.Native.Nat.{_-_, _<_}
+-- The numbers read so far, with those of the bytes that are left, are the numbers of all bytes.
+use Prim.Native.Nat.{_-_}
+use native.Mathlib.Omega.{arith}
 use borrow.Author.Needs.{needs}
-use lib.ListN.{length}
+use lib.ListN.{length, drop}
+use Rattle.test_vectors.proofs.LineLaws.{Halfway, half-start, half-turn, half-full, half-end}
 use Rattle.test_vectors.proofs.parse.numbers.Statement.{statement}
 use Rattle.test_vectors.proofs.parse.numbers.Tie as tie
 
 abbrev Inv-loop : tie.InvT-loop
-Inv-loop line from xs₀ n₀ i₀ xs n i = n < 640
+Inv-loop line from xs₀ n₀ i₀ xs n i = Halfway (drop from line) line xs₀ xs n i
 
 abbrev μ-loop : tie.MeasureT-loop
 μ-loop line from xs₀ n₀ i₀ xs n i = length line - i
 
 loop-holds : tie.Need-loop-holds Inv-loop μ-loop
-loop-holds c = search needs
+loop-holds c = half-start (c .before .args .line .now) (c .before .args .xs .now) (c .before .args .from)
 
 returns : tie.Need-returns Inv-loop μ-loop
-returns c = search needs
+returns c = half-full _ (c .before .before .before .before .args .line .now) (c .before .before .before .before .args .xs .now) (c .before .before .loop .xs) (c .before .before .loop .n) (c .before .before .loop .i) (c .before .before .loop .inv) (omega arith) (c .if1 .taken)
 
 shared-slice-read-c : tie.Need-shared-slice-read-c Inv-loop μ-loop
 shared-slice-read-c c = search needs
@@ -48,13 +50,13 @@ loop-less : tie.Need-loop-less Inv-loop μ-loop
 loop-less c = search needs
 
 loop-again : tie.Need-loop-again Inv-loop μ-loop
-loop-again c = search needs
+loop-again c = half-turn _ (c .before .before .before .before .before .before .before .before .args .line .now) (c .before .before .before .before .before .before .before .before .args .xs .now) (c .before .before .before .before .before .before .loop .xs) (c .before .before .before .before .before .before .loop .n) (c .before .before .before .before .before .before .loop .i) (c .before .push .result) (c .ends .result) (c .before .before .before .before .before .before .loop .inv) (omega arith) (c .before .before .before .before .if1 .left) (omega arith) (c .before .push .ensures) (c .ends .ensures .1)
 
 add-result : tie.Need-add-result Inv-loop μ-loop
 add-result c = search needs
 
 returns-2 : tie.Need-returns-2 Inv-loop μ-loop
-returns-2 c = search needs
+returns-2 c = half-end _ (c .before .before .before .args .line .now) (c .before .before .before .args .xs .now) (c .before .loop .xs) (c .before .loop .n) (c .before .loop .i) (c .before .loop .inv) (omega arith)
 
 pub numbers-spec : {M : Type 1} → statement M
 numbers-spec =

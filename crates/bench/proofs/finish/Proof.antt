@@ -1,0 +1,47 @@
+-- The reply goes to the front of the buffer.
+use native.Mathlib.Omega.{arith}
+use Rattle.bench.proofs.PieceLaws.{said-within}
+use borrow.Author.Needs.{needs}
+use Rattle.bench.proofs.finish.Statement.{statement}
+use Rattle.bench.proofs.finish.Tie as tie
+
+returns : tie.Need-returns
+returns c = search needs
+
+answer-requires : tie.Need-answer-requires
+answer-requires c κs = search needs
+
+say-requires : tie.Need-say-requires
+say-requires c κs = search needs
+
+send-requires : tie.Need-send-requires
+send-requires c κs = said-within _ (c .before .before .before .before .before .before .before .before .before .before .before .before .before .before .before .before .before .before .before .before .before .before .args .out .now) _ 0 _ (omega arith) (c .before .before .before .say .ensures)
+
+same-length : tie.Need-same-length
+same-length c = search needs
+
+same-length-2 : tie.Need-same-length-2
+same-length-2 c = search needs
+
+same-length-3 : tie.Need-same-length-3
+same-length-3 c = search needs
+
+same-length-4 : tie.Need-same-length-4
+same-length-4 c = search needs
+
+returns-2 : tie.Need-returns-2
+returns-2 c = search needs
+
+pub finish-spec : {M : Type 1} → statement M
+finish-spec =
+    tie.close
+    (tie.spec
+    returns
+    answer-requires
+    say-requires
+    send-requires
+    same-length
+    same-length-2
+    same-length-3
+    same-length-4
+    returns-2)
