@@ -1,7 +1,8 @@
 // The list by itself, as a slice of records of which the first ones are made: a view is looked up by its identifier,
-// and the next view is filled. Of a list that is too long for a group the first 32 records count.
+// and the next view is filled. Create asks first whether the list is sound; lookup takes any list.
 use views::View;
 use views::ViewId;
+use views::limits;
 use views::list;
 use views::list::Lookup;
 use views::list::Views;
@@ -9,9 +10,14 @@ use views::refusal::Refusal;
 use views::refusal::Verdict;
 ghost use mathlib.Core.Path.{_≡_};
 ghost use lib.ListN.{take};
+ghost use Rattle.views.specs.Limits.{maxViews};
 ghost use Rattle.views.specs.Lists.{listOf, findOf};
+ghost use Rattle.rules.specs.Sound.{setFits};
+ghost use Rattle.rules.specs.Member.{all};
+ghost use Rattle.rules.specs.Group.{creates};
 ghost use Rattle.events.specs.Replies.{verdictOf};
-ghost use Rattle.group_listed.specs.Creates.{madeIn, creating, atOf, CreatedBy, Created};
+ghost use Rattle.group_listed.specs.Creates.{madeIn, listGroup, Created};
+ghost use Rattle.group_listed.specs.CreateParts.{countsFit, soundBy, creatingBy, atOf, CreatedBy};
 ghost use Rattle.group_steps.specs.CarrierParts.{allBelow};
 
 // What a create gives, and the place of the list at which it puts a view.
@@ -41,12 +47,65 @@ fn found(l: Views, made: usize, id: ViewId) -> Lookup
     list::find(views, id)
 }
 
-// The view with the identifier among the views made of the list.
+// The view with the identifier among the views made of the list. Any list and any number made will do: of the views
+// made the first 32 are looked at, and past the end of the list there is none.
 pub fn lookup(list: &[View], made: usize, id: ViewId) -> Lookup
-    ensures { λ r. ⌜ r ≡ findOf (id .0) (madeIn made (now (list .entry))) ⌝ }
+    ensures { λ r. ⌜ r ≡ findOf (id .0) (take maxViews (madeIn made (now (list .entry)))) ⌝ }
 {
     let l = crate::slice::listed(list);
     found(l, made, id)
+}
+
+// The members, the list's records and those made are as many as there can be.
+fn counts_fit(members: u8, room: usize, made: usize) -> bool
+    ensures { λ r. ⌜ r ≡ countsFit members room made ⌝ }
+{
+    if members < 1 {
+        return false;
+    }
+    if limits::MEMBERS < members {
+        return false;
+    }
+    if room < 1 {
+        return false;
+    }
+    if limits::VIEWS < room {
+        return false;
+    }
+    if made < 1 {
+        return false;
+    }
+    made <= room
+}
+
+// Every set fits.
+fn sets_fit(l: Views, members: u8) -> bool
+    ensures { λ r. ⌜ r ≡ all (setFits members) (listOf l) ⌝ }
+{
+    let n = list::used(l.count);
+    let mut i = 0;
+    while i < n {
+        let v = l.at[i];
+        if !sets::fits(members, v.set) {
+            return false;
+        }
+        i += 1;
+    }
+    true
+}
+
+// The list is sound, with so many made.
+fn sound(l: Views, made: usize, members: u8) -> bool
+    ensures { λ r. ⌜ r ≡ soundBy members made l ⌝ }
+{
+    if !counts_fit(members, l.count, made) {
+        return false;
+    }
+    let views = first(l, made);
+    if !list::rising(views) {
+        return false;
+    }
+    sets_fit(views, members)
 }
 
 // The identifier is above those of all views.
@@ -66,13 +125,10 @@ fn above(l: Views, id: ViewId) -> bool
 }
 
 // 7, 8, 9.
-fn verdict(l: Views, room: usize, id: ViewId, set: u8, members: u8) -> Verdict
-    ensures { λ r. ⌜ r ≡ verdictOf (creating members room (listOf l) (id .0) set) ⌝ }
+fn asked(l: Views, room: usize, id: ViewId, set: u8, members: u8) -> Verdict
+    ensures { λ r. ⌜ r ≡ verdictOf (creates (listGroup members room (listOf l)) (id .0) set) ⌝ }
 {
-    if sets::empty(set) {
-        return Verdict::Refused(Refusal::SetUnfit);
-    }
-    if sets::beyond(set, members) {
+    if !sets::fits(members, set) {
         return Verdict::Refused(Refusal::SetUnfit);
     }
     if !above(l, id) {
@@ -82,6 +138,17 @@ fn verdict(l: Views, room: usize, id: ViewId, set: u8, members: u8) -> Verdict
         return Verdict::Refused(Refusal::ListFull);
     }
     Verdict::Accepted
+}
+
+// 4, then the rest.
+fn verdict(l: Views, made: usize, id: ViewId, set: u8, members: u8) -> Verdict
+    ensures { λ r. ⌜ r ≡ verdictOf (creatingBy members made l (id .0) set) ⌝ }
+{
+    if !sound(l, made, members) {
+        return Verdict::Refused(Refusal::RecordsUnsound);
+    }
+    let views = first(l, made);
+    asked(views, l.count, id, set, members)
 }
 
 // Where the view is put: past the end of the list where it was refused.
@@ -98,11 +165,8 @@ fn place(v: Verdict, made: usize, n: usize) -> usize
 fn create_by(l: Views, made: usize, id: ViewId, set: u8, members: u8) -> Creation
     ensures { λ r. ⌜ CreatedBy l made (id .0) set members r ⌝ }
 {
-    let n = l.count;
-    let views = first(l, made);
-    let room = list::used(n);
-    let verdict = verdict(views, room, id, set, members);
-    let at = place(verdict, made, n);
+    let verdict = verdict(l, made, id, set, members);
+    let at = place(verdict, made, l.count);
     let view = View { id, set };
     Creation { verdict, at, view }
 }

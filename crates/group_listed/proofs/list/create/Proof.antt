@@ -54,7 +54,8 @@ use Rattle.views.specs.declared.refusal.Verdict.{Verdict}
 use Rattle.views.proofs.refusal.Verdict as P
 use Rattle.views.proofs.refusal.Verdict.Laws as P′
 use Rattle.group_listed.specs.declared.list.Creation.{Creation}
-use Rattle.group_listed.specs.Creates.{CreatedBy, Created}
+use Rattle.group_listed.specs.Creates.{Created}
+use Rattle.group_listed.specs.CreateParts.{CreatedBy}
 use Rattle.group_listed.proofs.Share.{KeptShared, shares-out, comes-home}
 use Rattle.group_listed.proofs.CreateLaws.{created-in}
 use Rattle.group_listed.proofs.list.Creation as S

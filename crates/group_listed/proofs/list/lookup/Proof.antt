@@ -40,6 +40,7 @@ use Rattle.views.specs.declared.View.{View}
 use Rattle.views.specs.declared.ViewId.{ViewId}
 use Rattle.views.specs.declared.list.Views.{Views}
 use Rattle.views.specs.declared.list.Lookup.{Lookup}
+use Rattle.views.specs.Limits.{maxViews}
 use Rattle.views.specs.Lists.{listOf, findOf, placed}
 use Rattle.views.proofs.View as T
 use Rattle.views.proofs.ViewId as I
@@ -49,7 +50,7 @@ use Rattle.views.proofs.list.Views.Laws as L′
 use Rattle.views.proofs.list.Lookup as P
 use Rattle.views.proofs.list.Lookup.Laws as P′
 use Rattle.group_listed.specs.Creates.{madeIn}
-use Rattle.group_listed.proofs.CreateLaws.{placed-first}
+use Rattle.group_listed.proofs.CreateLaws.{made-first}
 use Rattle.group_listed.proofs.slice.listed as li
 use Rattle.group_listed.proofs.slice.listed.Symbol as li-def
 use Rattle.group_listed.proofs.slice.listed.Symbol.{name as #group-listed·slice·listed}
@@ -118,7 +119,7 @@ module _ {M : Type 1} (𝓤 : URA M) (H : Heap 𝓤) (A : Atoms 𝓤) (W : Given
   abbrev Post : Val → SProp 𝓤
   Post = walkOf 𝓤 H A at.ended stayed (at.clauses 𝓤 H A mem run) .post (((κ, tt), (q, tt), tt, a, vals), tt)
 
-  exits : (r : Lookup) (w : Val) → r ≡ findOf (g .0) (madeIn m ys) → ent 𝓤 (sep 𝓤 (sep 𝓤 (A .lft κ q) (sem 𝓤 H A ftrue)) (sep 𝓤 (sem 𝓤 H A Own) (sem 𝓤 H A (PT .own r (w ∷ []))))) (Post w)
+  exits : (r : Lookup) (w : Val) → r ≡ findOf (g .0) (take maxViews (madeIn m ys)) → ent 𝓤 (sep 𝓤 (sep 𝓤 (A .lft κ q) (sem 𝓤 H A ftrue)) (sep 𝓤 (sem 𝓤 H A Own) (sem 𝓤 H A (PT .own r (w ∷ []))))) (Post w)
   exits r w said =
       qed W ((‵ (flft κ q) ⊛ ‵ ftrue) ∷ ‵ Own ∷ ‵ (PT .own r (w ∷ [])) ∷ []) ∵
       suffices ! _ (ends-at 𝓤 H A at.ended stayed (at.clauses 𝓤 H A mem run) W (((κ, tt), (q, tt), tt, a, vals), tt) w r (tt, (tt, (tt, tt))) (tt, (tt, (tt, tt)))) $ says ! said $ frame ! $
@@ -161,7 +162,7 @@ module _ {M : Type 1} (𝓤 : URA M) (H : Heap 𝓤) (A : Atoms 𝓤) (W : Given
         -- [what is found; the token; _4; …; _0; …; the slice]
         returns ! (look ! 10 refl) $ forget ! 2 refl $ forget ! 4 refl $ forget ! 6 refl $ forget ! 8 refl $ forget ! 10 refl $
         move ! (10 ∷ 11 ∷ []) $ free1 ! $ move ! (8 ∷ 9 ∷ []) $ free1 ! $ move ! (6 ∷ 7 ∷ []) $ free1 ! $ move ! (4 ∷ 5 ∷ []) $ free1 ! $ move ! (2 ∷ 3 ∷ []) $ free1 ! $ free0 ! $
-        keep ! (1 ∷ 2 ∷ 0 ∷ []) $ by ! (exits r w (f ∙ ap (λ (t : List View). findOf (g .0) (take m t)) (ap listOf e ∙ placed-first ys))))))))))))))))
+        keep ! (1 ∷ 2 ∷ 0 ∷ []) $ by ! (exits r w (f ∙ ap (λ (t : Views). findOf (g .0) (take m (listOf t))) e ∙ ap (findOf (g .0)) (made-first m ys))))))))))))))))
 
 module _ {M : Type 1} (𝓤 : URA M) (H : Heap 𝓤) (A : Atoms 𝓤) (W : Given 𝓤 H A) (mem : Memory → SProp 𝓤) (run : Routine → Fun 𝓤) where
   at-walks : (C : Calls 𝓤 H) (Λ : Loops 𝓤 H) → FmC 𝓤 H (W .laws) C → Triple 𝓤 (C #group-listed·slice·listed) (Listed 𝓤 H A mem run) → Triple 𝓤 (C #group-listed·list·found) (Among 𝓤 H A mem run) → Walks 𝓤 H A at.ended stayed (WpFn 𝓤 H C Λ code.function) (at.clauses 𝓤 H A mem run)
