@@ -28,7 +28,7 @@ def tokens(text):
 
 
 def is_name(token):
-    return token not in WORDS and not token.startswith('.') and not token.isdecimal()
+    return token not in WORDS and not token.startswith('.') and not token[0].isdecimal()
 
 
 def binder(found, i):

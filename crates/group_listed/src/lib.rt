@@ -1,7 +1,7 @@
 // The whole group with its list as a slice of records, the books and the queues as lent bytes: its start, and one step
 // of any kind. The list is taken by value and put to the group as bytes; what a step or a start does to it is put back.
 pub mod list;
-pub mod slice;
+mod slice;
 
 use events::Reply;
 use views::View;
