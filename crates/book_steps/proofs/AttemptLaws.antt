@@ -3,17 +3,14 @@ use mathlib.Core.Path.{_≡_, refl, sym, ap, _∙_}
 use mathlib.Core.Bool.{true, false}
 use mathlib.Core.Logic.{⊎-elim}
 use mathlib.Core.List.{List, [], _∷_}
-use Prim.Native.Nat.{ℕ, _+_, _-_, _≤_, _<_, min}
-use native.Mathlib.Decide.{decLe}
+use Prim.Native.Nat.{ℕ, _+_, _-_, _≤_, min}
 use native.Mathlib.Omega.{arith}
-use borrow.Author.Tests.{le-leb, lt-leb}
 use Rattle.views.proofs.SetLaws.{known}
 use lib.Dec.{ltb, leb}
 use lib.ListN.{length, length-set, getD, set}
 use Rattle.views.specs.declared.View.{View}
 use Rattle.views.specs.declared.list.Views.{Views}
 use Rattle.views.specs.declared.refusal.Refusal.{Refusal}
-use Rattle.views.specs.declared.refusal.Refusal.the-variants.{TooManyOpen}
 use Rattle.views.specs.declared.refusal.Verdict.{Verdict}
 use Rattle.views.specs.declared.refusal.Verdict.the-variants.{Accepted, Refused}
 use Rattle.views.specs.Limits.{maxOpen}
@@ -41,47 +38,12 @@ use Rattle.events.specs.Replies.{noEvent, eventOf, happened, replied, replyOf, 
 use Rattle.book_steps.specs.Acts.{fewOpen, attemptBytes}
 use Rattle.book_steps.specs.Parts.{attemptEvent, fewIf, fewStepped}
 use Rattle.book_steps.proofs.Committed.{stepped-verdict, refused-by, accepted-by}
+use Rattle.book_steps.proofs.LentLaws.{few-accepted}
 
 -- ---- the emptied inward list
 
 pub emptied-size : (b c : List ℕ) (k : ℕ) → c ≡ set b k 0 → length b ≡ bookSize → bookSize ≤ length c
 emptied-size b c k e n = rw (e, length-set b k 0, n) (omega arith)
-
--- ---- the test of 43 on a turned record
-
-module _ (s : Stepped) (h : Record) where
-  pub few-refused : (r : Refusal) → s .verdict ≡ Refused r → s ≡ fewStepped s h
-  unfolding fewIf
-  few-refused r e = rw e
-
-  pub few-over : s .verdict ≡ Accepted → maxOpen < s .book .opens .count → (x : Stepped) → x ≡ stepped (Refused TooManyOpen) h h → x ≡ fewStepped s h
-  unfolding fewIf
-  few-over e o x f = rw (e, lt-leb _ _ o) f
-
-  pub few-kept : s .verdict ≡ Accepted → s .book .opens .count ≤ maxOpen → s ≡ fewStepped s h
-  unfolding fewIf
-  few-kept e o = rw (e, le-leb _ _ o)
-
--- what is accepted passed it
-pub few-accepted : (s : Stepped) (h : Record) (x : Stepped) → x ≡ fewStepped s h → x .verdict ≡ Accepted → x .book .opens .count ≤ maxOpen
-few-accepted s h x e v = by-verdict (s .verdict) refl
-  where
-    by-verdict : (w : Verdict) → s .verdict ≡ w → x .book .opens .count ≤ maxOpen
-    by-verdict (Refused r) f =
-        let k : x ≡ s = e ∙ sym (few-refused s h r f) in
-        let z : Accepted ≡ Refused r = sym v ∙ ap (λ (y : Stepped). y .verdict) k ∙ f in
-        let i : _≡_ {A = ℕ} 0 1 = cc in absurd (omega arith)
-    by-verdict Accepted f =
-        elim (decLe (s .book .opens .count) maxOpen) [ yes l ↦ under f l | no l ↦ absurd (over f (omega arith)) ]
-      where
-        under : s .verdict ≡ Accepted → s .book .opens .count ≤ maxOpen → x .book .opens .count ≤ maxOpen
-        under f l = let k : x ≡ s = e ∙ sym (few-kept s h f l) in rw k l
-
-        over : s .verdict ≡ Accepted → maxOpen < s .book .opens .count → ⊥
-        over f l =
-            let k : x ≡ stepped (Refused TooManyOpen) h h = e ∙ sym (few-over s h f l _ refl) in
-            let z : Accepted ≡ Refused TooManyOpen = sym v ∙ ap (λ (y : Stepped). y .verdict) k ∙ stepped-verdict (Refused TooManyOpen) h h in
-            let i : _≡_ {A = ℕ} 0 1 = cc in absurd (omega arith)
 
 -- ---- how many are open after it
 
@@ -161,12 +123,12 @@ module _ (b : List ℕ) where
 
 -- ---- what the code has at hand
 
-module _ (b : List ℕ) (h : Record) (loaded : h ≡ recordIn b) (t : Stepped) (i : t ≡ attemptTurn (membersIn b) h) (s : Stepped) (e : s ≡ fewStepped t h) where
+module _ (b : List ℕ) (h : Record) (loaded : h ≡ recordIn b) (s : Stepped) (e : s ≡ fewStepped (attemptTurn (membersIn b) h) h) where
   abbrev rule' : Result Done
   rule' = fewOpen (attempts one (membersIn b) (selfIn b) (bookIn b))
 
   turned : s ≡ stepped (verdictOf rule') (attemptedAt (recordIn b .carrier .view) (recordIn b)) (recordIn b)
-  turned = e ∙ ap (λ (z : Stepped). fewStepped z h) i ∙ ap (λ (z : Record). fewStepped (attemptTurn (membersIn b) z) z) loaded ∙ attempt-turned b
+  turned = e ∙ ap (λ (z : Record). fewStepped (attemptTurn (membersIn b) z) z) loaded ∙ attempt-turned b
 
   ruled : s .verdict ≡ verdictOf rule'
   ruled = ap (λ (z : Stepped). z .verdict) turned ∙ stepped-verdict (verdictOf rule') _ _
@@ -183,7 +145,7 @@ module _ (b : List ℕ) (h : Record) (loaded : h ≡ recordIn b) (t : Stepped) (
 
   -- 43 was not given
   pub attempt-few : s .verdict ≡ Accepted → s .book .opens .count ≤ maxOpen
-  attempt-few v = few-accepted t h s e v
+  attempt-few v = few-accepted (attemptTurn (membersIn b) h) h s e v
 
   pub attempt-accepted : s .verdict ≡ Accepted → (ev : Event) → ev ≡ attemptEvent h (selfIn b)
       → (y : List ℕ) → (c : List ℕ) → c ≡ set b (inwardAt (h .side)) 0 → y ≡ storeRecord c (s .book)

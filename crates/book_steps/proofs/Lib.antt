@@ -12,3 +12,4 @@ pub mod TakeLaws
 pub mod MarkLaws
 pub mod SpeakLaws
 pub mod AttemptLaws
+pub mod LentLaws

@@ -3,16 +3,15 @@ use mathlib.Core.Path.{_≡_, refl, sym, ap, _∙_}
 use mathlib.Core.Logic.{⊎-elim}
 use mathlib.Core.Bool.{Bool, true, false}
 use mathlib.Core.List.{List, [], _∷_}
-use Prim.Native.Nat.{ℕ, _+_, _≤_, _<_, min}
+use Prim.Native.Nat.{ℕ, _+_, _≤_, min}
 use native.Mathlib.Omega.{arith}
-use borrow.Author.Tests.{le-leb, lt-leb}
 use lib.Dec.{leb}
 use lib.ListN.{length, getD, drop, length-drop, length-take}
 use Rattle.views.specs.declared.View.{View}
 use Rattle.views.specs.declared.list.Views.{Views}
 use Rattle.views.specs.declared.refusal.Refusal.{Refusal}
 use Rattle.views.specs.declared.refusal.Refusal.the-variants.{TooManyOpen}
-use Rattle.views.specs.declared.refusal.Verdict.the-variants.{Accepted, Refused}
+use Rattle.views.specs.declared.refusal.Verdict.the-variants.{Accepted}
 use Rattle.views.specs.Limits.{maxViews, maxOpen}
 use Rattle.views.specs.Refusals.{require, left}
 use Rattle.views.specs.Lists.{noView, listOf, placed}
@@ -29,20 +28,37 @@ use Rattle.book_bytes.specs.declared.Record.{Record}
 use Rattle.book_bytes.specs.Places.{opensAt}
 use Rattle.book_bytes.specs.Records.{recordIn, storeRecord}
 use Rattle.book_bytes.specs.Books.{bookIn}
-use Rattle.record_steps.specs.Turns.{clientTurn, infoTurn, registeredTurn, toldTurn}
+use Rattle.record_steps.specs.declared.Stepped.{Stepped}
+use Rattle.record_steps.specs.Turns.{stepped, clientTurn, infoTurn, registeredTurn, toldTurn}
 use Rattle.events.specs.declared.Reply.{Reply}
 use Rattle.events.specs.Replies.{noEvent, eventOf, replied, replyOf, verdictOf}
 use Rattle.book_steps.specs.Acts.{fewOpen, taking, takeBytes}
-use Rattle.book_steps.specs.ArrivalParts.{turned, openVerdict, gainingOf, gainedBy}
+use Rattle.book_steps.specs.ArrivalParts.{turned, gainingOf, gainedBy}
+use Rattle.book_steps.specs.LentParts.{fewTaken}
 use Rattle.book_steps.proofs.Answers.{quiet-by}
 use Rattle.book_steps.proofs.RoomLaws.{gaining-in}
+use Rattle.book_steps.proofs.LentLaws.{few-verdict, few-book, kept-open}
 
 -- ---- the record after an info: the settled view and the open views are taken from its list
 
-pub info-turned : (q : Member) (m : Carried) (l : List View) (h : Record) (x : View) (o : Views) (r : Record) → m ≡ Info → x ≡ getD l 0 noView → o ≡ placed (drop 1 l)
-    → r ≡ infoTurn q x o h → r ≡ turned q m l h
+pub info-turned : (q : Member) (l : List View) (h : Record) (x : View) (o : Views) (s : Stepped) → x ≡ getD l 0 noView → o ≡ placed (drop 1 l)
+    → s ≡ fewTaken (infoTurn q x o h) h → s ≡ fewTaken (turned q Info l h) h
 unfolding turned
-info-turned q m l h x o r e f g k = rw (e, ← f, ← g) k
+info-turned q l h x o s f g k = k ∙ ap (λ (z : View). fewTaken (infoTurn q z o h) h) f ∙ ap (λ (z : Views). fewTaken (infoTurn q (getD l 0 noView) z h) h) g
+
+-- the record after one of the other three: its open views stay
+module _ (q : Member) (m : Carried) (l : List View) (h : Record) (few : h .opens .count ≤ maxOpen) (next : Record) (s : Stepped) (e : s ≡ stepped Accepted next next) where
+  pub client-taken : (x : ℕ) → m ≡ Client x → next ≡ clientTurn h → s ≡ fewTaken (turned q m l h) h
+  unfolding turned clientTurn
+  client-taken x f g = rw (f, ← g) (kept-open next h s e (rw g few))
+
+  pub registered-taken : m ≡ Registered → next ≡ registeredTurn q h → s ≡ fewTaken (turned q m l h) h
+  unfolding turned registeredTurn
+  registered-taken f g = rw (f, ← g) (kept-open next h s e (rw g few))
+
+  pub told-taken : (k : ℕ) → m ≡ Told k → next ≡ toldTurn q k h → s ≡ fewTaken (turned q m l h) h
+  unfolding turned toldTurn
+  told-taken k f g = rw (f, ← g) (kept-open next h s e (rw g few))
 
 -- a list without its first leaves 31
 pub rest-few : (l o : Views) → length (l .at) ≡ maxViews → o ≡ placed (drop 1 (listOf l)) → o .count ≤ maxOpen
@@ -75,14 +91,6 @@ taken-opens q (Told k) l b h = sym (held-in b)
 
 -- ---- the verdict: 43, or the message is taken
 
-pub open-refused : (h : Record) → maxOpen < h .opens .count → openVerdict h ≡ Refused TooManyOpen
-unfolding openVerdict require
-open-refused h k = rw (lt-leb _ _ k)
-
-pub open-accepted : (h : Record) → h .opens .count ≤ maxOpen → openVerdict h ≡ Accepted
-unfolding openVerdict require
-open-accepted h k = rw (le-leb _ _ k)
-
 need-verdict : (t : Bool) (r : Refusal) (d : Done) → require t r Accepted ≡ verdictOf (needed t r (accepted d))
 unfolding require needed
 need-verdict true r d = refl
@@ -110,23 +118,23 @@ taken-bytes q (Told k) l b = refl
 
 -- ---- what the code has at hand
 
-module _ (b : List ℕ) (h : Record) (loaded : h ≡ recordIn b) (q : Member) (m : Carried) (l : List View) (short : length l ≤ maxViews) (next : Record) (e : next ≡ turned q m l h) where
-  take-turned : next ≡ turned q m l (recordIn b)
-  take-turned = e ∙ ap (turned q m l) loaded
+module _ (b : List ℕ) (h : Record) (loaded : h ≡ recordIn b) (q : Member) (m : Carried) (l : List View) (short : length l ≤ maxViews) (s : Stepped) (e : s ≡ fewTaken (turned q m l h) h) where
+  take-turned : turned q m l h ≡ turned q m l (recordIn b)
+  take-turned = ap (turned q m l) loaded
 
-  take-ruled : openVerdict next ≡ verdictOf (taking q (messageOf m l) (bookIn b))
-  unfolding openVerdict
+  take-ruled : s .verdict ≡ verdictOf (taking q (messageOf m l) (bookIn b))
   take-ruled =
-      ap (λ (k : ℕ). require (leb k maxOpen) TooManyOpen Accepted) (ap (λ (z : Record). z .opens .count) take-turned ∙ taken-opens q m l b short)
+      few-verdict (turned q m l h) h s e
+      ∙ ap (λ (k : ℕ). require (leb k maxOpen) TooManyOpen Accepted) (ap (λ (z : Record). z .opens .count) take-turned ∙ taken-opens q m l b short)
       ∙ take-verdict q (messageOf m l) (bookIn b)
 
-  take-stored : storeRecord (gainedBy m (gainingOf h) q b) next ≡ takeBytes q (messageOf m l) b
-  take-stored = rw (take-turned, loaded) (taken-bytes q m l b)
+  take-stored : s .verdict ≡ Accepted → storeRecord (gainedBy m (gainingOf h) q b) (s .book) ≡ takeBytes q (messageOf m l) b
+  take-stored v = let new : s .book ≡ turned q m l (recordIn b) = few-book (turned q m l h) h s e v ∙ take-turned in rw (new, loaded) (taken-bytes q m l b)
 
   pub take-done : (x : Reply) (y : List ℕ)
-      → (x ≡ replied (openVerdict next) noEvent) × (y ≡ left (openVerdict next) (storeRecord (gainedBy m (gainingOf h) q b) next) b)
+      → (x ≡ replied (s .verdict) noEvent) × (y ≡ left (s .verdict) (storeRecord (gainedBy m (gainingOf h) q b) (s .book)) b)
       → (x ≡ replyOf (taking q (messageOf m l) (bookIn b)))
       × (y ≡ left (verdictOf (taking q (messageOf m l) (bookIn b))) (takeBytes q (messageOf m l) b) b)
   take-done =
-      quiet-by (taking q (messageOf m l) (bookIn b)) (openVerdict next) (storeRecord (gainedBy m (gainingOf h) q b) next) (takeBytes q (messageOf m l) b) b
-      take-ruled (take-quiet q (messageOf m l) (bookIn b)) (λ v. take-stored)
+      quiet-by (taking q (messageOf m l) (bookIn b)) (s .verdict) (storeRecord (gainedBy m (gainingOf h) q b) (s .book)) (takeBytes q (messageOf m l) b) b
+      take-ruled (take-quiet q (messageOf m l) (bookIn b)) take-stored

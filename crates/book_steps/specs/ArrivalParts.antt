@@ -2,14 +2,8 @@
 use mathlib.Core.Bool.{cond}
 use mathlib.Core.List.{List, _∷_}
 use Prim.Native.Nat.{ℕ, _+_, _-_}
-use lib.Dec.{leb}
 use lib.ListN.{getD, set, drop}
 use Rattle.views.specs.declared.View.{View}
-use Rattle.views.specs.declared.refusal.Refusal.the-variants.{TooManyOpen}
-use Rattle.views.specs.declared.refusal.Verdict.{Verdict}
-use Rattle.views.specs.declared.refusal.Verdict.the-variants.{Accepted}
-use Rattle.views.specs.Limits.{maxOpen}
-use Rattle.views.specs.Refusals.{require}
 use Rattle.views.specs.Lists.{noView, listOf, placed}
 use Rattle.wire.specs.declared.Message.{Message}
 use Rattle.wire.specs.declared.Message.the-variants.{Client, Info, Registered, Told}
@@ -35,10 +29,6 @@ turned q (Client x) l h = clientTurn h
 turned q Info l h = infoTurn q (getD l 0 noView) (placed (drop 1 l)) h
 turned q Registered l h = registeredTurn q h
 turned q (Told k) l h = toldTurn q k h
-
--- 43: the record has more than 31 views open
-unfoldable pub openVerdict : Record → Verdict
-openVerdict h = require (leb (h .opens .count) maxOpen) TooManyOpen Accepted
 
 -- the count of the inward list that gains a client message
 unfoldable pub gainingOf : Record → ℕ

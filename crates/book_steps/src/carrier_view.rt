@@ -1,4 +1,6 @@
 // The steps that change which views the member has, in a sound book's bytes: join, attempt, collect.
+use crate::lent;
+use crate::lent::Kind;
 use book_bytes::Record;
 use events::Event;
 use events::Reply;
@@ -6,8 +8,6 @@ use events::kinds;
 use record_steps::Stepped;
 use views::Member;
 use views::View;
-use views::limits;
-use views::refusal::Refusal;
 use views::refusal::Verdict;
 ghost use mathlib.Core.Path.{_≡_};
 ghost use Prim.Native.Nat.{_≤_};
@@ -23,7 +23,7 @@ ghost use Rattle.book_bytes.specs.Records.{storeRecord};
 ghost use Rattle.book_bytes.specs.Books.{bookIn, bytesSound, selfIn, membersIn};
 ghost use Rattle.book_steps.specs.ArrivalParts.{announced};
 ghost use Rattle.book_steps.specs.Acts.{joinBytes, fewOpen, attemptBytes, collectBytes};
-ghost use Rattle.book_steps.specs.Parts.{fewStepped, attemptEvent};
+ghost use Rattle.book_steps.specs.Parts.{attemptEvent};
 
 // The inward list of a carrier view not attempted goes, and outgoing holds one info of the member p with what the
 // record holds.
@@ -71,24 +71,9 @@ pub fn join(b: &mut [u8], v: View) -> Reply
 {
     let h = book_bytes::load(b);
     let p = Member(b[book_bytes::SELF]);
-    let s = record_steps::carrier_view::join(p, v, h);
+    let t = lent::plain(Kind::Join(p, v));
+    let s = lent::lend(h, t);
     enter(b, p, h, s)
-}
-
-// More than 31 open views are refused, with the record as it was.
-pub fn few_open(s: Stepped, h: Record) -> Stepped
-    ensures { λ r. ⌜ r ≡ fewStepped s h ⌝ }
-{
-    let verdict = s.verdict;
-    match verdict {
-        Verdict::Refused(_) => s,
-        Verdict::Accepted => {
-            if limits::OPEN < s.book.opens.count {
-                return record_steps::refuse(Refusal::TooManyOpen, h);
-            }
-            s
-        }
-    }
 }
 
 // The event of an attempt of the carrier view.
@@ -123,10 +108,8 @@ pub fn attempt(b: &mut [u8]) -> Reply
         (bookIn (now (b .entry)))))) (attemptBytes (now (b .entry))) (now (b .entry))) ⌝ }
 {
     let h = book_bytes::load(b);
-    let s = few_open(
-        record_steps::carrier_view::attempt(b[book_bytes::MEMBERS], h),
-        h,
-    );
+    let t = lent::plain(Kind::Attempt(b[book_bytes::MEMBERS]));
+    let s = lent::lend(h, t);
     let verdict = s.verdict;
     match verdict {
         Verdict::Refused(r) => events::refuse(r),
@@ -151,7 +134,8 @@ pub fn collect(b: &mut [u8]) -> Reply
         (collectBytes (now (b .entry))) (now (b .entry))) ⌝ }
 {
     let h = book_bytes::load(b);
-    let s = record_steps::carrier_view::collect(b[book_bytes::MEMBERS], h);
+    let t = lent::plain(Kind::Collect(b[book_bytes::MEMBERS]));
+    let s = lent::lend(h, t);
     let e = events::no_event();
     crate::keep(b, s, e)
 }

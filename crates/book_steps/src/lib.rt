@@ -1,8 +1,9 @@
 // A member's steps in a sound book's bytes. Each loads the small record, turns it by value, and writes only where it is
-// accepted; here is what they share.
+// accepted; a step that asks what is held or changes it turns the record lent. Here is what they share.
 pub mod carrier_view;
 pub mod client_view;
 pub mod info;
+mod lent;
 pub mod messages;
 
 use record_steps::Stepped;

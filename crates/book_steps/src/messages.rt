@@ -1,10 +1,12 @@
 // Deliver, in a sound book's bytes: a message of the carrier view is taken.
+use crate::lent;
+use crate::lent::Kind;
+use crate::lent::Step;
 use book_bytes::Record;
 use events::Reply;
+use record_steps::Stepped;
 use views::Member;
-use views::limits;
 use views::list::Views;
-use views::refusal::Refusal;
 use views::refusal::Verdict;
 use wire::Frame;
 use wire::Message;
@@ -16,11 +18,13 @@ ghost use Rattle.views.specs.Limits.{maxMembers, maxOpen, maxOrdered};
 ghost use Rattle.views.specs.Lists.{listOf};
 ghost use Rattle.views.specs.Refusals.{left};
 ghost use Rattle.events.specs.Replies.{noEvent, replied, replyOf, verdictOf};
+ghost use Rattle.wire.specs.declared.Message.the-variants.{Info};
 ghost use Rattle.rules.specs.Alone.{messageOf};
 ghost use Rattle.book_bytes.specs.Places.{bookSize, carrierAt, takenAt};
 ghost use Rattle.book_bytes.specs.Records.{storeRecord};
 ghost use Rattle.book_bytes.specs.Books.{bookIn, bytesSound};
-ghost use Rattle.book_steps.specs.ArrivalParts.{turned, gainingOf, gainedBy, openVerdict};
+ghost use Rattle.book_steps.specs.ArrivalParts.{turned, gainingOf, gainedBy};
+ghost use Rattle.book_steps.specs.LentParts.{fewTaken};
 ghost use Rattle.book_steps.specs.Acts.{taking, takeBytes};
 
 // A queue entry: its sender together with one of the four messages. An info's views are kept beside it.
@@ -29,23 +33,30 @@ pub struct Entry {
     pub message: Message,
 }
 
-// The record after an entry, with an info's views beside it. More than 31 views may be open then: that is for the
-// caller to refuse.
-fn turned(e: Entry, list: Views, h: Record) -> Record
+// The record after an info of the member q with these views, settled first.
+fn informed(q: Member, list: Views, h: Record) -> Stepped
+    requires { ⌜ (q .0 < maxMembers) × (h .taken .0 < 255) × (h .opens .count ≤ maxOpen) ⌝ }
+    ensures { λ r. ⌜ r ≡ fewTaken (turned (q .0) Info (listOf list) h) h ⌝ }
+{
+    let x = crate::info::settled(list);
+    let l = crate::info::opens(list);
+    let kind = Kind::Info(q, x);
+    let t = Step { kind, opens: l };
+    lent::lend(h, t)
+}
+
+// The record after an entry, with an info's views beside it; 43 where more than 31 views would be open then.
+fn turned(e: Entry, list: Views, h: Record) -> Stepped
     requires { ⌜ (e .sender .0 < maxMembers) × (h .taken .0 < 255) × (h .opens .count ≤ maxOpen) ⌝ }
-    ensures { λ r. ⌜ r ≡ turned (e .sender .0) (e .message) (listOf list) h ⌝ }
+    ensures { λ r. ⌜ r ≡ fewTaken (turned (e .sender .0) (e .message) (listOf list) h) h ⌝ }
 {
     let q = e.sender;
     let m = e.message;
     match m {
-        Message::Client(_) => record_steps::messages::take_client(h),
-        Message::Info => {
-            let x = crate::info::settled(list);
-            let l = crate::info::opens(list);
-            record_steps::messages::take_info(q, x, l, h)
-        }
-        Message::Registered => record_steps::messages::take_registered(q, h),
-        Message::Told(k) => record_steps::messages::take_told(q, k, h),
+        Message::Client(_) => lent::accept(record_steps::messages::take_client(h)),
+        Message::Info => informed(q, list, h),
+        Message::Registered => lent::accept(record_steps::messages::take_registered(q, h)),
+        Message::Told(k) => lent::accept(record_steps::messages::take_told(q, k, h)),
     }
 }
 
@@ -75,21 +86,27 @@ fn receive(b: &mut [u8], e: Entry, h: Record)
     }
 }
 
-// The entry goes where it belongs and the next record is stored, unless that has more than 31 views open.
-fn keep(b: &mut [u8], e: Entry, h: Record, next: Record) -> Reply
-    requires { ⌜ (bookSize ≤ length (now b)) × (h .side ≤ 1) × (getD (now b) (gainingOf h) 0 < maxOrdered) ⌝ }
-    ensures { λ r. ⌜ (r ≡ replied (openVerdict next) noEvent)
-        × (now (b .exit) ≡ left (openVerdict next)
-        (storeRecord (gainedBy (e .message) (gainingOf h) (e .sender .0) (now (b .entry))) next) (now (b .entry))) ⌝ }
+// The entry goes where it belongs and the record after it is stored, where it is taken.
+fn keep(b: &mut [u8], e: Entry, h: Record, s: Stepped) -> Reply
+    requires { ⌜ (bookSize ≤ length (now b)) × (h .side ≤ 1) × (getD (now b) (gainingOf h) 0 < maxOrdered)
+        × (s .book .opens .count ≤ maxOpen) ⌝ }
+    ensures { λ r. ⌜ (r ≡ replied (s .verdict) noEvent)
+        × (now (b .exit) ≡ left (s .verdict)
+        (storeRecord (gainedBy (e .message) (gainingOf h) (e .sender .0) (now (b .entry))) (s .book))
+        (now (b .entry))) ⌝ }
 {
-    if limits::OPEN < next.opens.count {
-        return events::refuse(Refusal::TooManyOpen);
-    }
-    receive(b, e, h);
-    book_bytes::store(b, next);
-    Reply {
-        verdict: Verdict::Accepted,
-        event: events::no_event(),
+    let verdict = s.verdict;
+    match verdict {
+        Verdict::Refused(r) => events::refuse(r),
+        Verdict::Accepted => {
+            let next = s.book;
+            receive(b, e, h);
+            book_bytes::store(b, next);
+            Reply {
+                verdict: Verdict::Accepted,
+                event: events::no_event(),
+            }
+        }
     }
 }
 
@@ -110,6 +127,6 @@ pub fn deliver(b: &mut [u8], q: Member, f: Frame) -> Reply
         sender: q,
         message: m,
     };
-    let next = turned(e, list, h);
-    keep(b, e, h, next)
+    let s = turned(e, list, h);
+    keep(b, e, h, s)
 }

@@ -1,6 +1,8 @@
+-- `book_steps::carrier_view::attempt` meets its contract: the turn of the record that was loaded, with 43 last, is the rule's.
 use Prim.Native.Nat.{_-_}
 use native.Mathlib.Omega.{arith}
 use Rattle.book_steps.proofs.Committed.{sound-size, loaded-side}
+use Rattle.book_steps.proofs.LentLaws.{attempt-asks, attempt-lent}
 use Rattle.book_steps.proofs.AttemptLaws.{emptied-size, attempt-refused, attempt-few, attempt-accepted}
 use Rattle.book_bytes.specs.Places.{inwardAt}
 use borrow.Author.Needs.{needs}
@@ -10,14 +12,14 @@ use Rattle.book_steps.proofs.carrier_view.attempt.Tie as tie
 load-requires : tie.Need-load-requires
 load-requires c κs = omega (arith, sound-size _ (c .before .before .pre))
 
-slice-read-attempt : tie.Need-slice-read-attempt
-slice-read-attempt c = omega (arith, sound-size _ (c .before .before .before .before .pre))
+slice-read-t12 : tie.Need-slice-read-t12
+slice-read-t12 c = omega (arith, sound-size _ (c .before .before .before .before .pre))
 
-attempt-requires : tie.Need-attempt-requires
-attempt-requires c κs = loaded-side _ (c .before .before .before .before .pre) _ (c .before .load .ensures)
+plain-requires : tie.Need-plain-requires
+plain-requires c κs = search needs
 
-few-open-requires : tie.Need-few-open-requires
-few-open-requires c κs = search needs
+lend-requires : tie.Need-lend-requires
+lend-requires c κs = attempt-asks _ _ _ (c .plain .ensures) (loaded-side _ (c .before .before .before .before .before .pre) _ (c .before .before .load .ensures))
 
 enum-known-verdict : tie.Need-enum-known-verdict
 enum-known-verdict c = search needs
@@ -28,8 +30,8 @@ refuse-requires c κs = search needs
 enum-told : tie.Need-enum-told
 enum-told c = search needs
 
-slice-read-t15 : tie.Need-slice-read-t15
-slice-read-t15 c = omega (arith, sound-size _ (c .before .before .before .before .before .before .before .before .before .pre))
+slice-read-t16 : tie.Need-slice-read-t16
+slice-read-t16 c = omega (arith, sound-size _ (c .before .before .before .before .before .before .before .before .before .pre))
 
 attempted-requires : tie.Need-attempted-requires
 attempted-requires c κs = search needs
@@ -40,7 +42,9 @@ empty-requires c κs = (omega (arith, sound-size _ (c .before .before .before .b
 store-requires : tie.Need-store-requires
 store-requires c κs =
     let early = c .before .before .before .before in
-    (emptied-size (early .before .before .before .before .before .before .before .before .before .before .before .before .args .b .now) _ (inwardAt (early .before .before .before .before .before .before .before .before .before .load .result .side)) (early .empty .ensures) (sound-size _ (early .before .before .before .before .before .before .before .before .before .before .before .before .pre)), attempt-few _ _ (early .before .before .before .before .before .before .before .before .before .load .ensures) _ (early .before .before .before .before .before .before .before .attempt .ensures) _ (early .before .before .before .before .before .before .few-open .ensures) (early .before .before .before .before .enum-told .given .1))
+    let start = early .before .before .before .before .before .before .before .before .before .before .before .before in
+    let loaded = early .before .before .before .before .before .before .before .before .before in
+    (emptied-size (start .args .b .now) _ (inwardAt (loaded .load .result .side)) (early .empty .ensures) (sound-size _ (start .pre)), attempt-few _ _ (loaded .load .ensures) _ (attempt-lent _ _ _ (early .before .before .before .before .before .before .before .plain .ensures) _ (early .before .before .before .before .before .before .lend .ensures)) (early .before .before .before .before .enum-told .given .1))
 
 same-length : tie.Need-same-length
 same-length c = search needs
@@ -48,7 +52,7 @@ same-length c = search needs
 returns : tie.Need-returns
 returns c =
     let early = c .before .before .before .before in
-    attempt-refused _ _ (early .before .before .before .load .ensures) _ (early .before .attempt .ensures) _ (early .few-open .ensures) _ _ (c .before .before .verdict .given .1) (c .refuse .ensures)
+    attempt-refused _ _ (early .before .before .before .load .ensures) _ (attempt-lent _ _ _ (early .before .plain .ensures) _ (early .lend .ensures)) _ _ (c .before .before .verdict .given .1) (c .refuse .ensures)
 
 same-length-2 : tie.Need-same-length-2
 same-length-2 c = search needs
@@ -56,20 +60,20 @@ same-length-2 c = search needs
 returns-2 : tie.Need-returns-2
 returns-2 c =
     let early = c .before .before .before .before .before .before .before in
-    attempt-accepted _ _ (early .before .before .before .before .before .before .before .before .before .load .ensures) _ (early .before .before .before .before .before .before .before .attempt .ensures) _ (early .before .before .before .before .before .before .few-open .ensures) (early .before .before .before .before .enum-told .given .1) _ (early .before .before .attempted .ensures) _ _ (early .empty .ensures) (c .before .before .store .ensures)
+    attempt-accepted _ _ (early .before .before .before .before .before .before .before .before .before .load .ensures) _ (attempt-lent _ _ _ (early .before .before .before .before .before .before .before .plain .ensures) _ (early .before .before .before .before .before .before .lend .ensures)) (early .before .before .before .before .enum-told .given .1) _ (early .before .before .attempted .ensures) _ _ (early .empty .ensures) (c .before .before .store .ensures)
 
 pub attempt-spec : {M : Type 1} → statement M
 attempt-spec =
     tie.close
     (tie.spec
     load-requires
-    slice-read-attempt
-    attempt-requires
-    few-open-requires
+    slice-read-t12
+    plain-requires
+    lend-requires
     enum-known-verdict
     refuse-requires
     enum-told
-    slice-read-t15
+    slice-read-t16
     attempted-requires
     empty-requires
     store-requires

@@ -1,13 +1,14 @@
 -- `book_steps::messages::deliver` meets its contract: the record after the message of the record that was loaded is the rule's.
 use mathlib.Core.Path.{_≡_}
 use native.Mathlib.Omega.{arith}
-use borrow.Author.Needs.{needs}
 use lib.ListN.{length, length-map, length-take}
 use Rattle.views.specs.Limits.{maxViews}
 use Rattle.book_steps.proofs.Committed.{sound-size, loaded-side}
 use Rattle.book_steps.proofs.Answers.{loaded-few, loaded-taken}
 use Rattle.book_steps.proofs.RoomLaws.{gain-room}
+use Rattle.book_steps.proofs.LentLaws.{few-fits}
 use Rattle.book_steps.proofs.TakeLaws.{take-done}
+use borrow.Author.Needs.{needs}
 use Rattle.book_steps.proofs.messages.deliver.Statement.{statement}
 use Rattle.book_steps.proofs.messages.deliver.Tie as tie
 
@@ -21,7 +22,7 @@ keep-requires : tie.Need-keep-requires
 keep-requires c κs =
     let pre = c .before .before .before .before .before .before .pre in
     let loaded = c .before .before .before .load .ensures in
-    (omega (arith, sound-size _ (pre .0)), loaded-side _ (pre .0) _ loaded, gain-room _ (pre .0) (pre .3) (pre .2) _ loaded)
+    (omega (arith, sound-size _ (pre .0)), loaded-side _ (pre .0) _ loaded, gain-room _ (pre .0) (pre .3) (pre .2) _ loaded, few-fits _ _ _ (c .before .turned .ensures) (loaded-few _ _ loaded))
 
 same-length : tie.Need-same-length
 same-length c = search needs

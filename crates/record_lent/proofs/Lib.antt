@@ -1,3 +1,0 @@
-pub mod LoanLaws
-pub mod LoanMeans
-pub mod BytesMean
