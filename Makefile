@@ -104,12 +104,13 @@ edits:
 
 # ---- plain implementations beside the bench
 
-# The plain references of the group and of the member by itself and the message vectors' answers, each against its own cases.
+# The plain references of the group and of the member by itself, the scripts' and the message vectors' answers, each against its own cases.
 .PHONY: reference
 reference:
 	python3 tests/reference/reference_cases.py
 	python3 tests/reference/references_agree.py 1 20000
 	python3 tests/reference/member_reference.py check crates/test_stories/stdin
+	python3 tests/reference/group_script.py check crates/test_group/stdin
 	python3 tests/reference/wire_vectors.py check
 	python3 tests/scripts/bench_stdin.py check
 

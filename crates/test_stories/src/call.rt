@@ -7,7 +7,7 @@ pub fn start(b: &mut [u8], line: &[u8]) -> Reply {
 }
 
 fn word(line: &[u8], n: usize) -> u8 {
-    crate::word::byte(line, n)
+    test_script::operand::byte(line, n)
 }
 
 // A step, by the number of its kind.
@@ -15,7 +15,7 @@ pub fn step(b: &mut [u8], line: &[u8], kind: u8) -> Reply {
     match kind {
         kinds::JOIN => member::carrier_view::join(
             b,
-            crate::word::identifier(line, 2),
+            test_script::operand::identifier(line, 2),
             word(line, 3),
         ),
         kinds::DELIVER => deliver(b, line),

@@ -58,7 +58,7 @@ pub fn lend(d: Desk, k: usize, line: &[u8]) -> Desk
     requires { ⌜ k < 4 ⌝ }
 {
     let mut next = d;
-    next.lent[k] = crate::word::upto(line, 2, ROOM);
+    next.lent[k] = test_script::operand::upto(line, 2, ROOM);
     next
 }
 
@@ -71,7 +71,7 @@ pub fn started(d: Desk, k: usize, line: &[u8], r: Reply) -> Desk
         Verdict::Refused(_) => d,
         Verdict::Accepted => {
             let mut next = d;
-            next.own[k] = crate::word::byte(line, 4);
+            next.own[k] = test_script::operand::byte(line, 4);
             next
         }
     }

@@ -63,11 +63,11 @@ fn answer(line: &[u8], books: &mut [u8], slips: &mut [u8], d: Desk) -> Desk
             d
         }
         Word::Comment => {
-            crate::show::same(line);
+            test_script::reply::same(line);
             d
         }
         Word::Lend => {
-            crate::show::ok();
+            test_script::reply::ok();
             crate::desk::lend(d, k, line)
         }
         Word::Poke => {
@@ -91,9 +91,9 @@ fn poke(books: &mut [u8], k: usize, line: &[u8])
     requires { ⌜ k < 4 ⌝ }
     requires { ⌜ length (now books) ≡ 20960 ⌝ }
 {
-    let at = k * ROOM + crate::word::upto(line, 2, ROOM - 1);
-    books[at] = crate::word::byte(line, 3);
-    crate::show::ok();
+    let at = k * ROOM + test_script::operand::upto(line, 2, ROOM - 1);
+    books[at] = test_script::operand::byte(line, 3);
+    test_script::reply::ok();
 }
 
 fn start(books: &mut [u8], k: usize, line: &[u8], d: Desk) -> Desk
@@ -103,7 +103,7 @@ fn start(books: &mut [u8], k: usize, line: &[u8], d: Desk) -> Desk
     let from = k * ROOM;
     let to = from + crate::desk::lent(d, k);
     let r = crate::call::start(&mut books[from..to], line);
-    crate::show::reply(r);
+    test_script::reply::reply(r);
     crate::desk::started(d, k, line, r)
 }
 
@@ -115,7 +115,7 @@ fn pass(books: &mut [u8], slips: &mut [u8], k: usize, line: &[u8], d: Desk) -> D
     let from = k * ROOM;
     let to = from + crate::desk::lent(d, k);
     let at = k * SLIP;
-    let end = at + crate::word::upto(line, 2, SLIP);
+    let end = at + test_script::operand::upto(line, 2, SLIP);
     let p = member::messages::pass::pass(&mut books[from..to], &mut slips[at..end]);
     crate::show::passed(p, &slips[at..end]);
     crate::desk::passed(d, k, p)
@@ -137,7 +137,7 @@ fn relay(books: &mut [u8], slips: &mut [u8], k: usize, line: &[u8], d: Desk)
         &slips[at..end],
         crate::desk::own(d, j),
     );
-    crate::show::reply(r);
+    test_script::reply::reply(r);
 }
 
 fn step(books: &mut [u8], k: usize, line: &[u8], d: Desk, kind: u8)
@@ -147,5 +147,5 @@ fn step(books: &mut [u8], k: usize, line: &[u8], d: Desk, kind: u8)
     let from = k * ROOM;
     let to = from + crate::desk::lent(d, k);
     let r = crate::call::step(&mut books[from..to], line, kind);
-    crate::show::reply(r);
+    test_script::reply::reply(r);
 }

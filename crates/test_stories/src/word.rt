@@ -1,6 +1,6 @@
-// What a line says: its word, and operands cut to what there is room for.
+// What a line says: its word, and which book it is about.
 use events::kinds;
-ghost use Prim.Native.Nat.{_<_, _≤_};
+ghost use Prim.Native.Nat.{_<_};
 
 // A step of a book that a call carries out has the number of its kind.
 pub enum Word {
@@ -67,22 +67,4 @@ pub fn book(line: &[u8], n: usize) -> usize
     ensures { λ r. ⌜ r < 4 ⌝ }
 {
     (test_script::parse::number(line, n) % 4) as usize
-}
-
-// An operand of one byte.
-pub fn byte(line: &[u8], n: usize) -> u8 {
-    (test_script::parse::number(line, n) % 256) as u8
-}
-
-// An operand that is an identifier.
-pub fn identifier(line: &[u8], n: usize) -> u32 {
-    (test_script::parse::number(line, n) % 4294967296) as u32
-}
-
-// An operand of at most so much.
-pub fn upto(line: &[u8], n: usize, most: usize) -> usize
-    ensures { λ r. ⌜ r ≤ most ⌝ }
-{
-    let x = test_script::parse::number(line, n);
-    if x < most as u64 { x as usize } else { most }
 }

@@ -1,0 +1,2 @@
+pub mod LocalList
+pub mod Front

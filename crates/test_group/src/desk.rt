@@ -1,0 +1,60 @@
+// What is remembered between lines: the list of view records, and how many of them are lent.
+use crate::listed::LONGEST;
+use views::View;
+use views::ViewId;
+ghost use Prim.Native.Nat.{_≤_};
+
+pub struct Desk {
+    pub list: [View; LONGEST],
+    pub lent: usize,
+}
+
+// No record is lent before the first line that lends one.
+pub fn fresh() -> Desk {
+    let none = View {
+        id: ViewId(0),
+        set: 0,
+    };
+    Desk {
+        list: [none; LONGEST],
+        lent: 0,
+    }
+}
+
+// How many records are lent.
+pub fn room(d: Desk) -> usize
+    ensures { λ r. ⌜ r ≤ 33 ⌝ }
+{
+    if d.lent < LONGEST { d.lent } else { LONGEST }
+}
+
+pub fn lend(d: Desk, line: &[u8]) -> Desk {
+    let list = d.list;
+    Desk {
+        list,
+        lent: test_script::operand::upto(line, 1, LONGEST),
+    }
+}
+
+pub fn with_list(d: Desk, list: [View; LONGEST]) -> Desk {
+    Desk { list, lent: d.lent }
+}
+
+// One record: its identifier and its set.
+fn record(v: View) {
+    test_script::show::also(v.id.0 as u64);
+    test_script::show::also(v.set as u64);
+}
+
+// The records that are lent.
+pub fn show(d: Desk) {
+    io::write_all(1, b"list");
+    let n = room(d);
+    let mut i: usize = 0;
+    while i < n {
+        let v = d.list[i];
+        record(v);
+        i += 1;
+    }
+    test_script::show::end();
+}

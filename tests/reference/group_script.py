@@ -1,0 +1,166 @@
+"""Scripts for the whole group with a list of any length, and the answers to them by the reference.
+
+A script is lines, each answered by one line. There are a list of 33 view records, eight
+books and the queues of 32 views, all of value 0 at first, and no view record is lent at
+first. Numbers are decimal.
+
+    lend ROOM         from now on the first ROOM view records are lent, 0 to 33, with the
+                      queues of as many views
+    group N S         start: members, first set
+    step KIND X Y     a step of any kind number and operands, each within its width
+    list              the lent view records: identifier and set of each
+    run N S HEX       in ranges of its own, with as many view records as are lent: start, then
+                      the steps of the records HEX, at most 40 and perhaps none, each kind 1
+                      byte, first operand 4, second 8. It is answered by a record for each: the
+                      verdict's number 1 byte, then the event, its kind 1, member 1, identifier
+                      4, set 1, sender 1, entry number 8, and what it has not is 0
+    # words           a comment, answered by itself
+
+    python3 tests/reference/group_script.py SCRIPT          the answers
+    python3 tests/reference/group_script.py check SCRIPT    whether they stand beside it, in the file stdout
+"""
+
+import os
+import sys
+
+from reference import MOST_VIEWS, OK, Group, start
+from refusals import RECORDS_UNSOUND
+
+LONGEST = MOST_VIEWS + 1
+STEP = 13
+MOST_STEPS = 40
+
+# The widths of the operands in bytes.
+WIDTHS = {
+    "lend": [1],
+    "group": [1, 1],
+    "step": [1, 4, 8],
+    "list": [],
+}
+
+UNSOUND = ("refused", RECORDS_UNSOUND)
+EVENTS = {"attempt": 6, "register": 7, "send": 8, "hand": 9, "safe": 11}
+
+
+class Unreadable(Exception):
+    pass
+
+
+def readable_if(fact, words):
+    if not fact:
+        raise Unreadable(words)
+
+
+def big(value, width):
+    return value.to_bytes(width, "big")
+
+
+def event_bytes(answer):
+    """The record of an answer."""
+    if answer[0] == "refused":
+        return big(answer[1], 1) + bytes(16)
+    if answer[0] == "ok":
+        return bytes(17)
+    member, identifier = answer[1], answer[2]
+    members_set = answer[3] if answer[0] == "attempt" else 0
+    sender = answer[3] if answer[0] in ("hand", "safe") else 0
+    entry = answer[-1] if answer[0] in ("send", "hand", "safe") else 0
+    return (big(0, 1) + big(EVENTS[answer[0]], 1) + big(member, 1) + big(identifier, 4) + big(members_set, 1)
+            + big(sender, 1) + big(entry, 8))
+
+
+class Table:
+    """What is lent, and an answer to each line."""
+
+    def __init__(self):
+        self.records = [(0, 0)] * LONGEST
+        self.room = 0
+        self.group = None
+
+    def start(self, members, first_set):
+        """"a later accepted `group` starts afresh"; a refused one changes nothing."""
+        begun = start(members, first_set, self.room)
+        if not isinstance(begun, Group):
+            return begun
+        self.group = begun
+        self.records[: self.room] = [(0, first_set)] + [(0, 0)] * (self.room - 1)
+        return OK
+
+    def step(self, kind, first, second):
+        """4 where nothing was started, where no list of this length can be, or where more views are made than are lent."""
+        made = len(self.group.views) if self.group else 0
+        if not 1 <= made <= self.room <= MOST_VIEWS:
+            return UNSOUND
+        self.group.room = self.room
+        answer = self.group.step(kind, first, second)
+        self.records[: len(self.group.views)] = self.group.views
+        return answer
+
+    def listed(self):
+        return [part for record in self.records[: self.room] for part in record]
+
+    def run(self, members, first_set, data):
+        """Steps that are no whole records get 4 before anything else."""
+        if len(data) % STEP != 0:
+            return UNSOUND
+        begun = start(members, first_set, self.room)
+        if not isinstance(begun, Group):
+            return begun
+        records = [data[i: i + STEP] for i in range(0, len(data), STEP)]
+        steps = [[int.from_bytes(part, "big") for part in (r[:1], r[1:5], r[5:])] for r in records]
+        return ("run", b"".join(event_bytes(begun.step(*operands)) for operands in steps).hex())
+
+    def read_run(self, words):
+        hexes = words[3] if len(words) == 4 else ""
+        data = bytes.fromhex(hexes)
+        readable_if(3 <= len(words) <= 4 and data.hex() == hexes and len(data) <= STEP * MOST_STEPS, words)
+        readable_if(all(0 <= int(w) < 256 for w in words[1:3]), words)
+        return self.run(int(words[1]), int(words[2]), data)
+
+    def answer(self, words):
+        word = words[0]
+        if word == "run":
+            return self.read_run(words)
+        readable_if(word in WIDTHS and len(words) == 1 + len(WIDTHS[word]), words)
+        operands = [int(w) for w in words[1:]]
+        readable_if(all(0 <= x < 256**width for x, width in zip(operands, WIDTHS[word])), words)
+        if word == "lend":
+            readable_if(operands[0] <= LONGEST, words)
+            self.room = operands[0]
+            return OK
+        if word == "list":
+            return ("list", *self.listed())
+        return self.start(*operands) if word == "group" else self.step(*operands)
+
+
+def answers(script):
+    table = Table()
+    replies = []
+    for number, text in enumerate(script.splitlines(), 1):
+        try:
+            reply = (text,) if text.startswith("#") else table.answer(text.split(" "))
+        except (Unreadable, ValueError):
+            sys.exit(f"line {number} is unreadable: {text}")
+        replies.append(" ".join(str(part) for part in reply))
+    return "".join(reply + "\n" for reply in replies)
+
+
+def read_file(path):
+    with open(path) as f:
+        return f.read()
+
+
+def main(words):
+    if len(words) == 1:
+        sys.stdout.write(answers(read_file(words[0])))
+    elif len(words) == 2 and words[0] == "check":
+        stdout = os.path.join(os.path.dirname(words[1]), "stdout")
+        if read_file(stdout) != answers(read_file(words[1])):
+            return f"{stdout} is not what the reference answers"
+    else:
+        return __doc__
+    return 0
+
+
+if __name__ == "__main__":
+    sys.exit(main(sys.argv[1:]))
