@@ -1,5 +1,5 @@
 -- Each call with a stand-in for a number that does not fit into a byte is the call with the number itself.
-use mathlib.Core.Path.{_≡_, refl, sym, _∙_}
+use mathlib.Core.Path.{_≡_, refl}
 use mathlib.Core.Logic.{inl, inr, ⊎-elim}
 use mathlib.Core.Bool.{true, false}
 use Prim.Native.Nat.{ℕ, _≤_}
@@ -10,7 +10,6 @@ use Rattle.views.specs.Limits.{maxMembers}
 use Rattle.views.proofs.SetLaws.{known}
 use Rattle.views.specs.Refusals.{left}
 use Rattle.views.specs.Sets.{fits}
-use Rattle.rules.specs.Data.{Step}
 use Rattle.rules.specs.Sound.{within}
 use Rattle.rules.specs.Group.{start}
 use Rattle.rules.proofs.TestLaws.{within-says}
@@ -20,6 +19,7 @@ use Rattle.group_bytes.specs.Groups.{Ranges, rangesSound}
 use Rattle.group_bytes.specs.Steps.{startResult}
 use Rattle.group.specs.StepCalls.{asked, Went}
 use Rattle.group.proofs.CarrierLaws.{unknown-went, unsound-went}
+use Rattle.group.proofs.OperandLaws.{went-alike}
 use Rattle.c_answers.specs.Answers.{narrowed}
 use Rattle.c_answers.proofs.StandIns.{RefusedAlike, need-alike, unmet-alike, by-width, within-large, fits-none, fits-large}
 use Rattle.dvs.specs.GroupCalls.{Begins}
@@ -51,16 +51,6 @@ module _ (r d : Ranges) (k : ℕ) where
   begin-narrowed n S h =
       by-width (λ x. Begins r x S d k) 0 n (begins-members n S)
       (by-width (λ x. Begins r (narrowed 0 n) x d k) 0 S (begins-set (narrowed 0 n) S) h)
-
--- two steps that both give y and leave the ranges as they were
-went-alike : (r d : Ranges) (c c' : Step) (x y : Reply) → Went r c r y → Went r c' r y → Went r c d x → Went r c' d x
-went-alike r d c c' x y p q h =
-    record {
-      reply = h .reply ∙ sym (p .reply) ∙ q .reply;
-      list = h .list ∙ sym (p .list) ∙ q .list;
-      books = h .books ∙ sym (p .books) ∙ q .books;
-      queues = h .queues ∙ sym (p .queues) ∙ q .queues;
-    }
 
 pub step-narrowed : (r d : Ranges) (kind first second : ℕ) (x : Reply) → Went r (asked (narrowed 0 kind) first second) d x → Went r (asked kind first second) d x
 step-narrowed r d kind first second x =

@@ -1,4 +1,6 @@
 // A member by itself: join, attempt, collect.
+use views::View;
+use views::ViewId;
 use views::refusal::Refusal;
 ghost use Rattle.views.specs.Lists.{viewOf};
 ghost use Rattle.events.specs.Replies.{verdictOf};
@@ -13,7 +15,11 @@ pub extern "C" fn dvs_join(book: &mut [u8], view: u32, set: u32) -> u32
     ensures { λ r. ⌜ Gives (verdictOf (joinCall (viewOf view set) (now (book .entry))))
         (joinBytes (viewOf view set) (now (book .entry))) (now (book .entry)) (now (book .exit)) r ⌝ }
 {
-    let r = member::carrier_view::join(book, view, c_answers::narrow(set, 0));
+    let joined = View {
+        id: ViewId(view),
+        set: c_answers::narrow(set, 0),
+    };
+    let r = member::carrier_view::join(book, joined);
     let v = r.verdict;
     c_answers::code(v)
 }

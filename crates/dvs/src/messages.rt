@@ -1,5 +1,6 @@
 // Messages and the bytes that go over the line: a member gives one out and takes one in, and any message is read into a
 // record and written from one.
+use views::Member;
 use views::refusal::Refusal;
 use views::refusal::Verdict;
 use wire::format;
@@ -28,7 +29,7 @@ pub extern "C" fn dvs_deliver(book: &mut [u8], bytes: &[u8], sender: u32) -> u32
     ensures { λ r. ⌜ Gives (verdictOf (deliverCall (now (bytes .entry)) sender (now (book .entry))))
         (deliverBytes (now (bytes .entry)) sender (now (book .entry))) (now (book .entry)) (now (book .exit)) r ⌝ }
 {
-    let r = member::messages::deliver::deliver(book, bytes, c_answers::narrow(sender, 255));
+    let r = member::messages::deliver::deliver(book, bytes, Member(c_answers::narrow(sender, 255)));
     let v = r.verdict;
     c_answers::code(v)
 }

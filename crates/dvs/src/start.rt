@@ -1,4 +1,5 @@
 // A member by itself: the start of its book.
+use views::Member;
 ghost use Rattle.book_bytes.specs.Starts.{startBytes};
 ghost use Rattle.member.specs.Calls.{startCall};
 ghost use Rattle.dvs.specs.BookCalls.{Gives};
@@ -14,7 +15,7 @@ pub extern "C" fn dvs_start(book: &mut [u8], members: u32, first_set: u32, own: 
         book,
         c_answers::narrow(members, 0),
         c_answers::narrow(first_set, 0),
-        c_answers::narrow(own, 255),
+        Member(c_answers::narrow(own, 255)),
     );
     let v = r.verdict;
     c_answers::code(v)

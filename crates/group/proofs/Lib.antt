@@ -1,3 +1,4 @@
 pub mod BeginLaws
 pub mod CarrierLaws
+pub mod OperandLaws
 pub mod OwnLaws

@@ -1,5 +1,7 @@
 // A group's records in three lent ranges, the list, the books and the queues: where they stand. docs/LAYOUT.md has the
 // tables.
+use views::Member;
+use views::ViewId;
 use views::limits;
 use views::sizes;
 ghost use Prim.Native.Nat.{_*_, _+_, _≤_};
@@ -30,13 +32,13 @@ pub const WAITING: usize = 1 + slots::SLOT * limits::WAITING as usize;
 pub const TABLE: usize = ORDER + WAITING * limits::MEMBERS as usize;
 
 // The place of the first of n views with the identifier, n if there is none.
-pub fn place(list: &[u8], n: u8, id: u64) -> u8
+pub fn place(list: &[u8], n: u8, id: ViewId) -> u8
     requires { ⌜ viewSize * n ≤ length (now list) ⌝ }
-    ensures { λ r. ⌜ r ≡ placeOf id (viewsIn (now (list .entry)) 0 n) ⌝ }
+    ensures { λ r. ⌜ r ≡ placeOf (id .0) (viewsIn (now (list .entry)) 0 n) ⌝ }
 {
     let mut i = 0;
     while i < n {
-        if numbers::get_number(list, VIEW * (i as usize), sizes::IDENTIFIER) == id {
+        if numbers::get_number(list, VIEW * (i as usize), sizes::IDENTIFIER) == id.0 as u64 {
             return i;
         }
         i += 1;
@@ -53,9 +55,9 @@ pub fn order_at(i: u8) -> usize
 }
 
 // Where what waits there for a member stands.
-pub fn waiting_at(i: u8, p: u8) -> usize
-    requires { ⌜ (i ≤ maxViews) × (p ≤ maxMembers) ⌝ }
-    ensures { λ r. ⌜ r ≡ waitingAt i p ⌝ }
+pub fn waiting_at(i: u8, p: Member) -> usize
+    requires { ⌜ (i ≤ maxViews) × (p .0 ≤ maxMembers) ⌝ }
+    ensures { λ r. ⌜ r ≡ waitingAt i (p .0) ⌝ }
 {
-    HEAD + TABLE * (i as usize) + ORDER + WAITING * (p as usize)
+    HEAD + TABLE * (i as usize) + ORDER + WAITING * (p.0 as usize)
 }

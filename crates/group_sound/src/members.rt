@@ -1,6 +1,7 @@
 // The members' books, each in its place: sound by itself, its member's own, and with nothing that the group does not
 // have.
 use book_bytes::Seat;
+use views::Member;
 ghost use mathlib.Core.Bool.{true};
 ghost use mathlib.Core.Path.{_≡_};
 ghost use Prim.Native.Nat.{_*_, _≤_};
@@ -22,7 +23,7 @@ fn ordered(list: &[u8], queues: &[u8], made: u8, seat: Seat) -> u8
     ensures { λ r. ⌜ r ≡ orderedIn (viewsIn (now (list .entry)) 0 made) (now (queues .entry)) (seated seat) ⌝ }
 {
     if seat.there {
-        let i = group_bytes::place(list, made, seat.view.id.0 as u64);
+        let i = group_bytes::place(list, made, seat.view.id);
         return queues[group_bytes::HEAD + group_bytes::TABLE * (i as usize)];
     }
     0
@@ -51,9 +52,10 @@ fn book_known(list: &[u8], b: &[u8], queues: &[u8], made: u8) -> bool
 }
 
 // The book of the member p.
-fn member_sound(list: &[u8], b: &[u8], queues: &[u8], made: u8, n: u8, p: u8) -> bool
+fn member_sound(list: &[u8], b: &[u8], queues: &[u8], made: u8, n: u8, p: Member) -> bool
     requires { ⌜ (viewSize * made ≤ length (now list)) × (orderAt made ≤ length (now queues)) ⌝ }
-    ensures { λ r. ⌜ r ≡ memberSound (viewsIn (now (list .entry)) 0 made) (now (queues .entry)) n p (now (b .entry)) ⌝ }
+    ensures { λ r. ⌜ r ≡ memberSound (viewsIn (now (list .entry)) 0 made) (now (queues .entry)) n (p .0)
+        (now (b .entry)) ⌝ }
 {
     if !book_sound::sound(b) {
         return false;
@@ -61,7 +63,7 @@ fn member_sound(list: &[u8], b: &[u8], queues: &[u8], made: u8, n: u8, p: u8) ->
     if b[book_bytes::MEMBERS] != n {
         return false;
     }
-    if b[book_bytes::SELF] != p {
+    if b[book_bytes::SELF] != p.0 {
         return false;
     }
     book_known(list, b, queues, made)
@@ -79,7 +81,7 @@ pub fn members_sound(list: &[u8], books: &[u8], queues: &[u8], made: u8, n: u8) 
     while p < n {
         let a = book_bytes::SIZE * (p as usize);
         let e = a + book_bytes::SIZE;
-        if !member_sound(list, &books[a..e], queues, made, n, p) {
+        if !member_sound(list, &books[a..e], queues, made, n, Member(p)) {
             return false;
         }
         p += 1;

@@ -1,20 +1,19 @@
 -- Create: the tests and the clearing by turns, each refusal at its place in the row, and what is known where a view is made.
 use mathlib.Core.Path.{_≡_, refl, sym, ap, _∙_}
-use mathlib.Core.Bool.{Bool, true, false, not}
+use mathlib.Core.Bool.{Bool, true, false}
 use mathlib.Core.List.{List}
-use Prim.Native.Nat.{ℕ, suc, _+_, _-_, _*_, _^_, _≤_, _<_}
+use Prim.Native.Nat.{ℕ, suc, _+_, _-_, _*_, _≤_, _<_}
 use native.Mathlib.Numerals.{add-one}
 use native.Mathlib.Omega.{arith}
-use borrow.Author.Tests.{lt-ltb, le-ltb, le-leb, ne-eqb}
+use borrow.Author.Tests.{lt-ltb, le-ltb}
 use lib.ListN.{set}
-use lib.Pow.{pow-mono}
 use Rattle.numbers.specs.Number.{get}
 use Rattle.views.specs.declared.refusal.Refusal.{Refusal}
 use Rattle.views.specs.declared.refusal.Refusal.the-variants.{SetUnfit, IdentifierNotAbove, ListFull}
 use Rattle.views.specs.declared.refusal.Verdict.the-variants.{Accepted, Refused}
 use Rattle.views.specs.Limits.{maxMembers}
 use Rattle.views.specs.Sizes.{viewSize}
-use Rattle.views.specs.Sets.{both, isEmpty, isBeyond, fits}
+use Rattle.views.specs.Sets.{fits}
 use Rattle.views.specs.Lists.{viewOf}
 use Rattle.views.specs.Refusals.{left}
 use Rattle.wire.specs.Reader.{viewsIn}
@@ -30,15 +29,6 @@ use Rattle.group_bytes.proofs.RangesLaws.{Ranged}
 use Rattle.group_bytes.proofs.PlaceLaws.{length-made}
 use Rattle.group_bytes.proofs.Creating.{Creating, created, create-says}
 use Rattle.group_steps.specs.CarrierParts.{allBelow, creating, Created}
-
--- ---- the set
-
--- a set that is no byte is beyond any members
-pub fit-wide : (n S : ℕ) → n ≤ maxMembers → 256 ≤ S → false ≡ fits n S
-unfolding isBeyond
-fit-wide n S h k =
-    let m : 2 ^ n ≤ 2 ^ 8 = pow-mono {i = n} {j = 8} h in
-    rw (ne-eqb S 0 (λ e. omega arith), le-leb (2 ^ n) S (omega arith))
 
 -- ---- the identifiers, by turns: the views from the i-th on
 

@@ -3,6 +3,8 @@
 pub mod create;
 
 use events::Reply;
+use views::Member;
+use views::ViewId;
 use views::refusal::Refusal;
 ghost use Prim.Native.Nat.{_+_, _*_, _≤_, _<_};
 ghost use lib.ListN.{length, getD};
@@ -20,27 +22,27 @@ ghost use Rattle.group_steps.specs.OwnParts.{HasBook, ofMember, OwnStep}
 ghost use Rattle.group_steps.specs.VisitParts.{Joined};
 
 // The view at a place of the list becomes the carrier view of the member p.
-fn enter(list: &[u8], all: &mut [u8], p: u32, i: u8) -> Reply
-    requires { ⌜ HasBook (now all) p × (p < getD (now all) membersAt 0)
+fn enter(list: &[u8], all: &mut [u8], p: Member, i: u8) -> Reply
+    requires { ⌜ HasBook (now all) (p .0) × (p .0 < getD (now all) membersAt 0)
         × (viewSize * i + viewSize ≤ length (now list)) ⌝ }
-    ensures { λ r. ⌜ OwnStep p
-        (ofMember (now (all .entry)) p (λ b. joins (selfIn b) (viewIn (now (list .entry)) (viewSize * i)) (bookIn b)))
+    ensures { λ r. ⌜ OwnStep (p .0)
+        (ofMember (now (all .entry)) (p .0) (λ b. joins (selfIn b) (viewIn (now (list .entry)) (viewSize * i)) (bookIn b)))
         (joinBytes (viewIn (now (list .entry)) (viewSize * i))) (now (all .entry)) (now (all .exit)) r ⌝ }
 {
     let v = wire::reader::load_view(list, group_bytes::VIEW * (i as usize));
-    let a = book_bytes::SIZE * (p as usize);
+    let a = book_bytes::SIZE * (p.0 as usize);
     let e = a + book_bytes::SIZE;
     book_steps::carrier_view::join(&mut all[a..e], v)
 }
 
 // The view with the identifier becomes the carrier view of the member p.
-pub fn join(list: &[u8], all: &mut [u8], queues: &[u8], p: u32, id: u64) -> Reply
+pub fn join(list: &[u8], all: &mut [u8], queues: &[u8], p: Member, id: ViewId) -> Reply
     requires { ⌜ rangesSound (record { list = now list; books = now all; queues = now queues }) ≡ true ⌝ }
     ensures { λ r. ⌜ Joined
-        (record { list = now (list .entry); books = now (all .entry); queues = now (queues .entry) }) p id
+        (record { list = now (list .entry); books = now (all .entry); queues = now (queues .entry) }) (p .0) (id .0)
         (now (all .exit)) r ⌝ }
 {
-    if all[book_bytes::MEMBERS] as u32 <= p {
+    if all[book_bytes::MEMBERS] <= p.0 {
         return events::refuse(Refusal::NoSuchMember);
     }
     let made = queues[group_bytes::MADE];
@@ -52,30 +54,30 @@ pub fn join(list: &[u8], all: &mut [u8], queues: &[u8], p: u32, id: u64) -> Repl
 }
 
 // The carrier view becomes open and becomes the client view.
-pub fn attempt(all: &mut [u8], p: u32) -> Reply
-    requires { ⌜ HasBook (now all) p ⌝ }
-    ensures { λ r. ⌜ OwnStep p
-        (ofMember (now (all .entry)) p (λ b. fewOpen (attempts one (membersIn b) (selfIn b) (bookIn b)))) attemptBytes
+pub fn attempt(all: &mut [u8], p: Member) -> Reply
+    requires { ⌜ HasBook (now all) (p .0) ⌝ }
+    ensures { λ r. ⌜ OwnStep (p .0)
+        (ofMember (now (all .entry)) (p .0) (λ b. fewOpen (attempts one (membersIn b) (selfIn b) (bookIn b)))) attemptBytes
         (now (all .entry)) (now (all .exit)) r ⌝ }
 {
-    if all[book_bytes::MEMBERS] as u32 <= p {
+    if all[book_bytes::MEMBERS] <= p.0 {
         return events::refuse(Refusal::NoSuchMember);
     }
-    let a = book_bytes::SIZE * (p as usize);
+    let a = book_bytes::SIZE * (p.0 as usize);
     let e = a + book_bytes::SIZE;
     book_steps::carrier_view::attempt(&mut all[a..e])
 }
 
 // The carrier view becomes settled; only open views above it remain.
-pub fn collect(all: &mut [u8], p: u32) -> Reply
-    requires { ⌜ HasBook (now all) p ⌝ }
-    ensures { λ r. ⌜ OwnStep p (ofMember (now (all .entry)) p (λ b. collects (membersIn b) (bookIn b))) collectBytes
+pub fn collect(all: &mut [u8], p: Member) -> Reply
+    requires { ⌜ HasBook (now all) (p .0) ⌝ }
+    ensures { λ r. ⌜ OwnStep (p .0) (ofMember (now (all .entry)) (p .0) (λ b. collects (membersIn b) (bookIn b))) collectBytes
         (now (all .entry)) (now (all .exit)) r ⌝ }
 {
-    if all[book_bytes::MEMBERS] as u32 <= p {
+    if all[book_bytes::MEMBERS] <= p.0 {
         return events::refuse(Refusal::NoSuchMember);
     }
-    let a = book_bytes::SIZE * (p as usize);
+    let a = book_bytes::SIZE * (p.0 as usize);
     let e = a + book_bytes::SIZE;
     book_steps::carrier_view::collect(&mut all[a..e])
 }

@@ -34,17 +34,17 @@ fn order_of(list: &[u8], queues: &[u8], g: ViewId) -> usize
     ensures { λ r. ⌜ r ≡ orderAt
         (placeOf (g .0) (viewsIn (now (list .entry)) 0 (getD (now (queues .entry)) madeAt 0))) ⌝ }
 {
-    let i = group_bytes::place(list, queues[group_bytes::MADE], g.0 as u64);
+    let i = group_bytes::place(list, queues[group_bytes::MADE], g);
     group_bytes::order_at(i)
 }
 
 // The member p takes the entry in the slot at a place, sent in the view g.
-fn take_at(all: &mut [u8], queues: &[u8], p: u32, at: usize, g: ViewId) -> Reply
-    requires { ⌜ HasBook (now all) p × (p < getD (now all) membersAt 0) × (at + slotSize ≤ length (now queues))
+fn take_at(all: &mut [u8], queues: &[u8], p: Member, at: usize, g: ViewId) -> Reply
+    requires { ⌜ HasBook (now all) (p .0) × (p .0 < getD (now all) membersAt 0) × (at + slotSize ≤ length (now queues))
         × (framed (now queues) at ≤ maxViews)
-        × (getD (now queues) at 0 < maxMembers) × (getD (bookBytes (now all) p) takenAt 0 < maxOrdered)
-        × (getD (bookBytes (now all) p) carrierAt 0 ≡ 1) ⌝ }
-    ensures { λ r. ⌜ OwnStep p (ofMember (now (all .entry)) p (λ b. taking (getD (now (queues .entry)) at 0)
+        × (getD (now queues) at 0 < maxMembers) × (getD (bookBytes (now all) (p .0)) takenAt 0 < maxOrdered)
+        × (getD (bookBytes (now all) (p .0)) carrierAt 0 ≡ 1) ⌝ }
+    ensures { λ r. ⌜ OwnStep (p .0) (ofMember (now (all .entry)) (p .0) (λ b. taking (getD (now (queues .entry)) at 0)
         (messageOf (frameAt (now (queues .entry)) at (g .0) .message)
         (listOf (frameAt (now (queues .entry)) at (g .0) .views))) (bookIn b)))
         (takeBytes (getD (now (queues .entry)) at 0)
@@ -54,23 +54,23 @@ fn take_at(all: &mut [u8], queues: &[u8], p: u32, at: usize, g: ViewId) -> Reply
 {
     let q = Member(queues[at]);
     let f = slots::load_frame(queues, at, g);
-    let a = book_bytes::SIZE * (p as usize);
+    let a = book_bytes::SIZE * (p.0 as usize);
     let e = a + book_bytes::SIZE;
     book_steps::messages::deliver(&mut all[a..e], q, f)
 }
 
 // The member p takes the next message of its carrier view, which has the identifier g.
-fn next(list: &[u8], all: &mut [u8], queues: &[u8], p: u32, g: ViewId) -> Reply
+fn next(list: &[u8], all: &mut [u8], queues: &[u8], p: Member, g: ViewId) -> Reply
     requires { ⌜ (rangesSound (record { list = now list; books = now all; queues = now queues }) ≡ true)
-        × (p < getD (now all) membersAt 0)
-        × (seatIn (bookBytes (now all) p) carrierAt .there ≡ true)
-        × (g ≡ seatIn (bookBytes (now all) p) carrierAt .view .id) ⌝ }
+        × (p .0 < getD (now all) membersAt 0)
+        × (seatIn (bookBytes (now all) (p .0)) carrierAt .there ≡ true)
+        × (g ≡ seatIn (bookBytes (now all) (p .0)) carrierAt .view .id) ⌝ }
     ensures { λ r. ⌜ Delivered
-        (record { list = now (list .entry); books = now (all .entry); queues = now (queues .entry) }) p
+        (record { list = now (list .entry); books = now (all .entry); queues = now (queues .entry) }) (p .0)
         (now (all .exit)) r ⌝ }
 {
     let c = order_of(list, queues, g);
-    let k = all[book_bytes::SIZE * (p as usize) + book_bytes::TAKEN];
+    let k = all[book_bytes::SIZE * (p.0 as usize) + book_bytes::TAKEN];
     if queues[c] <= k {
         return events::refuse(Refusal::NoneToDeliver);
     }
@@ -78,16 +78,16 @@ fn next(list: &[u8], all: &mut [u8], queues: &[u8], p: u32, g: ViewId) -> Reply
 }
 
 // The member p takes the next message of its carrier view's order.
-pub fn deliver(list: &[u8], all: &mut [u8], queues: &[u8], p: u32) -> Reply
+pub fn deliver(list: &[u8], all: &mut [u8], queues: &[u8], p: Member) -> Reply
     requires { ⌜ rangesSound (record { list = now list; books = now all; queues = now queues }) ≡ true ⌝ }
     ensures { λ r. ⌜ Delivered
-        (record { list = now (list .entry); books = now (all .entry); queues = now (queues .entry) }) p
+        (record { list = now (list .entry); books = now (all .entry); queues = now (queues .entry) }) (p .0)
         (now (all .exit)) r ⌝ }
 {
-    if all[book_bytes::MEMBERS] as u32 <= p {
+    if all[book_bytes::MEMBERS] <= p.0 {
         return events::refuse(Refusal::NoSuchMember);
     }
-    let a = book_bytes::SIZE * (p as usize);
+    let a = book_bytes::SIZE * (p.0 as usize);
     let e = a + book_bytes::SIZE;
     let seat = book_bytes::load_seat(&all[a..e], book_bytes::CARRIER);
     if !seat.there {

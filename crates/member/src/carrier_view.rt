@@ -3,12 +3,10 @@
 use crate::admit;
 use events::Reply;
 use views::View;
-use views::ViewId;
 use views::refusal::Refusal;
 use views::refusal::Verdict;
 ghost use mathlib.Core.Bool.{true};
 ghost use mathlib.Core.Path.{_≡_};
-ghost use Rattle.views.specs.Lists.{viewOf};
 ghost use Rattle.views.specs.Refusals.{left};
 ghost use Rattle.events.specs.Replies.{replyOf, verdictOf};
 ghost use Rattle.book_bytes.specs.Books.{bookIn, bytesSound, membersIn, selfIn};
@@ -32,20 +30,13 @@ fn join_view(b: &mut [u8], v: View) -> Reply
 }
 
 // The view becomes the carrier view.
-pub fn join(b: &mut [u8], id: u32, set: u8) -> Reply
-    ensures { λ r. ⌜ Gave (joinCall (viewOf id set) (now (b .entry))) (joinBytes (viewOf id set) (now (b .entry)))
-        (now (b .entry)) (now (b .exit)) r ⌝ }
+pub fn join(b: &mut [u8], v: View) -> Reply
+    ensures { λ r. ⌜ Gave (joinCall v (now (b .entry))) (joinBytes v (now (b .entry))) (now (b .entry)) (now (b .exit)) r ⌝ }
 {
-    let v = admit(b);
-    match v {
+    let verdict = admit(b);
+    match verdict {
         Verdict::Refused(r) => events::refuse(r),
-        Verdict::Accepted => join_view(
-            b,
-            View {
-                id: ViewId(id),
-                set,
-            },
-        ),
+        Verdict::Accepted => join_view(b, v),
     }
 }
 

@@ -5,6 +5,7 @@ pub mod client_view;
 pub mod messages;
 
 use events::Reply;
+use views::Member;
 use views::View;
 use views::ViewId;
 use views::limits;
@@ -37,8 +38,8 @@ pub fn admit(b: &[u8]) -> Verdict
 }
 
 // 4 for a book not of its length, then 1, 2, 6.
-fn startable(b: &[u8], members: u8, set: u8, own: u8) -> Verdict
-    ensures { λ r. ⌜ r ≡ verdictOf (startCall members set own (now (b .entry))) ⌝ }
+fn startable(b: &[u8], members: u8, set: u8, own: Member) -> Verdict
+    ensures { λ r. ⌜ r ≡ verdictOf (startCall members set (own .0) (now (b .entry))) ⌝ }
 {
     if b.len() != book_bytes::SIZE {
         return Verdict::Refused(Refusal::RecordsUnsound);
@@ -53,23 +54,23 @@ fn startable(b: &[u8], members: u8, set: u8, own: u8) -> Verdict
     if !book_sound::views_at::set_fits(members, view) {
         return Verdict::Refused(Refusal::FirstSetUnfit);
     }
-    if members <= own {
+    if members <= own.0 {
         return Verdict::Refused(Refusal::NoSuchMember);
     }
     Verdict::Accepted
 }
 
 // The member is given the members, the first set and its number.
-pub fn start(b: &mut [u8], members: u8, set: u8, own: u8) -> Reply
-    ensures { λ r. ⌜ (r ≡ startReply (startCall members set own (now (b .entry))))
-        × (now (b .exit) ≡ left (verdictOf (startCall members set own (now (b .entry))))
-        (startBytes members set own (now (b .entry))) (now (b .entry))) ⌝ }
+pub fn start(b: &mut [u8], members: u8, set: u8, own: Member) -> Reply
+    ensures { λ r. ⌜ (r ≡ startReply (startCall members set (own .0) (now (b .entry))))
+        × (now (b .exit) ≡ left (verdictOf (startCall members set (own .0) (now (b .entry))))
+        (startBytes members set (own .0) (now (b .entry))) (now (b .entry))) ⌝ }
 {
     let v = startable(b, members, set, own);
     match v {
         Verdict::Refused(r) => events::refuse(r),
         Verdict::Accepted => {
-            book_bytes::fresh::book(b, members, set, own);
+            book_bytes::fresh::book(b, members, set, own.0);
             Reply {
                 verdict: Verdict::Accepted,
                 event: events::no_event(),

@@ -1,23 +1,30 @@
 // The calls of a book, with their operands from a line.
 use events::Reply;
 use events::kinds;
+use views::Member;
+use views::View;
+use views::ViewId;
 
 pub fn start(b: &mut [u8], line: &[u8]) -> Reply {
-    member::start(b, word(line, 2), word(line, 3), word(line, 4))
+    member::start(b, word(line, 2), word(line, 3), Member(word(line, 4)))
 }
 
 fn word(line: &[u8], n: usize) -> u8 {
     test_script::operand::byte(line, n)
 }
 
+// The view of a join: its identifier and its set.
+fn view(line: &[u8]) -> View {
+    View {
+        id: ViewId(test_script::operand::identifier(line, 2)),
+        set: word(line, 3),
+    }
+}
+
 // A step, by the number of its kind.
 pub fn step(b: &mut [u8], line: &[u8], kind: u8) -> Reply {
     match kind {
-        kinds::JOIN => member::carrier_view::join(
-            b,
-            test_script::operand::identifier(line, 2),
-            word(line, 3),
-        ),
+        kinds::JOIN => member::carrier_view::join(b, view(line)),
         kinds::DELIVER => deliver(b, line),
         kinds::ATTEMPT => member::carrier_view::attempt(b),
         kinds::REGISTER => member::client_view::register(b),
@@ -33,5 +40,5 @@ pub fn step(b: &mut [u8], line: &[u8], kind: u8) -> Reply {
 fn deliver(b: &mut [u8], line: &[u8]) -> Reply {
     let mut bytes = [0u8; crate::desk::SLIP];
     let n = test_script::parse::unhex(line, test_script::parse::word(line, 3), &mut bytes);
-    member::messages::deliver::deliver(b, &bytes[..n], word(line, 2))
+    member::messages::deliver::deliver(b, &bytes[..n], Member(word(line, 2)))
 }

@@ -10,6 +10,7 @@ use crate::desk::Desk;
 use crate::desk::ROOM;
 use crate::desk::SLIP;
 use crate::word::Word;
+use views::Member;
 ghost use mathlib.Core.Path.{_≡_};
 ghost use lib.ListN.{length};
 ghost use Prim.Native.Nat.{_<_};
@@ -135,7 +136,7 @@ fn relay(books: &mut [u8], slips: &mut [u8], k: usize, line: &[u8], d: Desk)
     let r = member::messages::deliver::deliver(
         &mut books[from..to],
         &slips[at..end],
-        crate::desk::own(d, j),
+        Member(crate::desk::own(d, j)),
     );
     test_script::reply::reply(r);
 }

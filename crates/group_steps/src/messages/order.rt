@@ -1,4 +1,6 @@
 // Order: the first one waiting goes to the end of the view's order.
+use views::Member;
+use views::ViewId;
 use views::limits;
 use views::refusal::Refusal;
 use views::refusal::Verdict;
@@ -34,13 +36,13 @@ fn forward(q: &mut [u8], c: usize, w: usize)
 }
 
 // The first one waiting for the member p in a view goes to the end of the view's order.
-pub fn order(list: &[u8], all: &[u8], queues: &mut [u8], p: u32, id: u64) -> Verdict
+pub fn order(list: &[u8], all: &[u8], queues: &mut [u8], p: Member, id: ViewId) -> Verdict
     requires { ⌜ rangesSound (record { list = now list; books = now all; queues = now queues }) ≡ true ⌝ }
     ensures { λ r. ⌜ Ordered
-        (record { list = now (list .entry); books = now (all .entry); queues = now (queues .entry) }) p id
+        (record { list = now (list .entry); books = now (all .entry); queues = now (queues .entry) }) (p .0) (id .0)
         (now (queues .exit)) r ⌝ }
 {
-    if all[book_bytes::MEMBERS] as u32 <= p {
+    if all[book_bytes::MEMBERS] <= p.0 {
         return Verdict::Refused(Refusal::NoSuchMember);
     }
     let made = queues[group_bytes::MADE];
@@ -49,7 +51,7 @@ pub fn order(list: &[u8], all: &[u8], queues: &mut [u8], p: u32, id: u64) -> Ver
         return Verdict::Refused(Refusal::NoSuchView);
     }
     let c = group_bytes::order_at(i);
-    let w = group_bytes::waiting_at(i, p as u8);
+    let w = group_bytes::waiting_at(i, p);
     if queues[w] == 0 {
         return Verdict::Refused(Refusal::NoneWaiting);
     }

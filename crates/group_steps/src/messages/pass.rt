@@ -1,4 +1,5 @@
 // Pass: the first outgoing message of a member goes to the member's waiting in its carrier view.
+use views::Member;
 use views::limits;
 use views::refusal::Refusal;
 use views::refusal::Verdict;
@@ -51,16 +52,16 @@ fn forward(b: &mut [u8], q: &mut [u8], w: usize)
 }
 
 // The first outgoing message of the member p goes to its waiting in its carrier view.
-pub fn pass(list: &[u8], all: &mut [u8], queues: &mut [u8], p: u32) -> Verdict
+pub fn pass(list: &[u8], all: &mut [u8], queues: &mut [u8], p: Member) -> Verdict
     requires { ⌜ rangesSound (record { list = now list; books = now all; queues = now queues }) ≡ true ⌝ }
     ensures { λ r. ⌜ Passed
-        (record { list = now (list .entry); books = now (all .entry); queues = now (queues .entry) }) p
+        (record { list = now (list .entry); books = now (all .entry); queues = now (queues .entry) }) (p .0)
         (now (all .exit)) (now (queues .exit)) r ⌝ }
 {
-    if all[book_bytes::MEMBERS] as u32 <= p {
+    if all[book_bytes::MEMBERS] <= p.0 {
         return Verdict::Refused(Refusal::NoSuchMember);
     }
-    let a = book_bytes::SIZE * (p as usize);
+    let a = book_bytes::SIZE * (p.0 as usize);
     let e = a + book_bytes::SIZE;
     let carrier = book_bytes::load_seat(&all[a..e], book_bytes::CARRIER);
     if !carrier.there {
@@ -69,8 +70,8 @@ pub fn pass(list: &[u8], all: &mut [u8], queues: &mut [u8], p: u32) -> Verdict
     if all[a + book_bytes::OUTGOING] == 0 {
         return Verdict::Refused(Refusal::NoneOutgoing);
     }
-    let i = group_bytes::place(list, queues[group_bytes::MADE], carrier.view.id.0 as u64);
-    let w = group_bytes::waiting_at(i, p as u8);
+    let i = group_bytes::place(list, queues[group_bytes::MADE], carrier.view.id);
+    let w = group_bytes::waiting_at(i, p);
     if limits::WAITING <= queues[w] {
         return Verdict::Refused(Refusal::WaitingFull);
     }

@@ -102,14 +102,14 @@ fn deliver_read(b: &mut [u8], bytes: &[u8], q: Member) -> Reply
     }
 }
 
-// The bytes of a message from a sender are taken.
-pub fn deliver(b: &mut [u8], bytes: &[u8], sender: u8) -> Reply
-    ensures { λ r. ⌜ Gave (deliverCall (now (bytes .entry)) sender (now (b .entry)))
-        (deliverBytes (now (bytes .entry)) sender (now (b .entry))) (now (b .entry)) (now (b .exit)) r ⌝ }
+// The bytes of a message from the sender q are taken.
+pub fn deliver(b: &mut [u8], bytes: &[u8], q: Member) -> Reply
+    ensures { λ r. ⌜ Gave (deliverCall (now (bytes .entry)) (q .0) (now (b .entry)))
+        (deliverBytes (now (bytes .entry)) (q .0) (now (b .entry))) (now (b .entry)) (now (b .exit)) r ⌝ }
 {
     let v = admit(b);
     match v {
         Verdict::Refused(r) => events::refuse(r),
-        Verdict::Accepted => deliver_read(b, bytes, Member(sender)),
+        Verdict::Accepted => deliver_read(b, bytes, q),
     }
 }

@@ -21,7 +21,7 @@ returns : tie.Need-returns
 returns c =
     let a = c .before .before .before .before .before .before .before .args in
     join-narrowed (a .book .now) _ _ (a .view) (a .set)
-    (gives-call _ _ _ _ _ _ (rw (c .before .before .before .before .narrow .ensures) at (c .before .before .before .join .ensures)) (c .code .ensures))
+    (gives-call _ _ _ _ _ _ (rw (c .before .before .before .before .before .narrow .ensures) at (c .before .before .before .join .ensures)) (c .code .ensures))
 
 pub dvs-join-spec : {M : Type 1} → statement M
 dvs-join-spec =

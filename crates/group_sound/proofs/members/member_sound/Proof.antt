@@ -33,14 +33,14 @@ returns-3 c = sym (stopped _ 2 (ne-eqb _ _ (c .if3 .taken)))
 
 book-known-requires : tie.Need-book-known-requires
 book-known-requires c κs =
-    let early = c .before .before .before .before in
+    let early = c .before .before .before .before .before in
     (early .before .before .before .before .before .pre .0, fits-layout (early .before .before .before .before .before .args .b .now) (sym (early .before .sound .ensures) ∙ not-false _ (early .if1 .left)), early .before .before .before .before .before .pre .1)
 
 returns-4 : tie.Need-returns-4
 unfolding memberSound
 returns-4 c =
-    let early = c .before .before .before .before .before in
-    c .book-known .ensures ∙ sym (four _ _ _ _ ∙ rw (sym (early .before .sound .ensures) ∙ not-false _ (early .if1 .left), eq-eqb _ _ (c .before .before .before .if2 .left), eq-eqb _ _ (c .before .if3 .left)))
+    let early = c .before .before .before .before .before .before in
+    c .book-known .ensures ∙ sym (four _ _ _ _ ∙ rw (sym (early .before .sound .ensures) ∙ not-false _ (early .if1 .left), eq-eqb _ _ (c .before .before .before .before .if2 .left), eq-eqb _ _ (c .before .if3 .left)))
 
 pub member-sound-spec : {M : Type 1} → statement M
 member-sound-spec =

@@ -8,9 +8,6 @@ use borrow.Author.Needs.{needs}
 use Rattle.group_sound.proofs.members.ordered.Statement.{statement}
 use Rattle.group_sound.proofs.members.ordered.Tie as tie
 
-cast-place : tie.Need-cast-place
-cast-place c = search needs
-
 place-requires : tie.Need-place-requires
 place-requires c κs = search needs
 
@@ -24,12 +21,12 @@ add-result : tie.Need-add-result
 add-result c = search needs
 
 shared-slice-read-result : tie.Need-shared-slice-read-result
-shared-slice-read-result c = omega (arith, ordered-place (viewsIn (c .before .before .before .before .before .before .args .list .now) 0 (c .before .before .before .before .before .before .args .made)) (c .before .before .before .before .before .before .args .seat) (c .before .before .before .if1 .taken) (c .before .before .before .before .before .before .pre .2), length-viewsIn (c .before .before .before .before .before .before .args .list .now) 0 (c .before .before .before .before .before .before .args .made), c .before .place .ensures, c .before .before .before .before .before .before .pre .1)
+shared-slice-read-result c = omega (arith, ordered-place (viewsIn (c .before .before .before .before .before .args .list .now) 0 (c .before .before .before .before .before .args .made)) (c .before .before .before .before .before .args .seat) (c .before .before .if1 .taken) (c .before .before .before .before .before .pre .2), length-viewsIn (c .before .before .before .before .before .args .list .now) 0 (c .before .before .before .before .before .args .made), c .before .place .ensures, c .before .before .before .before .before .pre .1)
 
 returns : tie.Need-returns
 returns c =
-    let a = c .before .before .before .before .before .before .args in
-    rw (c .before .place .ensures) (ordered-there (viewsIn (a .list .now) 0 (a .made)) (a .queues .now) (a .seat) (c .before .before .before .if1 .taken))
+    let a = c .before .before .before .before .before .args in
+    rw (c .before .place .ensures) (ordered-there (viewsIn (a .list .now) 0 (a .made)) (a .queues .now) (a .seat) (c .before .before .if1 .taken))
 
 returns-2 : tie.Need-returns-2
 unfolding orderedIn
@@ -39,7 +36,6 @@ pub ordered-spec : {M : Type 1} → statement M
 ordered-spec =
     tie.close
     (tie.spec
-    cast-place
     place-requires
     cast-result
     mul-result

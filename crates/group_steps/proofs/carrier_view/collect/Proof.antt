@@ -10,16 +10,16 @@ use Rattle.group_steps.proofs.carrier_view.collect.Tie as tie
 slice-read-if1 : tie.Need-slice-read-if1
 slice-read-if1 c = search needs
 
-cast-if1 : tie.Need-cast-if1
-cast-if1 c = search needs
-
 refuse-requires : tie.Need-refuse-requires
 refuse-requires c κs = search needs
 
 returns : tie.Need-returns
 returns c =
-    let a = c .before .before .before .before .args in
-    desk-refused (a .all .now) (a .p) _ _ _ (c .before .if1 .taken) (c .refuse .ensures)
+    let a = c .before .before .before .before .before .args in
+    desk-refused (a .all .now) (a .p .0) _ _ _ (c .before .if1 .taken) (c .refuse .ensures)
+
+cast-a : tie.Need-cast-a
+cast-a c = search needs
 
 mul-a : tie.Need-mul-a
 mul-a c = search needs
@@ -37,22 +37,22 @@ part-collect-end : tie.Need-part-collect-end
 part-collect-end c = search needs
 
 collect-requires : tie.Need-collect-requires
-collect-requires c κs = desk-sound (c .before .before .before .before .args .all .now) (c .before .before .before .before .args .p) (c .before .before .before .before .pre) (c .before .if1 .left) (bookSize * c .before .before .before .before .args .p + bookSize - bookSize * c .before .before .before .before .args .p) (omega arith)
+collect-requires c κs = desk-sound (c .before .before .before .before .before .before .args .all .now) (c .before .before .before .before .before .before .args .p .0) (c .before .before .before .before .before .before .pre) (c .before .before .if1 .left) (bookSize * c .before .before .before .before .before .before .args .p .0 + bookSize - bookSize * c .before .before .before .before .before .before .args .p .0) (omega arith)
 
 same-length : tie.Need-same-length
 same-length c = search needs
 
 returns-2 : tie.Need-returns-2
-returns-2 c = desk-done (c .before .before .before .before .before .before .before .args .all .now) (c .before .before .before .before .before .before .before .args .p) _ _ _ (c .before .before .before .before .if1 .left) (bookSize * c .before .before .before .before .before .before .before .args .p + bookSize - bookSize * c .before .before .before .before .before .before .before .args .p) (omega arith) _ _ (c .before .before .collect .ensures) refl
+returns-2 c = desk-done (c .before .before .before .before .before .before .before .before .before .args .all .now) (c .before .before .before .before .before .before .before .before .before .args .p .0) _ _ _ (c .before .before .before .before .before .if1 .left) (bookSize * c .before .before .before .before .before .before .before .before .before .args .p .0 + bookSize - bookSize * c .before .before .before .before .before .before .before .before .before .args .p .0) (omega arith) _ _ (c .before .before .collect .ensures) refl
 
 pub collect-spec : {M : Type 1} → statement M
 collect-spec =
     tie.close
     (tie.spec
     slice-read-if1
-    cast-if1
     refuse-requires
     returns
+    cast-a
     mul-a
     add-e
     sub-collect

@@ -15,6 +15,9 @@ mul-load-view c = search needs
 load-view-requires : tie.Need-load-view-requires
 load-view-requires c κs = search needs
 
+cast-a : tie.Need-cast-a
+cast-a c = search needs
+
 mul-a : tie.Need-mul-a
 mul-a c = search needs
 
@@ -32,16 +35,16 @@ part-join-end c = search needs
 
 join-requires : tie.Need-join-requires
 join-requires c κs =
-    let s = c .before .before .before .before in
-    desk-sound (s .args .all .now) (s .args .p) (s .pre .0) (s .pre .1) (bookSize * s .args .p + bookSize - bookSize * s .args .p) (omega arith)
+    let s = c .before .before .before .before .before in
+    desk-sound (s .args .all .now) (s .args .p .0) (s .pre .0) (s .pre .1) (bookSize * s .args .p .0 + bookSize - bookSize * s .args .p .0) (omega arith)
 
 same-length : tie.Need-same-length
 same-length c = search needs
 
 returns : tie.Need-returns
 returns c =
-    let s = c .before .before .before .before .before .before .before in
-    enter-done (s .args .all .now) (s .args .p) (s .pre .1) _ _ (c .before .before .before .before .load-view .ensures) (bookSize * s .args .p + bookSize - bookSize * s .args .p) (omega arith) _ _ _
+    let s = c .before .before .before .before .before .before .before .before in
+    enter-done (s .args .all .now) (s .args .p .0) (s .pre .1) _ _ (c .before .before .before .before .before .load-view .ensures) (bookSize * s .args .p .0 + bookSize - bookSize * s .args .p .0) (omega arith) _ _ _
     (c .before .before .join .ensures) refl
 
 pub enter-spec : {M : Type 1} → statement M
@@ -50,6 +53,7 @@ enter-spec =
     (tie.spec
     mul-load-view
     load-view-requires
+    cast-a
     mul-a
     add-e
     sub-join

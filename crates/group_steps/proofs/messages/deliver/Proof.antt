@@ -20,20 +20,17 @@ slice-read-if1 c =
     let r : Ranges = record { list = s .args .list .now; books = s .args .all .now; queues = s .args .queues .now } in
     omega (arith, ranged r (s .pre) .books)
 
-cast-if1 : tie.Need-cast-if1
-cast-if1 c =
-    let s = c .before .before .before .before in
-    let r : Ranges = record { list = s .args .list .now; books = s .args .all .now; queues = s .args .queues .now } in
-    omega (arith, ranged r (s .pre) .members .1)
-
 refuse-requires : tie.Need-refuse-requires
 refuse-requires c κs = search needs
 
 returns : tie.Need-returns
 returns c =
-    let s = c .before .before .before .before .before .before in
+    let s = c .before .before .before .before .before .before .before in
     let r : Ranges = record { list = s .args .list .now; books = s .args .all .now; queues = s .args .queues .now } in
-    deliver-no-member r (s .args .p) (c .before .if1 .taken) _ (c .refuse .ensures)
+    deliver-no-member r (s .args .p .0) (c .before .if1 .taken) _ (c .refuse .ensures)
+
+cast-a : tie.Need-cast-a
+cast-a c = search needs
 
 mul-a : tie.Need-mul-a
 mul-a c = search needs
@@ -49,7 +46,7 @@ part-load-seat-start c = search needs
 
 part-load-seat-end : tie.Need-part-load-seat-end
 part-load-seat-end c =
-    let s = c .before .before .before .before .before .before in
+    let s = c .before .before .before .before .before .before .before .before in
     let r : Ranges = record { list = s .args .list .now; books = s .args .all .now; queues = s .args .queues .now } in
     let fits = ranged r (s .pre) in
     omega (arith, fits .books, fits .members .1)
@@ -65,17 +62,17 @@ same-length c = search needs
 
 returns-2 : tie.Need-returns-2
 returns-2 c =
-    let s = c .before .before .before .before .before .before .before .before .before .before .before in
+    let s = c .before .before .before .before .before .before .before .before .before .before .before .before .before in
     let r : Ranges = record { list = s .args .list .now; books = s .args .all .now; queues = s .args .queues .now } in
-    let seat : c .before .before .before .load-seat .result ≡ seatIn (bookBytes (s .args .all .now) (s .args .p)) carrierAt = c .before .before .before .load-seat .ensures ∙ part-seat (s .args .all .now) (s .args .p) (c .before .before .before .before .before .before .if1 .left) (bookSize * s .args .p + bookSize - bookSize * s .args .p) (omega arith) in
-    deliver-no-carrier r (s .args .p) (s .pre) (c .before .before .before .before .before .before .if1 .left) (sym (ap (λ (x : Seat). x .there) seat) ∙ not-true _ (c .before .if2 .taken)) _ (c .refuse2 .ensures)
+    let seat : c .before .before .before .load-seat .result ≡ seatIn (bookBytes (s .args .all .now) (s .args .p .0)) carrierAt = c .before .before .before .load-seat .ensures ∙ part-seat (s .args .all .now) (s .args .p .0) (c .before .before .before .before .before .before .before .if1 .left) (bookSize * s .args .p .0 + bookSize - bookSize * s .args .p .0) (omega arith) in
+    deliver-no-carrier r (s .args .p .0) (s .pre) (c .before .before .before .before .before .before .before .if1 .left) (sym (ap (λ (x : Seat). x .there) seat) ∙ not-true _ (c .before .if2 .taken)) _ (c .refuse2 .ensures)
 
 next-requires : tie.Need-next-requires
 next-requires c κs =
-    let s = c .before .before .before .before .before .before .before .before .before .before .before in
+    let s = c .before .before .before .before .before .before .before .before .before .before .before .before .before in
     let r : Ranges = record { list = s .args .list .now; books = s .args .all .now; queues = s .args .queues .now } in
-    let seat : c .before .before .before .load-seat .result ≡ seatIn (bookBytes (s .args .all .now) (s .args .p)) carrierAt = c .before .before .before .load-seat .ensures ∙ part-seat (s .args .all .now) (s .args .p) (c .before .before .before .before .before .before .if1 .left) (bookSize * s .args .p + bookSize - bookSize * s .args .p) (omega arith) in
-    (s .pre, c .before .before .before .before .before .before .if1 .left, sym (ap (λ (x : Seat). x .there) seat) ∙ not-false _ (c .before .if2 .left), ap (λ (x : Seat). x .view .id) seat)
+    let seat : c .before .before .before .load-seat .result ≡ seatIn (bookBytes (s .args .all .now) (s .args .p .0)) carrierAt = c .before .before .before .load-seat .ensures ∙ part-seat (s .args .all .now) (s .args .p .0) (c .before .before .before .before .before .before .before .if1 .left) (bookSize * s .args .p .0 + bookSize - bookSize * s .args .p .0) (omega arith) in
+    (s .pre, c .before .before .before .before .before .before .before .if1 .left, sym (ap (λ (x : Seat). x .there) seat) ∙ not-false _ (c .before .if2 .left), ap (λ (x : Seat). x .view .id) seat)
 
 same-length-2 : tie.Need-same-length-2
 same-length-2 c = search needs
@@ -88,9 +85,9 @@ deliver-spec =
     tie.close
     (tie.spec
     slice-read-if1
-    cast-if1
     refuse-requires
     returns
+    cast-a
     mul-a
     add-e
     sub-load-seat

@@ -14,6 +14,9 @@ shared-slice-read-t11 c = search needs
 load-frame-requires : tie.Need-load-frame-requires
 load-frame-requires c κs = search needs
 
+cast-a : tie.Need-cast-a
+cast-a c = search needs
+
 mul-a : tie.Need-mul-a
 mul-a c = search needs
 
@@ -31,16 +34,16 @@ part-deliver-end c = search needs
 
 deliver-requires : tie.Need-deliver-requires
 deliver-requires c κs =
-    let s = c .before .before .before .before .before in
-    part-asks (s .args .all .now) (s .args .p) (s .pre .1) (bookSize * s .args .p + bookSize - bookSize * s .args .p) (omega arith) (s .pre .0) _ (s .pre .4) (s .pre .5) (s .pre .6)
+    let s = c .before .before .before .before .before .before in
+    part-asks (s .args .all .now) (s .args .p .0) (s .pre .1) (bookSize * s .args .p .0 + bookSize - bookSize * s .args .p .0) (omega arith) (s .pre .0) _ (s .pre .4) (s .pre .5) (s .pre .6)
 
 same-length : tie.Need-same-length
 same-length c = search needs
 
 returns : tie.Need-returns
 returns c =
-    let s = c .before .before .before .before .before .before .before .before in
-    part-taken (s .args .all .now) (s .args .p) (s .pre .1) (bookSize * s .args .p + bookSize - bookSize * s .args .p) (omega arith) _ _ _ (c .before .before .before .before .load-frame .ensures) _ _ _
+    let s = c .before .before .before .before .before .before .before .before .before in
+    part-taken (s .args .all .now) (s .args .p .0) (s .pre .1) (bookSize * s .args .p .0 + bookSize - bookSize * s .args .p .0) (omega arith) _ _ _ (c .before .before .before .before .before .load-frame .ensures) _ _ _
     (c .before .before .deliver .ensures) refl
 
 pub take-at-spec : {M : Type 1} → statement M
@@ -49,6 +52,7 @@ take-at-spec =
     (tie.spec
     shared-slice-read-t11
     load-frame-requires
+    cast-a
     mul-a
     add-e
     sub-deliver

@@ -9,8 +9,8 @@ use Rattle.member.proofs.carrier_view.join.Tie as tie
 admit-requires : tie.Need-admit-requires
 admit-requires c κs = search needs
 
-enum-known-v : tie.Need-enum-known-v
-enum-known-v c = search needs
+enum-known-verdict : tie.Need-enum-known-verdict
+enum-known-verdict c = search needs
 
 refuse-requires : tie.Need-refuse-requires
 refuse-requires c κs = search needs
@@ -26,7 +26,7 @@ same-length c = search needs
 
 returns : tie.Need-returns
 unfolding joinCall joinAlone
-returns c = call-refused _ _ _ _ (c .before .before .before .before .admit .ensures) _ (c .before .before .v .given .1) _ (c .refuse .ensures)
+returns c = call-refused _ _ _ _ (c .before .before .before .before .admit .ensures) _ (c .before .before .verdict .given .1) _ (c .refuse .ensures)
 
 same-length-2 : tie.Need-same-length-2
 same-length-2 c = search needs
@@ -42,7 +42,7 @@ join-spec =
     tie.close
     (tie.spec
     admit-requires
-    enum-known-v
+    enum-known-verdict
     refuse-requires
     enum-told
     join-view-requires

@@ -2,6 +2,7 @@
 use mathlib.Core.Path.{_≡_, sym, _∙_}
 use Prim.Native.Nat.{_-_, _≤_}
 use native.Mathlib.Omega.{arith}
+use borrow.Author.Needs.{needs}
 use Rattle.wire.specs.Reader.{viewsIn}
 use Rattle.group_steps.specs.CarrierParts.{allBelow}
 use Rattle.group_steps.proofs.CreateLaws.{belowFrom, below-first, below-turn, below-stop, below-end}
@@ -9,13 +10,13 @@ use Rattle.group_steps.proofs.carrier_view.create.above.Statement.{stat
 use Rattle.group_steps.proofs.carrier_view.create.above.Tie as tie
 
 abbrev Inv-loop : tie.InvT-loop
-Inv-loop list n id i₀ i = (i ≤ n) × (allBelow id (viewsIn list 0 n) ≡ belowFrom list id n i)
+Inv-loop list n id i₀ i = (i ≤ n) × (allBelow (id .0) (viewsIn list 0 n) ≡ belowFrom list (id .0) n i)
 
 abbrev μ-loop : tie.MeasureT-loop
 μ-loop list n id i₀ i = n - i
 
 loop-holds : tie.Need-loop-holds Inv-loop μ-loop
-loop-holds c = let a = c .before .args in (omega arith, below-first (a .list .now) (a .id) (a .n))
+loop-holds c = let a = c .before .args in (omega arith, below-first (a .list .now) (a .id .0) (a .n))
 
 cast-get-number : tie.Need-cast-get-number Inv-loop μ-loop
 cast-get-number c = omega arith
@@ -26,11 +27,14 @@ mul-get-number c = omega arith
 get-number-requires : tie.Need-get-number-requires Inv-loop μ-loop
 get-number-requires c κs = (omega arith, omega arith)
 
+cast-if1 : tie.Need-cast-if1 Inv-loop μ-loop
+cast-if1 c = search needs
+
 returns : tie.Need-returns Inv-loop μ-loop
 returns c =
-    let a = c .before .before .before .before .before .args in
-    let l = c .before .before .before .loop in
-    below-stop (a .list .now) (a .id) (a .n) (l .i) (omega arith) (omega (arith, c .before .get-number .ensures .0)) ∙ sym (l .inv .1)
+    let a = c .before .before .before .before .before .before .args in
+    let l = c .before .before .before .before .loop in
+    below-stop (a .list .now) (a .id .0) (a .n) (l .i) (omega arith) (omega (arith, c .before .before .get-number .ensures .0)) ∙ sym (l .inv .1)
 
 add-i : tie.Need-add-i Inv-loop μ-loop
 add-i c = omega arith
@@ -40,15 +44,15 @@ loop-less c = omega arith
 
 loop-again : tie.Need-loop-again Inv-loop μ-loop
 loop-again c =
-    let a = c .before .before .before .before .before .args in
-    let l = c .before .before .before .loop in
-    (omega arith, l .inv .1 ∙ below-turn (a .list .now) (a .id) (a .n) (l .i) (omega arith) (omega (arith, c .before .get-number .ensures .0)))
+    let a = c .before .before .before .before .before .before .args in
+    let l = c .before .before .before .before .loop in
+    (omega arith, l .inv .1 ∙ below-turn (a .list .now) (a .id .0) (a .n) (l .i) (omega arith) (omega (arith, c .before .before .get-number .ensures .0)))
 
 returns-2 : tie.Need-returns-2 Inv-loop μ-loop
 returns-2 c =
     let a = c .before .before .before .args in
     let l = c .before .loop in
-    below-end (a .list .now) (a .id) (a .n) (l .i) (omega arith) ∙ sym (l .inv .1)
+    below-end (a .list .now) (a .id .0) (a .n) (l .i) (omega arith) ∙ sym (l .inv .1)
 
 pub above-spec : {M : Type 1} → statement M
 above-spec =
@@ -60,6 +64,7 @@ above-spec =
     cast-get-number
     mul-get-number
     get-number-requires
+    cast-if1
     returns
     add-i
     loop-less

@@ -13,25 +13,21 @@ use Rattle.views.specs.Sets.{fits}
 use Rattle.group_steps.proofs.carrier_view.create.create.Statement.{statement}
 use Rattle.group_steps.proofs.carrier_view.create.create.Tie as tie
 
-shared-slice-read-fit : tie.Need-shared-slice-read-fit
-shared-slice-read-fit c =
+shared-slice-read-fits : tie.Need-shared-slice-read-fits
+shared-slice-read-fits c =
     let a = c .before .before .before .before .args in
     let r : Ranges = record { list = a .list .now; books = a .all .now; queues = a .queues .now } in
     let f = ranged r (c .before .before .before .before .pre) in
     omega (arith, f .books)
 
-fit-requires : tie.Need-fit-requires
-fit-requires c κs =
-    let a = c .before .before .before .before .args in
-    let r : Ranges = record { list = a .list .now; books = a .all .now; queues = a .queues .now } in
-    let f = ranged r (c .before .before .before .before .pre) in
-    f .members .1
+fits-requires : tie.Need-fits-requires
+fits-requires c κs = search needs
 
 returns : tie.Need-returns
 returns c =
     let a = c .before .before .before .before .before .before .args in
     let r : Ranges = record { list = a .list .now; books = a .all .now; queues = a .queues .now } in
-    create-refused r (a .id) (a .set) SetUnfit (unfit r (a .id) (a .set) (sym (c .before .fit .ensures) ∙ not-true _ (c .if1 .taken)))
+    create-refused r (a .id .0) (a .set) SetUnfit (unfit r (a .id .0) (a .set) (sym (c .before .fits2 .ensures) ∙ not-true _ (c .if1 .taken)))
 
 slice-read-made : tie.Need-slice-read-made
 slice-read-made c =
@@ -55,8 +51,8 @@ returns-2 c =
     let l = c .before in
     let a = l .before .before .before .before .before .before .before .before .before .args in
     let r : Ranges = record { list = a .list .now; books = a .all .now; queues = a .queues .now } in
-    let t : fits (membersOf r) (a .set) ≡ true = sym (l .before .before .before .before .fit .ensures) ∙ not-false _ (l .before .before .before .if1 .left) in
-    create-refused r (a .id) (a .set) IdentifierNotAbove (not-above r (a .id) (a .set) t (sym (l .above .ensures) ∙ not-true _ (c .if2 .taken)))
+    let t : fits (membersOf r) (a .set) ≡ true = sym (l .before .before .before .before .fits2 .ensures) ∙ not-false _ (l .before .before .before .if1 .left) in
+    create-refused r (a .id .0) (a .set) IdentifierNotAbove (not-above r (a .id .0) (a .set) t (sym (l .above .ensures) ∙ not-true _ (c .if2 .taken)))
 
 cast-if3 : tie.Need-cast-if3
 cast-if3 c =
@@ -65,7 +61,7 @@ cast-if3 c =
     let r : Ranges = record { list = a .list .now; books = a .all .now; queues = a .queues .now } in
     let h = l .before .before .before .before .before .before .before .before .before .pre in
     let f = ranged r h in
-    let t : fits (membersOf r) (a .set) ≡ true = sym (l .before .before .before .before .fit .ensures) ∙ not-false _ (l .before .before .before .if1 .left) in
+    let t : fits (membersOf r) (a .set) ≡ true = sym (l .before .before .before .before .fits2 .ensures) ∙ not-false _ (l .before .before .before .if1 .left) in
     omega (arith, f .made .1, f .room .1)
 
 same-length-2 : tie.Need-same-length-2
@@ -76,21 +72,9 @@ returns-3 c =
     let l = c .before .before in
     let a = l .before .before .before .before .before .before .before .before .before .args in
     let r : Ranges = record { list = a .list .now; books = a .all .now; queues = a .queues .now } in
-    let t : fits (membersOf r) (a .set) ≡ true = sym (l .before .before .before .before .fit .ensures) ∙ not-false _ (l .before .before .before .if1 .left) in
-    let k : allBelow (a .id) (viewsMade r) ≡ true = sym (l .above .ensures) ∙ not-false _ (c .before .if2 .left) in
-    create-refused r (a .id) (a .set) ListFull (list-full r (a .id) (a .set) t k (c .if3 .taken))
-
-cast-t10 : tie.Need-cast-t10
-cast-t10 c =
-    let l = c .before .before in
-    let a = l .before .before .before .before .before .before .before .before .before .args in
-    let r : Ranges = record { list = a .list .now; books = a .all .now; queues = a .queues .now } in
-    let h = l .before .before .before .before .before .before .before .before .before .pre in
-    let f = ranged r h in
-    let t : fits (membersOf r) (a .set) ≡ true = sym (l .before .before .before .before .fit .ensures) ∙ not-false _ (l .before .before .before .if1 .left) in
-    let k : allBelow (a .id) (viewsMade r) ≡ true = sym (l .above .ensures) ∙ not-false _ (c .before .if2 .left) in
-    let x = made-says r (a .id) (a .set) t k (c .if3 .left) f in
-    omega (arith, x .set)
+    let t : fits (membersOf r) (a .set) ≡ true = sym (l .before .before .before .before .fits2 .ensures) ∙ not-false _ (l .before .before .before .if1 .left) in
+    let k : allBelow (a .id .0) (viewsMade r) ≡ true = sym (l .above .ensures) ∙ not-false _ (c .before .if2 .left) in
+    create-refused r (a .id .0) (a .set) ListFull (list-full r (a .id .0) (a .set) t k (c .if3 .taken))
 
 make-requires : tie.Need-make-requires
 make-requires c κs =
@@ -99,9 +83,9 @@ make-requires c κs =
     let r : Ranges = record { list = a .list .now; books = a .all .now; queues = a .queues .now } in
     let h = l .before .before .before .before .before .before .before .before .before .pre in
     let f = ranged r h in
-    let t : fits (membersOf r) (a .set) ≡ true = sym (l .before .before .before .before .fit .ensures) ∙ not-false _ (l .before .before .before .if1 .left) in
-    let k : allBelow (a .id) (viewsMade r) ≡ true = sym (l .above .ensures) ∙ not-false _ (c .before .before .before .if2 .left) in
-    let x = made-says r (a .id) (a .set) t k (c .before .before .if3 .left) f in
+    let t : fits (membersOf r) (a .set) ≡ true = sym (l .before .before .before .before .fits2 .ensures) ∙ not-false _ (l .before .before .before .if1 .left) in
+    let k : allBelow (a .id .0) (viewsMade r) ≡ true = sym (l .above .ensures) ∙ not-false _ (c .before .before .before .if2 .left) in
+    let x = made-says r (a .id .0) (a .set) t k (c .before .before .if3 .left) f in
     (omega (arith, f .room .1, c .before .before .if3 .left), x .place, x .table)
 
 same-length-3 : tie.Need-same-length-3
@@ -115,16 +99,16 @@ returns-4 c =
     let l = c .before .before .before .before .before .before .before .before .before in
     let a = l .before .before .before .before .before .before .before .before .before .args in
     let r : Ranges = record { list = a .list .now; books = a .all .now; queues = a .queues .now } in
-    let t : fits (membersOf r) (a .set) ≡ true = sym (l .before .before .before .before .fit .ensures) ∙ not-false _ (l .before .before .before .if1 .left) in
-    let k : allBelow (a .id) (viewsMade r) ≡ true = sym (l .above .ensures) ∙ not-false _ (c .before .before .before .before .before .before .before .before .if2 .left) in
-    create-accepted r (a .id) (a .set) t k (c .before .before .before .before .before .before .before .if3 .left) _ _ (c .before .before .before .before .make .ensures .0) (c .before .before .before .before .make .ensures .1)
+    let t : fits (membersOf r) (a .set) ≡ true = sym (l .before .before .before .before .fits2 .ensures) ∙ not-false _ (l .before .before .before .if1 .left) in
+    let k : allBelow (a .id .0) (viewsMade r) ≡ true = sym (l .above .ensures) ∙ not-false _ (c .before .before .before .before .before .before .before .before .if2 .left) in
+    create-accepted r (a .id .0) (a .set) t k (c .before .before .before .before .before .before .before .if3 .left) _ _ (c .before .before .before .before .make .ensures .0) (c .before .before .before .before .make .ensures .1)
 
 pub create-spec : {M : Type 1} → statement M
 create-spec =
     tie.close
     (tie.spec
-    shared-slice-read-fit
-    fit-requires
+    shared-slice-read-fits
+    fits-requires
     returns
     slice-read-made
     above-requires
@@ -133,7 +117,6 @@ create-spec =
     cast-if3
     same-length-2
     returns-3
-    cast-t10
     make-requires
     same-length-3
     same-length-4

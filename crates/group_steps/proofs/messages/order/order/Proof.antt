@@ -22,86 +22,71 @@ shared-slice-read-if1 c =
     let f = ranged r (c .before .before .before .before .pre) in
     omega (arith, f .books)
 
-cast-if1 : tie.Need-cast-if1
-cast-if1 c = omega (arith, c .shared-slice-known3 .given 0)
-
 returns : tie.Need-returns
 returns c =
-    let a = c .before .before .before .before .before .args in
+    let a = c .before .before .before .before .before .before .args in
     let r : Ranges = record { list = a .list .now; books = a .all .now; queues = a .queues .now } in
-    order-refused r (a .p) (a .id) NoSuchMember (no-member r (a .p) (orderStep (groupIn r) (a .p) (a .id)) (c .if1 .taken))
+    order-refused r (a .p .0) (a .id .0) NoSuchMember (no-member r (a .p .0) (orderStep (groupIn r) (a .p .0) (a .id .0)) (c .if1 .taken))
 
 slice-read-made : tie.Need-slice-read-made
 slice-read-made c =
-    let a = c .before .before .before .before .before .before .args in
+    let a = c .before .before .before .before .before .before .before .args in
     let r : Ranges = record { list = a .list .now; books = a .all .now; queues = a .queues .now } in
-    let f = ranged r (c .before .before .before .before .before .before .pre) in
+    let f = ranged r (c .before .before .before .before .before .before .before .pre) in
     omega (arith, f .queues)
 
 place-requires : tie.Need-place-requires
 place-requires c κs =
-    let a = c .before .before .before .before .before .before .args in
+    let a = c .before .before .before .before .before .before .before .args in
     let r : Ranges = record { list = a .list .now; books = a .all .now; queues = a .queues .now } in
-    let f = ranged r (c .before .before .before .before .before .before .pre) in
+    let f = ranged r (c .before .before .before .before .before .before .before .pre) in
     omega (arith, f .made .1)
 
 returns-2 : tie.Need-returns-2
 returns-2 c =
     let l = c .before in
-    let a = l .before .before .before .before .before .before .before .args in
+    let a = l .before .before .before .before .before .before .before .before .args in
     let r : Ranges = record { list = a .list .now; books = a .all .now; queues = a .queues .now } in
-    let p = a .p in
+    let p = a .p .0 in
     let m = l .before .before .if1 .left in
-    let i = placeOf (a .id) (viewsMade r) in
+    let i = placeOf (a .id .0) (viewsMade r) in
     let e : l .place .result ≡ i = l .place .ensures in
-    order-refused r p (a .id) NoSuchView (no-view r p (a .id) m (omega (arith, c .if2 .taken)))
+    order-refused r p (a .id .0) NoSuchView (no-view r p (a .id .0) m (omega (arith, c .if2 .taken)))
 
 order-at-requires : tie.Need-order-at-requires
 order-at-requires c κs =
     let l = c .before in
-    let a = l .before .before .before .before .before .before .before .args in
+    let a = l .before .before .before .before .before .before .before .before .args in
     let r : Ranges = record { list = a .list .now; books = a .all .now; queues = a .queues .now } in
-    let h = l .before .before .before .before .before .before .before .pre in
+    let h = l .before .before .before .before .before .before .before .before .pre in
     let f = ranged r h in
     let m = l .before .before .if1 .left in
-    let i = placeOf (a .id) (viewsMade r) in
+    let i = placeOf (a .id .0) (viewsMade r) in
     let e : l .place .result ≡ i = l .place .ensures in
     omega (arith, f .made .1, f .room .1, c .if2 .left)
-
-cast-waiting-at : tie.Need-cast-waiting-at
-cast-waiting-at c =
-    let l = c .before .before in
-    let a = l .before .before .before .before .before .before .before .args in
-    let r : Ranges = record { list = a .list .now; books = a .all .now; queues = a .queues .now } in
-    let h = l .before .before .before .before .before .before .before .pre in
-    let f = ranged r h in
-    let m = l .before .before .if1 .left in
-    let i = placeOf (a .id) (viewsMade r) in
-    let e : l .place .result ≡ i = l .place .ensures in
-    omega (arith, f .members .1)
 
 waiting-at-requires : tie.Need-waiting-at-requires
 waiting-at-requires c κs =
     let l = c .before .before in
-    let a = l .before .before .before .before .before .before .before .args in
+    let a = l .before .before .before .before .before .before .before .before .args in
     let r : Ranges = record { list = a .list .now; books = a .all .now; queues = a .queues .now } in
-    let h = l .before .before .before .before .before .before .before .pre in
+    let h = l .before .before .before .before .before .before .before .before .pre in
     let f = ranged r h in
     let m = l .before .before .if1 .left in
-    let i = placeOf (a .id) (viewsMade r) in
+    let i = placeOf (a .id .0) (viewsMade r) in
     let e : l .place .result ≡ i = l .place .ensures in
     (omega (arith, f .made .1, f .room .1, c .before .if2 .left), omega (arith, f .members .1))
 
 slice-read-if3 : tie.Need-slice-read-if3
 slice-read-if3 c =
     let l = c .before .before .before .before in
-    let a = l .before .before .before .before .before .before .before .args in
+    let a = l .before .before .before .before .before .before .before .before .args in
     let r : Ranges = record { list = a .list .now; books = a .all .now; queues = a .queues .now } in
-    let h = l .before .before .before .before .before .before .before .pre in
+    let h = l .before .before .before .before .before .before .before .before .pre in
     let f = ranged r h in
-    let p = a .p in
+    let p = a .p .0 in
     let m = l .before .before .if1 .left in
-    let i = placeOf (a .id) (viewsMade r) in
+    let i = placeOf (a .id .0) (viewsMade r) in
     let e : l .place .result ≡ i = l .place .ensures in
     let t : i < madeOf r = omega (arith, c .before .before .before .if2 .left) in
     let w : c .before .waiting-at .result ≡ waitingAt i p = c .before .waiting-at .ensures ∙ ap (λ (j : ℕ). waitingAt j p) e in
@@ -110,25 +95,25 @@ slice-read-if3 c =
 returns-3 : tie.Need-returns-3
 returns-3 c =
     let l = c .before .before .before .before .before in
-    let a = l .before .before .before .before .before .before .before .args in
+    let a = l .before .before .before .before .before .before .before .before .args in
     let r : Ranges = record { list = a .list .now; books = a .all .now; queues = a .queues .now } in
-    let p = a .p in
+    let p = a .p .0 in
     let m = l .before .before .if1 .left in
-    let i = placeOf (a .id) (viewsMade r) in
+    let i = placeOf (a .id .0) (viewsMade r) in
     let e : l .place .result ≡ i = l .place .ensures in
     let t : i < madeOf r = omega (arith, c .before .before .before .before .if2 .left) in
     let w : c .before .before .waiting-at .result ≡ waitingAt i p = c .before .before .waiting-at .ensures ∙ ap (λ (j : ℕ). waitingAt j p) e in
-    order-refused r p (a .id) NoneWaiting (none-waiting r p (a .id) m t (rw w at (c .if3 .taken)))
+    order-refused r p (a .id .0) NoneWaiting (none-waiting r p (a .id .0) m t (rw w at (c .if3 .taken)))
 
 slice-read-if4 : tie.Need-slice-read-if4
 slice-read-if4 c =
     let l = c .before .before .before .before .before .before in
-    let a = l .before .before .before .before .before .before .before .args in
+    let a = l .before .before .before .before .before .before .before .before .args in
     let r : Ranges = record { list = a .list .now; books = a .all .now; queues = a .queues .now } in
-    let h = l .before .before .before .before .before .before .before .pre in
+    let h = l .before .before .before .before .before .before .before .before .pre in
     let f = ranged r h in
     let m = l .before .before .if1 .left in
-    let i = placeOf (a .id) (viewsMade r) in
+    let i = placeOf (a .id .0) (viewsMade r) in
     let e : l .place .result ≡ i = l .place .ensures in
     let t : i < madeOf r = omega (arith, c .before .before .before .before .before .if2 .left) in
     let o : c .before .before .before .before .order-at .result ≡ orderAt i = c .before .before .before .before .order-at .ensures ∙ ap orderAt e in
@@ -137,28 +122,28 @@ slice-read-if4 c =
 returns-4 : tie.Need-returns-4
 returns-4 c =
     let l = c .before .before .before .before .before .before .before in
-    let a = l .before .before .before .before .before .before .before .args in
+    let a = l .before .before .before .before .before .before .before .before .args in
     let r : Ranges = record { list = a .list .now; books = a .all .now; queues = a .queues .now } in
-    let p = a .p in
+    let p = a .p .0 in
     let m = l .before .before .if1 .left in
-    let i = placeOf (a .id) (viewsMade r) in
+    let i = placeOf (a .id .0) (viewsMade r) in
     let e : l .place .result ≡ i = l .place .ensures in
     let t : i < madeOf r = omega (arith, c .before .before .before .before .before .before .if2 .left) in
     let w : c .before .before .before .before .waiting-at .result ≡ waitingAt i p = c .before .before .before .before .waiting-at .ensures ∙ ap (λ (j : ℕ). waitingAt j p) e in
     let o : c .before .before .before .before .before .order-at .result ≡ orderAt i = c .before .before .before .before .before .order-at .ensures ∙ ap orderAt e in
     let z : 0 < getD (r .queues) (waitingAt i p) 0 = omega (arith, rw w at (c .before .before .if3 .left)) in
-    order-refused r p (a .id) OrderFull (order-full r p (a .id) m t z (rw o at (c .if4 .taken)))
+    order-refused r p (a .id .0) OrderFull (order-full r p (a .id .0) m t z (rw o at (c .if4 .taken)))
 
 forward-requires : tie.Need-forward-requires
 forward-requires c κs =
     let l = c .before .before .before .before .before .before .before .before in
-    let a = l .before .before .before .before .before .before .before .args in
+    let a = l .before .before .before .before .before .before .before .before .args in
     let r : Ranges = record { list = a .list .now; books = a .all .now; queues = a .queues .now } in
-    let h = l .before .before .before .before .before .before .before .pre in
+    let h = l .before .before .before .before .before .before .before .before .pre in
     let f = ranged r h in
-    let p = a .p in
+    let p = a .p .0 in
     let m = l .before .before .if1 .left in
-    let i = placeOf (a .id) (viewsMade r) in
+    let i = placeOf (a .id .0) (viewsMade r) in
     let e : l .place .result ≡ i = l .place .ensures in
     let t : i < madeOf r = omega (arith, c .before .before .before .before .before .before .before .if2 .left) in
     let w : c .before .before .before .before .before .waiting-at .result ≡ waitingAt i p = c .before .before .before .before .before .waiting-at .ensures ∙ ap (λ (j : ℕ). waitingAt j p) e in
@@ -173,31 +158,29 @@ same-length c = search needs
 returns-5 : tie.Need-returns-5
 returns-5 c =
     let l = c .before .before .before .before .before .before .before .before .before .before .before in
-    let a = l .before .before .before .before .before .before .before .args in
+    let a = l .before .before .before .before .before .before .before .before .args in
     let r : Ranges = record { list = a .list .now; books = a .all .now; queues = a .queues .now } in
-    let p = a .p in
+    let p = a .p .0 in
     let m = l .before .before .if1 .left in
-    let i = placeOf (a .id) (viewsMade r) in
+    let i = placeOf (a .id .0) (viewsMade r) in
     let e : l .place .result ≡ i = l .place .ensures in
     let t : i < madeOf r = omega (arith, c .before .before .before .before .before .before .before .before .before .before .if2 .left) in
     let w : c .before .before .before .before .before .before .before .before .waiting-at .result ≡ waitingAt i p = c .before .before .before .before .before .before .before .before .waiting-at .ensures ∙ ap (λ (j : ℕ). waitingAt j p) e in
     let o : c .before .before .before .before .before .before .before .before .before .order-at .result ≡ orderAt i = c .before .before .before .before .before .before .before .before .before .order-at .ensures ∙ ap orderAt e in
     let z : 0 < getD (r .queues) (waitingAt i p) 0 = omega (arith, rw w at (c .before .before .before .before .before .before .if3 .left)) in
     let y : getD (r .queues) (orderAt i) 0 < maxOrdered = rw o at (c .before .before .before .before .if4 .left) in
-    order-accepted r p (a .id) _ (order-moves r p (a .id) m t z y) (order-bytes r p (a .id) _ _ _ o w (c .before .before .forward .ensures))
+    order-accepted r p (a .id .0) _ (order-moves r p (a .id .0) m t z y) (order-bytes r p (a .id .0) _ _ _ o w (c .before .before .forward .ensures))
 
 pub order-spec : {M : Type 1} → statement M
 order-spec =
     tie.close
     (tie.spec
     shared-slice-read-if1
-    cast-if1
     returns
     slice-read-made
     place-requires
     returns-2
     order-at-requires
-    cast-waiting-at
     waiting-at-requires
     slice-read-if3
     returns-3

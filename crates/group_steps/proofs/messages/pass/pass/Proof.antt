@@ -34,15 +34,15 @@ slice-read-if1 c =
     let f = ranged r (c .before .before .before .before .pre) in
     omega (arith, f .books)
 
-cast-if1 : tie.Need-cast-if1
-cast-if1 c = omega (arith, c .slice-known3 .given 0)
-
 returns : tie.Need-returns
 returns c =
-    let a = c .before .before .before .before .before .args in
+    let a = c .before .before .before .before .before .before .args in
     let r : Ranges = record { list = a .list .now; books = a .all .now; queues = a .queues .now } in
-    let p = a .p in
+    let p = a .p .0 in
     pass-refused r p NoSuchMember (no-member r p (passStep (groupIn r) p) (c .if1 .taken))
+
+cast-a : tie.Need-cast-a
+cast-a c = search needs
 
 mul-a : tie.Need-mul-a
 mul-a c = search needs
@@ -58,9 +58,9 @@ part-load-seat-start c = search needs
 
 part-load-seat-end : tie.Need-part-load-seat-end
 part-load-seat-end c =
-    let a = c .before .before .before .before .before .before .args in
+    let a = c .before .before .before .before .before .before .before .before .args in
     let r : Ranges = record { list = a .list .now; books = a .all .now; queues = a .queues .now } in
-    let f = ranged r (c .before .before .before .before .before .before .pre) in
+    let f = ranged r (c .before .before .before .before .before .before .before .before .pre) in
     omega (arith, f .books, f .members .1)
 
 load-seat-requires : tie.Need-load-seat-requires
@@ -72,11 +72,11 @@ same-length c = search needs
 returns-2 : tie.Need-returns-2
 returns-2 c =
     let l = c .before .before in
-    let a = l .before .before .before .before .before .before .before .before .args in
+    let a = l .before .before .before .before .before .before .before .before .before .before .args in
     let r : Ranges = record { list = a .list .now; books = a .all .now; queues = a .queues .now } in
-    let h = l .before .before .before .before .before .before .before .before .pre in
-    let p = a .p in
-    let m = l .before .before .before .if1 .left in
+    let h = l .before .before .before .before .before .before .before .before .before .before .pre in
+    let p = a .p .0 in
+    let m = l .before .before .before .before .if1 .left in
     let b = bookBytes (r .books) p in
     let s : l .load-seat .result ≡ recordIn b .carrier = place-is (r .books) p (bookSize * p + bookSize - bookSize * p) (omega arith) _ (l .load-seat .ensures) in
     pass-refused r p NoCarrierView (no-carrier r p h m (sym (ap (λ (z : Seat). z .there) s) ∙ not-true _ (c .if2 .taken)))
@@ -87,11 +87,11 @@ add-if3 c = search needs
 slice-read-if3 : tie.Need-slice-read-if3
 slice-read-if3 c =
     let l = c .before .before .before in
-    let a = l .before .before .before .before .before .before .before .before .args in
+    let a = l .before .before .before .before .before .before .before .before .before .before .args in
     let r : Ranges = record { list = a .list .now; books = a .all .now; queues = a .queues .now } in
-    let h = l .before .before .before .before .before .before .before .before .pre in
+    let h = l .before .before .before .before .before .before .before .before .before .before .pre in
     let f = ranged r h in
-    let m = l .before .before .before .if1 .left in
+    let m = l .before .before .before .before .if1 .left in
     omega (arith, f .books, f .members .1)
 
 same-length-2 : tie.Need-same-length-2
@@ -100,11 +100,11 @@ same-length-2 c = search needs
 returns-3 : tie.Need-returns-3
 returns-3 c =
     let l = c .before .before .before .before in
-    let a = l .before .before .before .before .before .before .before .before .args in
+    let a = l .before .before .before .before .before .before .before .before .before .before .args in
     let r : Ranges = record { list = a .list .now; books = a .all .now; queues = a .queues .now } in
-    let h = l .before .before .before .before .before .before .before .before .pre in
-    let p = a .p in
-    let m = l .before .before .before .if1 .left in
+    let h = l .before .before .before .before .before .before .before .before .before .before .pre in
+    let p = a .p .0 in
+    let m = l .before .before .before .before .if1 .left in
     let b = bookBytes (r .books) p in
     let s : l .load-seat .result ≡ recordIn b .carrier = place-is (r .books) p (bookSize * p + bookSize - bookSize * p) (omega arith) _ (l .load-seat .ensures) in
     let t : recordIn b .carrier .there ≡ true = sym (ap (λ (z : Seat). z .there) s) ∙ not-false _ (c .before .before .if2 .left) in
@@ -113,64 +113,51 @@ returns-3 c =
 slice-read-place : tie.Need-slice-read-place
 slice-read-place c =
     let l = c .before .before .before .before .before in
-    let a = l .before .before .before .before .before .before .before .before .args in
+    let a = l .before .before .before .before .before .before .before .before .before .before .args in
     let r : Ranges = record { list = a .list .now; books = a .all .now; queues = a .queues .now } in
-    let h = l .before .before .before .before .before .before .before .before .pre in
+    let h = l .before .before .before .before .before .before .before .before .before .before .pre in
     let f = ranged r h in
-    let m = l .before .before .before .if1 .left in
+    let m = l .before .before .before .before .if1 .left in
     omega (arith, f .queues)
-
-cast-place : tie.Need-cast-place
-cast-place c = search needs
 
 place-requires : tie.Need-place-requires
 place-requires c κs =
-    let l = c .before .before .before .before .before .before in
-    let a = l .before .before .before .before .before .before .before .before .args in
+    let l = c .before .before .before .before .before in
+    let a = l .before .before .before .before .before .before .before .before .before .before .args in
     let r : Ranges = record { list = a .list .now; books = a .all .now; queues = a .queues .now } in
-    let h = l .before .before .before .before .before .before .before .before .pre in
+    let h = l .before .before .before .before .before .before .before .before .before .before .pre in
     let f = ranged r h in
-    let m = l .before .before .before .if1 .left in
+    let m = l .before .before .before .before .if1 .left in
     omega (arith, f .made .1)
-
-cast-waiting-at : tie.Need-cast-waiting-at
-cast-waiting-at c =
-    let l = c .before .before .before .before .before .before .before in
-    let a = l .before .before .before .before .before .before .before .before .args in
-    let r : Ranges = record { list = a .list .now; books = a .all .now; queues = a .queues .now } in
-    let h = l .before .before .before .before .before .before .before .before .pre in
-    let f = ranged r h in
-    let m = l .before .before .before .if1 .left in
-    omega (arith, f .members .1)
 
 waiting-at-requires : tie.Need-waiting-at-requires
 waiting-at-requires c κs =
-    let l = c .before .before .before .before .before .before .before in
-    let a = l .before .before .before .before .before .before .before .before .args in
+    let l = c .before .before .before .before .before .before in
+    let a = l .before .before .before .before .before .before .before .before .before .before .args in
     let r : Ranges = record { list = a .list .now; books = a .all .now; queues = a .queues .now } in
-    let h = l .before .before .before .before .before .before .before .before .pre in
+    let h = l .before .before .before .before .before .before .before .before .before .before .pre in
     let f = ranged r h in
-    let p = a .p in
-    let m = l .before .before .before .if1 .left in
+    let p = a .p .0 in
+    let m = l .before .before .before .before .if1 .left in
     let b = bookBytes (r .books) p in
     let s : l .load-seat .result ≡ recordIn b .carrier = place-is (r .books) p (bookSize * p + bookSize - bookSize * p) (omega arith) _ (l .load-seat .ensures) in
-    let t : recordIn b .carrier .there ≡ true = sym (ap (λ (z : Seat). z .there) s) ∙ not-false _ (c .before .before .before .before .before .if2 .left) in
+    let t : recordIn b .carrier .there ≡ true = sym (ap (λ (z : Seat). z .there) s) ∙ not-false _ (c .before .before .before .before .if2 .left) in
     let i = placeOf (idOf (carriedIn b)) (viewsMade r) in
     let e : c .place .result ≡ i = c .place .ensures ∙ ap (λ (z : Seat). placeOf (idOf (z .view)) (viewsMade r)) s in
     (omega (arith, f .made .1, f .room .1, carried-made r p h m t), omega (arith, f .members .1))
 
 slice-read-if4 : tie.Need-slice-read-if4
 slice-read-if4 c =
-    let l = c .before .before .before .before .before .before .before .before .before in
-    let a = l .before .before .before .before .before .before .before .before .args in
+    let l = c .before .before .before .before .before .before .before .before in
+    let a = l .before .before .before .before .before .before .before .before .before .before .args in
     let r : Ranges = record { list = a .list .now; books = a .all .now; queues = a .queues .now } in
-    let h = l .before .before .before .before .before .before .before .before .pre in
+    let h = l .before .before .before .before .before .before .before .before .before .before .pre in
     let f = ranged r h in
-    let p = a .p in
-    let m = l .before .before .before .if1 .left in
+    let p = a .p .0 in
+    let m = l .before .before .before .before .if1 .left in
     let b = bookBytes (r .books) p in
     let s : l .load-seat .result ≡ recordIn b .carrier = place-is (r .books) p (bookSize * p + bookSize - bookSize * p) (omega arith) _ (l .load-seat .ensures) in
-    let t : recordIn b .carrier .there ≡ true = sym (ap (λ (z : Seat). z .there) s) ∙ not-false _ (c .before .before .before .before .before .before .before .if2 .left) in
+    let t : recordIn b .carrier .there ≡ true = sym (ap (λ (z : Seat). z .there) s) ∙ not-false _ (c .before .before .before .before .before .before .if2 .left) in
     let i = placeOf (idOf (carriedIn b)) (viewsMade r) in
     let e : c .before .before .place .result ≡ i = c .before .before .place .ensures ∙ ap (λ (z : Seat). placeOf (idOf (z .view)) (viewsMade r)) s in
     let w : c .before .waiting-at .result ≡ waitingAt i p = c .before .waiting-at .ensures ∙ ap (λ (j : ℕ). waitingAt j p) e in
@@ -181,16 +168,16 @@ same-length-3 c = search needs
 
 returns-4 : tie.Need-returns-4
 returns-4 c =
-    let l = c .before .before .before .before .before .before .before .before .before .before in
-    let a = l .before .before .before .before .before .before .before .before .args in
+    let l = c .before .before .before .before .before .before .before .before .before in
+    let a = l .before .before .before .before .before .before .before .before .before .before .args in
     let r : Ranges = record { list = a .list .now; books = a .all .now; queues = a .queues .now } in
-    let h = l .before .before .before .before .before .before .before .before .pre in
-    let p = a .p in
-    let m = l .before .before .before .if1 .left in
+    let h = l .before .before .before .before .before .before .before .before .before .before .pre in
+    let p = a .p .0 in
+    let m = l .before .before .before .before .if1 .left in
     let b = bookBytes (r .books) p in
     let s : l .load-seat .result ≡ recordIn b .carrier = place-is (r .books) p (bookSize * p + bookSize - bookSize * p) (omega arith) _ (l .load-seat .ensures) in
-    let t : recordIn b .carrier .there ≡ true = sym (ap (λ (z : Seat). z .there) s) ∙ not-false _ (c .before .before .before .before .before .before .before .before .if2 .left) in
-    let o : 0 < getD b outgoingAt 0 = omega (arith, book-byte (r .books) p outgoingAt (omega arith), c .before .before .before .before .before .before .if3 .left) in
+    let t : recordIn b .carrier .there ≡ true = sym (ap (λ (z : Seat). z .there) s) ∙ not-false _ (c .before .before .before .before .before .before .before .if2 .left) in
+    let o : 0 < getD b outgoingAt 0 = omega (arith, book-byte (r .books) p outgoingAt (omega arith), c .before .before .before .before .before .if3 .left) in
     let i = placeOf (idOf (carriedIn b)) (viewsMade r) in
     let e : c .before .before .before .place .result ≡ i = c .before .before .before .place .ensures ∙ ap (λ (z : Seat). placeOf (idOf (z .view)) (viewsMade r)) s in
     let w : c .before .before .waiting-at .result ≡ waitingAt i p = c .before .before .waiting-at .ensures ∙ ap (λ (j : ℕ). waitingAt j p) e in
@@ -204,26 +191,26 @@ part-forward-start c = search needs
 
 part-forward-end : tie.Need-part-forward-end
 part-forward-end c =
-    let l = c .before .before .before .before .before .before .before .before .before .before in
-    let a = l .before .before .before .before .before .before .before .before .args in
+    let l = c .before .before .before .before .before .before .before .before .before in
+    let a = l .before .before .before .before .before .before .before .before .before .before .args in
     let r : Ranges = record { list = a .list .now; books = a .all .now; queues = a .queues .now } in
-    let h = l .before .before .before .before .before .before .before .before .pre in
+    let h = l .before .before .before .before .before .before .before .before .before .before .pre in
     let f = ranged r h in
-    let m = l .before .before .before .if1 .left in
+    let m = l .before .before .before .before .if1 .left in
     omega (arith, f .books, f .members .1)
 
 forward-requires : tie.Need-forward-requires
 forward-requires c κs =
-    let l = c .before .before .before .before .before .before .before .before .before .before .before .before in
-    let a = l .before .before .before .before .before .before .before .before .args in
+    let l = c .before .before .before .before .before .before .before .before .before .before .before in
+    let a = l .before .before .before .before .before .before .before .before .before .before .args in
     let r : Ranges = record { list = a .list .now; books = a .all .now; queues = a .queues .now } in
-    let h = l .before .before .before .before .before .before .before .before .pre in
-    let p = a .p in
-    let m = l .before .before .before .if1 .left in
+    let h = l .before .before .before .before .before .before .before .before .before .before .pre in
+    let p = a .p .0 in
+    let m = l .before .before .before .before .if1 .left in
     let b = bookBytes (r .books) p in
     let s : l .load-seat .result ≡ recordIn b .carrier = place-is (r .books) p (bookSize * p + bookSize - bookSize * p) (omega arith) _ (l .load-seat .ensures) in
-    let t : recordIn b .carrier .there ≡ true = sym (ap (λ (z : Seat). z .there) s) ∙ not-false _ (c .before .before .before .before .before .before .before .before .before .before .if2 .left) in
-    let o : 0 < getD b outgoingAt 0 = omega (arith, book-byte (r .books) p outgoingAt (omega arith), c .before .before .before .before .before .before .before .before .if3 .left) in
+    let t : recordIn b .carrier .there ≡ true = sym (ap (λ (z : Seat). z .there) s) ∙ not-false _ (c .before .before .before .before .before .before .before .before .before .if2 .left) in
+    let o : 0 < getD b outgoingAt 0 = omega (arith, book-byte (r .books) p outgoingAt (omega arith), c .before .before .before .before .before .before .before .if3 .left) in
     let i = placeOf (idOf (carriedIn b)) (viewsMade r) in
     let e : c .before .before .before .before .before .place .result ≡ i = c .before .before .before .before .before .place .ensures ∙ ap (λ (z : Seat). placeOf (idOf (z .view)) (viewsMade r)) s in
     let w : c .before .before .before .before .waiting-at .result ≡ waitingAt i p = c .before .before .before .before .waiting-at .ensures ∙ ap (λ (j : ℕ). waitingAt j p) e in
@@ -238,16 +225,16 @@ same-length-5 c = search needs
 
 returns-5 : tie.Need-returns-5
 returns-5 c =
-    let l = c .before .before .before .before .before .before .before .before .before .before .before .before .before .before .before .before .before in
-    let a = l .before .before .before .before .before .before .before .before .args in
+    let l = c .before .before .before .before .before .before .before .before .before .before .before .before .before .before .before .before in
+    let a = l .before .before .before .before .before .before .before .before .before .before .args in
     let r : Ranges = record { list = a .list .now; books = a .all .now; queues = a .queues .now } in
-    let h = l .before .before .before .before .before .before .before .before .pre in
-    let p = a .p in
-    let m = l .before .before .before .if1 .left in
+    let h = l .before .before .before .before .before .before .before .before .before .before .pre in
+    let p = a .p .0 in
+    let m = l .before .before .before .before .if1 .left in
     let b = bookBytes (r .books) p in
     let s : l .load-seat .result ≡ recordIn b .carrier = place-is (r .books) p (bookSize * p + bookSize - bookSize * p) (omega arith) _ (l .load-seat .ensures) in
-    let t : recordIn b .carrier .there ≡ true = sym (ap (λ (z : Seat). z .there) s) ∙ not-false _ (c .before .before .before .before .before .before .before .before .before .before .before .before .before .before .before .if2 .left) in
-    let o : 0 < getD b outgoingAt 0 = omega (arith, book-byte (r .books) p outgoingAt (omega arith), c .before .before .before .before .before .before .before .before .before .before .before .before .before .if3 .left) in
+    let t : recordIn b .carrier .there ≡ true = sym (ap (λ (z : Seat). z .there) s) ∙ not-false _ (c .before .before .before .before .before .before .before .before .before .before .before .before .before .before .if2 .left) in
+    let o : 0 < getD b outgoingAt 0 = omega (arith, book-byte (r .books) p outgoingAt (omega arith), c .before .before .before .before .before .before .before .before .before .before .before .before .if3 .left) in
     let i = placeOf (idOf (carriedIn b)) (viewsMade r) in
     let e : c .before .before .before .before .before .before .before .before .before .before .place .result ≡ i = c .before .before .before .before .before .before .before .before .before .before .place .ensures ∙ ap (λ (z : Seat). placeOf (idOf (z .view)) (viewsMade r)) s in
     let w : c .before .before .before .before .before .before .before .before .before .waiting-at .result ≡ waitingAt i p = c .before .before .before .before .before .before .before .before .before .waiting-at .ensures ∙ ap (λ (j : ℕ). waitingAt j p) e in
@@ -263,8 +250,8 @@ pass-spec =
     tie.close
     (tie.spec
     slice-read-if1
-    cast-if1
     returns
+    cast-a
     mul-a
     add-e
     sub-load-seat
@@ -278,9 +265,7 @@ pass-spec =
     same-length-2
     returns-3
     slice-read-place
-    cast-place
     place-requires
-    cast-waiting-at
     waiting-at-requires
     slice-read-if4
     same-length-3
