@@ -14,7 +14,12 @@ first. Numbers are decimal.
                       byte, first operand 4, second 8. It is answered by a record for each: the
                       verdict's number 1 byte, then the event, its kind 1, member 1, identifier
                       4, set 1, sender 1, entry number 8, and what it has not is 0
+    put AT I S        the view record at the place AT, 0 to 32, becomes this view
+    create MADE I S N create in the list by itself, with so many views made of so many members
+    lookup MADE I     lookup in the list by itself among the views made: the view found, or missing
     # words           a comment, answered by itself
+
+No step is put to a group whose list put or create changed, before the next accepted start.
 
     python3 tests/reference/group_script.py SCRIPT          the answers
     python3 tests/reference/group_script.py check SCRIPT    whether they stand beside it, in the file stdout
@@ -23,7 +28,7 @@ first. Numbers are decimal.
 import os
 import sys
 
-from reference import MOST_VIEWS, OK, Group, start
+from reference import MOST_MEMBERS, MOST_VIEWS, OK, Group, empty_or_beyond, start
 from refusals import RECORDS_UNSOUND
 
 LONGEST = MOST_VIEWS + 1
@@ -36,6 +41,9 @@ WIDTHS = {
     "group": [1, 1],
     "step": [1, 4, 8],
     "list": [],
+    "put": [1, 4, 1],
+    "create": [1, 4, 1, 1],
+    "lookup": [1, 4],
 }
 
 UNSOUND = ("refused", RECORDS_UNSOUND)
@@ -76,6 +84,7 @@ class Table:
         self.records = [(0, 0)] * LONGEST
         self.room = 0
         self.group = None
+        self.changed = False
 
     def start(self, members, first_set):
         """"a later accepted `group` starts afresh"; a refused one changes nothing."""
@@ -83,11 +92,13 @@ class Table:
         if not isinstance(begun, Group):
             return begun
         self.group = begun
+        self.changed = False
         self.records[: self.room] = [(0, first_set)] + [(0, 0)] * (self.room - 1)
         return OK
 
     def step(self, kind, first, second):
         """4 where nothing was started, where no list of this length can be, or where more views are made than are lent."""
+        readable_if(not self.changed, "a step on a changed list")
         made = len(self.group.views) if self.group else 0
         if not 1 <= made <= self.room <= MOST_VIEWS:
             return UNSOUND
@@ -95,6 +106,31 @@ class Table:
         answer = self.group.step(kind, first, second)
         self.records[: len(self.group.views)] = self.group.views
         return answer
+
+    def put(self, place, identifier, members_set):
+        readable_if(place < LONGEST, "a place past the list")
+        self.records[place] = (identifier, members_set)
+        self.changed = True
+        return OK
+
+    def create(self, made, identifier, members_set, members):
+        """The list by itself: 4 as far as it concerns the list, then create's row."""
+        views = self.records[:made]
+        rising = all(views[i][0] < views[i + 1][0] for i in range(len(views) - 1))
+        fits = 1 <= made <= self.room <= MOST_VIEWS and 1 <= members <= MOST_MEMBERS
+        if not fits or not rising or any(empty_or_beyond(s, members) for _, s in views):
+            return UNSOUND
+        group = Group(members, 1, self.room)
+        group.views = views
+        answer = group.step(1, identifier, members_set)
+        if answer == OK:
+            self.records[made] = (identifier, members_set)
+            self.changed = True
+        return answer
+
+    def lookup(self, made, identifier):
+        views = self.records[: min(made, self.room, MOST_VIEWS)]
+        return next((("found", *view) for view in views if view[0] == identifier), ("missing",))
 
     def listed(self):
         return [part for record in self.records[: self.room] for part in record]
@@ -130,7 +166,9 @@ class Table:
             return OK
         if word == "list":
             return ("list", *self.listed())
-        return self.start(*operands) if word == "group" else self.step(*operands)
+        calls = {"group": self.start, "step": self.step, "put": self.put, "create": self.create,
+                 "lookup": self.lookup}
+        return calls[word](*operands)
 
 
 def answers(script):

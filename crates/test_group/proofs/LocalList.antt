@@ -51,13 +51,13 @@ module _ {M : Type 1} (𝓤 : URA M) (H : Heap 𝓤) (A : Atoms 𝓤) (W : Given
       use2 W (‵ (cells (mem R) (ys ++ zs) b (o + mem R .size))) (glue ys zs b (o + mem R .size)) $ move ! (1 ∷ 0 ∷ []) $ fjoin ! $ done !
 
   -- the whole share of the elements is the elements
-  to-cells : (xs : List (R .Denot)) (b o : ℕ) → ent 𝓤 ⟦ parts (mem R) (shares R) fullShare xs b o ⟧ ⟦ cells (mem R) xs b o ⟧
+  pub to-cells : (xs : List (R .Denot)) (b o : ℕ) → ent 𝓤 ⟦ parts (mem R) (shares R) fullShare xs b o ⟧ ⟦ cells (mem R) xs b o ⟧
   to-cells [] b o = id⊢ 𝓤 _
   to-cells (x ∷ xs) b o =
       qed W (‵ (parts (mem R) (shares R) fullShare (x ∷ xs) b o) ∷ []) ∵ fsplit ! $ move ! (1 ∷ []) $
       use1 W (‵ (cells (mem R) xs b (o + mem R .size))) (to-cells xs b (o + mem R .size)) $ move ! (1 ∷ 0 ∷ []) $ fjoin ! $ done !
 
-  from-cells : (xs : List (R .Denot)) (b o : ℕ) → ent 𝓤 ⟦ cells (mem R) xs b o ⟧ ⟦ parts (mem R) (shares R) fullShare xs b o ⟧
+  pub from-cells : (xs : List (R .Denot)) (b o : ℕ) → ent 𝓤 ⟦ cells (mem R) xs b o ⟧ ⟦ parts (mem R) (shares R) fullShare xs b o ⟧
   from-cells [] b o = id⊢ 𝓤 _
   from-cells (x ∷ xs) b o =
       qed W (‵ (cells (mem R) (x ∷ xs) b o) ∷ []) ∵ fsplit ! $ move ! (1 ∷ []) $

@@ -3,6 +3,7 @@ use crate::listed::LONGEST;
 use views::View;
 use views::ViewId;
 ghost use Prim.Native.Nat.{_≤_};
+ghost use mathlib.Core.Path.{_≡_};
 
 pub struct Desk {
     pub list: [View; LONGEST],
@@ -28,7 +29,9 @@ pub fn room(d: Desk) -> usize
     if d.lent < LONGEST { d.lent } else { LONGEST }
 }
 
-pub fn lend(d: Desk, line: &[u8]) -> Desk {
+pub fn lend(d: Desk, line: &[u8]) -> Desk
+    ensures { λ r. ⌜ (r .list ≡ d .list) × (r .lent ≤ 33) ⌝ }
+{
     let list = d.list;
     Desk {
         list,
@@ -36,14 +39,35 @@ pub fn lend(d: Desk, line: &[u8]) -> Desk {
     }
 }
 
-pub fn with_list(d: Desk, list: [View; LONGEST]) -> Desk {
+// The same with another list.
+pub fn with_list(d: Desk, list: [View; LONGEST]) -> Desk
+    ensures { λ r. ⌜ r ≡ record { list = list; lent = d .lent } ⌝ }
+{
     Desk { list, lent: d.lent }
+}
+
+// A record is filled, whether it is lent or not.
+pub fn put(d: Desk, line: &[u8]) -> Desk {
+    let i = test_script::operand::upto(line, 1, LONGEST - 1);
+    let v = View {
+        id: ViewId(test_script::operand::identifier(line, 2)),
+        set: test_script::operand::byte(line, 3),
+    };
+    let mut next = d;
+    next.list[i] = v;
+    next
 }
 
 // One record: its identifier and its set.
 fn record(v: View) {
     test_script::show::also(v.id.0 as u64);
     test_script::show::also(v.set as u64);
+}
+
+// The view that a lookup found.
+pub fn found(v: View) {
+    io::write_all(1, b"found");
+    record(v);
 }
 
 // The records that are lent.

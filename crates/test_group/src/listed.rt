@@ -2,13 +2,17 @@
 // no reference to a record.
 use events::Reply;
 use views::View;
+use views::ViewId;
 use views::limits;
+use views::list::Lookup;
 use views::refusal::Verdict;
 ghost use mathlib.Core.Path.{_≡_};
 ghost use Prim.Native.Nat.{_≤_};
 ghost use lib.ListN.{take, drop};
 ghost use Rattle.group.specs.StepCalls.{asked};
 ghost use Rattle.group_listed.specs.Calls.{Went, Began};
+ghost use Rattle.views.specs.Lists.{findOf};
+ghost use Rattle.group_listed.specs.Creates.{madeIn, Created};
 
 // The longest list that is lent: one record more than a group can have.
 pub const LONGEST: usize = limits::VIEWS + 1;
@@ -19,7 +23,7 @@ pub struct Stepped {
     pub reply: Reply,
 }
 
-// The list after a start, and its verdict.
+// The list after a start or a create, and its verdict.
 pub struct Ruled {
     pub list: [View; LONGEST],
     pub verdict: Verdict,
@@ -62,4 +66,30 @@ pub fn start(
     let mut at = list;
     let verdict = group_listed::start(&mut at[..room], books, queues, members, first);
     Ruled { list: at, verdict }
+}
+
+// A create of the list by itself, with so many made.
+pub fn create(
+    list: [View; LONGEST],
+    room: usize,
+    made: usize,
+    id: ViewId,
+    set: u8,
+    members: u8,
+) -> Ruled
+    requires { ⌜ room ≤ 33 ⌝ }
+    ensures { λ r. ⌜ Created (take room list) made (id .0) set members (take room (r .list)) (r .verdict)
+        × (drop room (r .list) ≡ drop room list) ⌝ }
+{
+    let mut at = list;
+    let verdict = group_listed::list::create(&mut at[..room], made, id, set, members);
+    Ruled { list: at, verdict }
+}
+
+// A lookup in the list by itself, among so many made.
+pub fn lookup(list: [View; LONGEST], room: usize, made: usize, id: ViewId) -> Lookup
+    requires { ⌜ room ≤ 33 ⌝ }
+    ensures { λ r. ⌜ r ≡ findOf (id .0) (madeIn made (take room list)) ⌝ }
+{
+    group_listed::list::lookup(&list[..room], made, id)
 }

@@ -7,7 +7,9 @@ mod word;
 
 use crate::desk::Desk;
 use crate::word::Word;
+use views::ViewId;
 use views::limits;
+use views::list::Lookup;
 
 // How many bytes of standard input are read.
 const INPUT: usize = 1048576;
@@ -63,6 +65,15 @@ fn answer(line: &[u8], books: &mut [u8], queues: &mut [u8], d: Desk) -> Desk {
         }
         Word::Group => start(line, books, queues, d),
         Word::Step => step(line, books, queues, d),
+        Word::Put => {
+            test_script::reply::ok();
+            crate::desk::put(d, line)
+        }
+        Word::Create => create(line, d),
+        Word::Lookup => {
+            lookup(line, d);
+            d
+        }
         Word::Run => {
             crate::run::run(line, crate::desk::room(d));
             d
@@ -97,4 +108,33 @@ fn step(line: &[u8], books: &mut [u8], queues: &mut [u8], d: Desk) -> Desk {
     test_script::reply::reply(x);
     let after = r.list;
     crate::desk::with_list(d, after)
+}
+
+// A create of the list by itself.
+fn create(line: &[u8], d: Desk) -> Desk {
+    let made = test_script::operand::byte(line, 1) as usize;
+    let id = ViewId(test_script::operand::identifier(line, 2));
+    let set = test_script::operand::byte(line, 3);
+    let members = test_script::operand::byte(line, 4);
+    let list = d.list;
+    let r = crate::listed::create(list, crate::desk::room(d), made, id, set, members);
+    let v = r.verdict;
+    test_script::reply::reply(group::step::plain(v));
+    let after = r.list;
+    crate::desk::with_list(d, after)
+}
+
+// A lookup in the list by itself: the view that is found.
+fn lookup(line: &[u8], d: Desk) {
+    let made = test_script::operand::byte(line, 1) as usize;
+    let id = ViewId(test_script::operand::identifier(line, 2));
+    let list = d.list;
+    let l = crate::listed::lookup(list, crate::desk::room(d), made, id);
+    match l {
+        Lookup::Found(v) => crate::desk::found(v),
+        Lookup::Missing => {
+            io::write_all(1, b"missing");
+        }
+    }
+    test_script::show::end();
 }

@@ -49,7 +49,7 @@ fn table(
     steps(line, list, books, queues, room);
 }
 
-// The steps' records are the third word, in hexadecimal.
+// The steps' records are the fourth word, in hexadecimal.
 fn steps(line: &[u8], list: &mut [u8], books: &mut [u8], queues: &mut [u8], room: usize)
     requires { ⌜ room ≤ 33 ⌝ }
 {

@@ -7,6 +7,9 @@ pub enum Word {
     Group,
     Step,
     Run,
+    Put,
+    Create,
+    Lookup,
 }
 
 // The first letters tell the word.
@@ -18,15 +21,18 @@ pub fn of(line: &[u8]) -> Word {
         b'g' => Word::Group,
         b's' => Word::Step,
         b'r' => Word::Run,
+        b'p' => Word::Put,
+        b'c' => Word::Create,
         _ => Word::Unknown,
     }
 }
 
-// lend, list
+// lend, list, lookup
 fn with_l(second: u8) -> Word {
     match second {
         b'e' => Word::Lend,
         b'i' => Word::List,
+        b'o' => Word::Lookup,
         _ => Word::Unknown,
     }
 }
