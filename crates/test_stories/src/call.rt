@@ -1,17 +1,29 @@
 // The calls of a book, with their operands from a line.
 use events::Reply;
 use events::kinds;
+ghost use mathlib.Core.Path.{_≡_};
+ghost use Rattle.member.specs.Calls.{Gave, deliverCall, deliverBytes};
+ghost use Rattle.test_stories.specs.WordParts.{byteWord};
+ghost use Rattle.test_stories.specs.CallParts.{Started, brought, stepCall, stepBytes};
 
-pub fn start(b: &mut [u8], line: &[u8]) -> Reply {
+pub fn start(b: &mut [u8], line: &[u8]) -> Reply
+    ensures { λ r. ⌜ Started (byteWord (now (line .entry)) 2) (byteWord (now (line .entry)) 3)
+        (byteWord (now (line .entry)) 4) (now (b .entry)) (now (b .exit)) r ⌝ }
+{
     member::start(b, word(line, 2), word(line, 3), word(line, 4))
 }
 
-fn word(line: &[u8], n: usize) -> u8 {
+fn word(line: &[u8], n: usize) -> u8
+    ensures { λ r. ⌜ r ≡ byteWord (now (line .entry)) n ⌝ }
+{
     crate::word::byte(line, n)
 }
 
 // A step, by the number of its kind.
-pub fn step(b: &mut [u8], line: &[u8], kind: u8) -> Reply {
+pub fn step(b: &mut [u8], line: &[u8], kind: u8) -> Reply
+    ensures { λ r. ⌜ Gave (stepCall kind (now (line .entry)) (now (b .entry)))
+        (stepBytes kind (now (line .entry)) (now (b .entry))) (now (b .entry)) (now (b .exit)) r ⌝ }
+{
     match kind {
         kinds::JOIN => member::carrier_view::join(
             b,
@@ -30,7 +42,11 @@ pub fn step(b: &mut [u8], line: &[u8], kind: u8) -> Reply {
 }
 
 // The bytes are the fourth word; without one there are none.
-fn deliver(b: &mut [u8], line: &[u8]) -> Reply {
+fn deliver(b: &mut [u8], line: &[u8]) -> Reply
+    ensures { λ r. ⌜ Gave (deliverCall (brought (now (line .entry))) (byteWord (now (line .entry)) 2) (now (b .entry)))
+        (deliverBytes (brought (now (line .entry))) (byteWord (now (line .entry)) 2) (now (b .entry)))
+        (now (b .entry)) (now (b .exit)) r ⌝ }
+{
     let mut bytes = [0u8; crate::desk::SLIP];
     let n = test_script::parse::unhex(line, test_script::parse::word(line, 3), &mut bytes);
     member::messages::deliver::deliver(b, &bytes[..n], word(line, 2))

@@ -1,6 +1,9 @@
 // What a line says: its word, and operands cut to what there is room for.
 use events::kinds;
-ghost use Prim.Native.Nat.{_<_, _≤_};
+ghost use Prim.Native.Nat.{_<_, min};
+ghost use mathlib.Core.Path.{_≡_};
+ghost use Rattle.test_script.specs.ParseParts.{wordNumber};
+ghost use Rattle.test_stories.specs.WordParts.{withP, withR, withS, wordOf, bookWord, byteWord, identifierWord};
 
 // A step of a book that a call carries out has the number of its kind.
 pub enum Word {
@@ -15,7 +18,9 @@ pub enum Word {
 }
 
 // The first letters tell the word.
-pub fn of(line: &[u8]) -> Word {
+pub fn of(line: &[u8]) -> Word
+    ensures { λ r. ⌜ r ≡ wordOf (now (line .entry)) ⌝ }
+{
     let first = test_script::parse::byte(line, 0);
     let second = test_script::parse::byte(line, 1);
     match first {
@@ -35,7 +40,9 @@ pub fn of(line: &[u8]) -> Word {
 }
 
 // pass, poke
-fn with_p(second: u8) -> Word {
+fn with_p(second: u8) -> Word
+    ensures { λ r. ⌜ r ≡ withP second ⌝ }
+{
     match second {
         b'a' => Word::Pass,
         b'o' => Word::Poke,
@@ -44,7 +51,9 @@ fn with_p(second: u8) -> Word {
 }
 
 // register, relay
-fn with_r(third: u8) -> Word {
+fn with_r(third: u8) -> Word
+    ensures { λ r. ⌜ r ≡ withR third ⌝ }
+{
     match third {
         b'g' => Word::Step(kinds::REGISTER),
         b'l' => Word::Relay,
@@ -53,7 +62,9 @@ fn with_r(third: u8) -> Word {
 }
 
 // start, send, safe
-fn with_s(second: u8) -> Word {
+fn with_s(second: u8) -> Word
+    ensures { λ r. ⌜ r ≡ withS second ⌝ }
+{
     match second {
         b't' => Word::Start,
         b'e' => Word::Step(kinds::SEND),
@@ -64,24 +75,28 @@ fn with_s(second: u8) -> Word {
 
 // An operand that is a book.
 pub fn book(line: &[u8], n: usize) -> usize
-    ensures { λ r. ⌜ r < 4 ⌝ }
+    ensures { λ r. ⌜ (r < 4) × (r ≡ bookWord (now (line .entry)) n) ⌝ }
 {
     (test_script::parse::number(line, n) % 4) as usize
 }
 
 // An operand of one byte.
-pub fn byte(line: &[u8], n: usize) -> u8 {
+pub fn byte(line: &[u8], n: usize) -> u8
+    ensures { λ r. ⌜ r ≡ byteWord (now (line .entry)) n ⌝ }
+{
     (test_script::parse::number(line, n) % 256) as u8
 }
 
 // An operand that is an identifier.
-pub fn identifier(line: &[u8], n: usize) -> u32 {
+pub fn identifier(line: &[u8], n: usize) -> u32
+    ensures { λ r. ⌜ r ≡ identifierWord (now (line .entry)) n ⌝ }
+{
     (test_script::parse::number(line, n) % 4294967296) as u32
 }
 
 // An operand of at most so much.
 pub fn upto(line: &[u8], n: usize, most: usize) -> usize
-    ensures { λ r. ⌜ r ≤ most ⌝ }
+    ensures { λ r. ⌜ r ≡ min (wordNumber (now (line .entry)) n) most ⌝ }
 {
     let x = test_script::parse::number(line, n);
     if x < most as u64 { x as usize } else { most }
