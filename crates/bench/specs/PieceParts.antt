@@ -9,7 +9,7 @@ use Rattle.wire.specs.Writer.{overwritten}
 use Rattle.bench_lines.specs.Lines.{longestLine}
 use Rattle.bench_lines.specs.ReplyLines.{longestReply}
 
--- what a read is is not known beforehand: the bytes that were held are, and that those that count are in the buffer
+-- what is read is not known beforehand: the bytes that were held stay, and those that count then are in the buffer
 pub record Filled (held : ℕ) (entry exit : List ℕ) (n : ℕ) : Type 0 where
   pub more : held ≤ n
   pub within : n ≤ length exit

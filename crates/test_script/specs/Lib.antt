@@ -1,1 +1,2 @@
 pub mod ParseParts
+pub mod OperandParts

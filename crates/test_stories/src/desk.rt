@@ -3,7 +3,11 @@
 use events::Reply;
 use member::Passed;
 use views::refusal::Verdict;
-ghost use Prim.Native.Nat.{_<_, _≤_};
+ghost use Prim.Native.Nat.{_<_, min};
+ghost use mathlib.Core.Path.{_≡_};
+ghost use lib.ListN.{getD};
+ghost use Rattle.test_script.specs.ParseParts.{wordNumber};
+ghost use Rattle.test_stories.specs.DeskParts.{room, slipRoom, freshDesk, withLent, afterStart, afterPass};
 
 // How many books there are.
 pub const BOOKS: usize = 4;
@@ -20,7 +24,9 @@ pub struct Desk {
     pub slip: [usize; BOOKS],
 }
 
-pub fn fresh() -> Desk {
+pub fn fresh() -> Desk
+    ensures { λ r. ⌜ r ≡ freshDesk ⌝ }
+{
     Desk {
         lent: [book_bytes::SIZE; BOOKS],
         own: [0; BOOKS],
@@ -29,33 +35,35 @@ pub fn fresh() -> Desk {
 }
 
 fn least(x: usize, most: usize) -> usize
-    ensures { λ r. ⌜ r ≤ most ⌝ }
+    ensures { λ r. ⌜ r ≡ min x most ⌝ }
 {
     if x < most { x } else { most }
 }
 
 pub fn lent(d: Desk, k: usize) -> usize
     requires { ⌜ k < 4 ⌝ }
-    ensures { λ r. ⌜ r ≤ 5240 ⌝ }
+    ensures { λ r. ⌜ r ≡ min (getD (d .lent) k 0) room ⌝ }
 {
     least(d.lent[k], ROOM)
 }
 
 pub fn own(d: Desk, k: usize) -> u8
     requires { ⌜ k < 4 ⌝ }
+    ensures { λ r. ⌜ r ≡ getD (d .own) k 0 ⌝ }
 {
     d.own[k]
 }
 
 pub fn slip(d: Desk, k: usize) -> usize
     requires { ⌜ k < 4 ⌝ }
-    ensures { λ r. ⌜ r ≤ 200 ⌝ }
+    ensures { λ r. ⌜ r ≡ min (getD (d .slip) k 0) slipRoom ⌝ }
 {
     least(d.slip[k], SLIP)
 }
 
 pub fn lend(d: Desk, k: usize, line: &[u8]) -> Desk
     requires { ⌜ k < 4 ⌝ }
+    ensures { λ r. ⌜ r ≡ withLent d k (min (wordNumber (now (line .entry)) 2) room) ⌝ }
 {
     let mut next = d;
     next.lent[k] = test_script::operand::upto(line, 2, ROOM);
@@ -65,6 +73,7 @@ pub fn lend(d: Desk, k: usize, line: &[u8]) -> Desk
 // After a start: its own number counts if it was accepted.
 pub fn started(d: Desk, k: usize, line: &[u8], r: Reply) -> Desk
     requires { ⌜ k < 4 ⌝ }
+    ensures { λ s. ⌜ s ≡ afterStart (r .verdict) d k (now (line .entry)) ⌝ }
 {
     let v = r.verdict;
     match v {
@@ -80,6 +89,7 @@ pub fn started(d: Desk, k: usize, line: &[u8], r: Reply) -> Desk
 // After a pass: its bytes stay on the slip if it was accepted.
 pub fn passed(d: Desk, k: usize, p: Passed) -> Desk
     requires { ⌜ k < 4 ⌝ }
+    ensures { λ s. ⌜ s ≡ afterPass (p .verdict) d k (p .length) ⌝ }
 {
     let v = p.verdict;
     match v {

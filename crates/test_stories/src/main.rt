@@ -12,8 +12,11 @@ use crate::desk::SLIP;
 use crate::word::Word;
 use views::Member;
 ghost use mathlib.Core.Path.{_≡_};
-ghost use lib.ListN.{length};
-ghost use Prim.Native.Nat.{_<_};
+ghost use lib.ListN.{length, set};
+ghost use Prim.Native.Nat.{_+_, _-_, _*_, _<_, min};
+ghost use Rattle.test_script.specs.ParseParts.{wordNumber};
+ghost use Rattle.test_stories.specs.DeskParts.{room};
+ghost use Rattle.test_script.specs.OperandParts.{byteWord};
 
 // How many bytes of standard input are read.
 const INPUT: usize = 1048576;
@@ -91,6 +94,8 @@ fn answer(line: &[u8], books: &mut [u8], slips: &mut [u8], d: Desk) -> Desk
 fn poke(books: &mut [u8], k: usize, line: &[u8])
     requires { ⌜ k < 4 ⌝ }
     requires { ⌜ length (now books) ≡ 20960 ⌝ }
+    ensures { λ _. ⌜ now (books .exit) ≡ set (now (books .entry))
+        (k * room + min (wordNumber (now (line .entry)) 2) (room - 1)) (byteWord (now (line .entry)) 3) ⌝ }
 {
     let at = k * ROOM + test_script::operand::upto(line, 2, ROOM - 1);
     books[at] = test_script::operand::byte(line, 3);

@@ -1,6 +1,8 @@
 // What a line says: its word, and which book it is about.
 use events::kinds;
 ghost use Prim.Native.Nat.{_<_};
+ghost use mathlib.Core.Path.{_≡_};
+ghost use Rattle.test_stories.specs.WordParts.{withP, withR, withS, wordOf, bookWord};
 
 // A step of a book that a call carries out has the number of its kind.
 pub enum Word {
@@ -15,7 +17,9 @@ pub enum Word {
 }
 
 // The first letters tell the word.
-pub fn of(line: &[u8]) -> Word {
+pub fn of(line: &[u8]) -> Word
+    ensures { λ r. ⌜ r ≡ wordOf (now (line .entry)) ⌝ }
+{
     let first = test_script::parse::byte(line, 0);
     let second = test_script::parse::byte(line, 1);
     match first {
@@ -35,7 +39,9 @@ pub fn of(line: &[u8]) -> Word {
 }
 
 // pass, poke
-fn with_p(second: u8) -> Word {
+fn with_p(second: u8) -> Word
+    ensures { λ r. ⌜ r ≡ withP second ⌝ }
+{
     match second {
         b'a' => Word::Pass,
         b'o' => Word::Poke,
@@ -44,7 +50,9 @@ fn with_p(second: u8) -> Word {
 }
 
 // register, relay
-fn with_r(third: u8) -> Word {
+fn with_r(third: u8) -> Word
+    ensures { λ r. ⌜ r ≡ withR third ⌝ }
+{
     match third {
         b'g' => Word::Step(kinds::REGISTER),
         b'l' => Word::Relay,
@@ -53,7 +61,9 @@ fn with_r(third: u8) -> Word {
 }
 
 // start, send, safe
-fn with_s(second: u8) -> Word {
+fn with_s(second: u8) -> Word
+    ensures { λ r. ⌜ r ≡ withS second ⌝ }
+{
     match second {
         b't' => Word::Start,
         b'e' => Word::Step(kinds::SEND),
@@ -64,7 +74,7 @@ fn with_s(second: u8) -> Word {
 
 // An operand that is a book.
 pub fn book(line: &[u8], n: usize) -> usize
-    ensures { λ r. ⌜ r < 4 ⌝ }
+    ensures { λ r. ⌜ (r < 4) × (r ≡ bookWord (now (line .entry)) n) ⌝ }
 {
     (test_script::parse::number(line, n) % 4) as usize
 }

@@ -19,7 +19,7 @@ lastPlace = 639
 unfoldable pub endsAt : ℕ → ℕ
 endsAt c = cond (eqb c 32) 1 (cond (eqb c 58) 1 0)
 
--- the places after the bytes, the number of the next byte being in place n: a digit goes behind the number that is there
+-- the places after the bytes, the next byte being of the number in place n: a digit goes behind that number
 unfoldable pub numbersFrom : ℕ → List ℕ → List ℕ → List ℕ
 numbersFrom n xs [] = xs
 numbersFrom n xs (c ∷ s) =
