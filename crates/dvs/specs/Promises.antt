@@ -1,5 +1,5 @@
--- Demand 3 of a host's calls: a start of a group that gave 0, then calls of step, each on the ranges left before. Demand
--- 2 of its messages: what is read is written again, and what is written is read again.
+-- Demand 3 of a host's calls: a start of a group that gave 0, then calls of step, each on the ranges left before.
+-- Demand 2 of its messages: what is read is written again, and what is written is read again.
 use mathlib.Core.Path.{_≡_}
 use mathlib.Core.List.{List, [], _++_}
 use Prim.Native.Nat.{ℕ, _≤_}

@@ -74,7 +74,8 @@ pub record AreGroup (r : Ranges) (s : Group) : Type 0 where
   pub bytes : RangesBytes r
 
 pub record Demand2 : Type 0 where
-  -- a start of ranges not of their lengths gets 4; of others it is the rules', for as many views as the list has records
+  -- a start of ranges not of their lengths gets 4; of others it is the rules', for as many views as the list has
+  -- records
   pub start-unfit : (n S : ℕ) (r : Ranges) → rangesLong r ≡ false → startResult n S r ≡ refused RecordsUnsound
   pub start-result : (n S : ℕ) (r : Ranges) → rangesLong r ≡ true → startResult n S r ≡ start n S (roomOf (r .list))
   pub start-group : (n S : ℕ) (r : Ranges) (s : Group) → startResult n S r ≡ accepted s

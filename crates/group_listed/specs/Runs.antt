@@ -26,8 +26,8 @@ pub data WentOn : List View → List ℕ → List ℕ → List Step → List Rep
   then : {l k m : List View} {b q d e f g : List ℕ} {c : Step} {x : Reply} {steps : List Step} {replies : List Reply}
       → Went l b q c k d e x → WentOn k d e steps replies m f g → WentOn l b q (c ∷ steps) (x ∷ replies) m f g
 
--- what a start or a step leaves of the records, written as bytes, is what it leaves of the bytes, where the records lent
--- are within their widths, as their type says; and those left are within them again
+-- what a start or a step leaves of the records, written as bytes, is what it leaves of the bytes, where the records
+-- lent are within their widths, as their type says; and those left are within them again
 pub record Demand2 : Type 0 where
   pub start-ranges : (n S : ℕ) (l k : List View) (b q d e : List ℕ) (v : Verdict) → Began l b q n S k d e v
       → rangesOf k d e ≡ left v (startRanges n S (rangesOf l b q)) (rangesOf l b q)

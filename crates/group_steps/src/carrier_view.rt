@@ -26,7 +26,8 @@ fn enter(list: &[u8], all: &mut [u8], p: Member, i: u8) -> Reply
     requires { ⌜ HasBook (now all) (p .0) × (p .0 < getD (now all) membersAt 0)
         × (viewSize * i + viewSize ≤ length (now list)) ⌝ }
     ensures { λ r. ⌜ OwnStep (p .0)
-        (ofMember (now (all .entry)) (p .0) (λ b. joins (selfIn b) (viewIn (now (list .entry)) (viewSize * i)) (bookIn b)))
+        (ofMember (now (all .entry)) (p .0)
+        (λ b. joins (selfIn b) (viewIn (now (list .entry)) (viewSize * i)) (bookIn b)))
         (joinBytes (viewIn (now (list .entry)) (viewSize * i))) (now (all .entry)) (now (all .exit)) r ⌝ }
 {
     let v = wire::reader::load_view(list, group_bytes::VIEW * (i as usize));
@@ -57,8 +58,8 @@ pub fn join(list: &[u8], all: &mut [u8], queues: &[u8], p: Member, id: ViewId) -
 pub fn attempt(all: &mut [u8], p: Member) -> Reply
     requires { ⌜ HasBook (now all) (p .0) ⌝ }
     ensures { λ r. ⌜ OwnStep (p .0)
-        (ofMember (now (all .entry)) (p .0) (λ b. fewOpen (attempts one (membersIn b) (selfIn b) (bookIn b)))) attemptBytes
-        (now (all .entry)) (now (all .exit)) r ⌝ }
+        (ofMember (now (all .entry)) (p .0) (λ b. fewOpen (attempts one (membersIn b) (selfIn b) (bookIn b))))
+        attemptBytes (now (all .entry)) (now (all .exit)) r ⌝ }
 {
     if all[book_bytes::MEMBERS] <= p.0 {
         return events::refuse(Refusal::NoSuchMember);
@@ -71,8 +72,8 @@ pub fn attempt(all: &mut [u8], p: Member) -> Reply
 // The carrier view becomes settled; only open views above it remain.
 pub fn collect(all: &mut [u8], p: Member) -> Reply
     requires { ⌜ HasBook (now all) (p .0) ⌝ }
-    ensures { λ r. ⌜ OwnStep (p .0) (ofMember (now (all .entry)) (p .0) (λ b. collects (membersIn b) (bookIn b))) collectBytes
-        (now (all .entry)) (now (all .exit)) r ⌝ }
+    ensures { λ r. ⌜ OwnStep (p .0) (ofMember (now (all .entry)) (p .0) (λ b. collects (membersIn b) (bookIn b)))
+        collectBytes (now (all .entry)) (now (all .exit)) r ⌝ }
 {
     if all[book_bytes::MEMBERS] <= p.0 {
         return events::refuse(Refusal::NoSuchMember);

@@ -10,8 +10,8 @@ ghost use Rattle.group_steps.specs.OwnParts.{HasBook, ofMember, OwnStep}
 // Noted for the client view; outgoing gains a registered message.
 pub fn register(all: &mut [u8], p: Member) -> Reply
     requires { ⌜ HasBook (now all) (p .0) ⌝ }
-    ensures { λ r. ⌜ OwnStep (p .0) (ofMember (now (all .entry)) (p .0) (λ b. registers (selfIn b) (bookIn b))) registerBytes
-        (now (all .entry)) (now (all .exit)) r ⌝ }
+    ensures { λ r. ⌜ OwnStep (p .0) (ofMember (now (all .entry)) (p .0) (λ b. registers (selfIn b) (bookIn b)))
+        registerBytes (now (all .entry)) (now (all .exit)) r ⌝ }
 {
     if all[book_bytes::MEMBERS] <= p.0 {
         return events::refuse(Refusal::NoSuchMember);
@@ -66,8 +66,9 @@ pub fn tell(all: &mut [u8], p: Member) -> Reply
 // The next handed message not yet reported is reported.
 pub fn safe(all: &mut [u8], p: Member) -> Reply
     requires { ⌜ HasBook (now all) (p .0) ⌝ }
-    ensures { λ r. ⌜ OwnStep (p .0) (ofMember (now (all .entry)) (p .0) (λ b. safes (membersIn b) (selfIn b) (bookIn b)))
-        safeBytes (now (all .entry)) (now (all .exit)) r ⌝ }
+    ensures { λ r. ⌜ OwnStep (p .0)
+        (ofMember (now (all .entry)) (p .0) (λ b. safes (membersIn b) (selfIn b) (bookIn b))) safeBytes
+        (now (all .entry)) (now (all .exit)) r ⌝ }
 {
     if all[book_bytes::MEMBERS] <= p.0 {
         return events::refuse(Refusal::NoSuchMember);

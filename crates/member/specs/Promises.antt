@@ -1,5 +1,5 @@
--- What is promised of the member by itself: demand 2, that each call does what the rules say; and that 4 never comes for
--- what its own steps made.
+-- What is promised of the member by itself: demand 2, that each call does what the rules say; and that 4 never comes
+-- for what its own steps made.
 use mathlib.Core.Path.{_≡_}
 use mathlib.Core.Bool.{true, false}
 use mathlib.Core.List.{List}

@@ -31,7 +31,8 @@ fn join_view(b: &mut [u8], v: View) -> Reply
 
 // The view becomes the carrier view.
 pub fn join(b: &mut [u8], v: View) -> Reply
-    ensures { λ r. ⌜ Gave (joinCall v (now (b .entry))) (joinBytes v (now (b .entry))) (now (b .entry)) (now (b .exit)) r ⌝ }
+    ensures { λ r. ⌜ Gave (joinCall v (now (b .entry))) (joinBytes v (now (b .entry))) (now (b .entry))
+        (now (b .exit)) r ⌝ }
 {
     let verdict = admit(b);
     match verdict {

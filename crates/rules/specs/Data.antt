@@ -103,12 +103,6 @@ Message = MessageOf ℕ
 abbrev pub Entry : Type 0
 Entry = EntryOf ℕ
 
-abbrev pub AtCarrier : Type 0
-AtCarrier = AtCarrierOf ℕ
-
-abbrev pub AtClient : Type 0
-AtClient = AtClientOf ℕ
-
 abbrev pub Book : Type 0
 Book = BookOf ℕ
 
