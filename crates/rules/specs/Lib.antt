@@ -6,3 +6,4 @@ pub mod Figure1
 pub mod Runs
 pub mod Promise
 pub mod Alone
+pub mod Hosts
