@@ -25,10 +25,10 @@ pub fn clear(b: &mut [u8])
 }
 
 // The record of the member `own` of a group that has the first view alone.
-pub fn record(set: u8, own: u8) -> Record
-    ensures { λ r. ⌜ r ≡ freshRecord set own ⌝ }
+pub fn record(set: u8, own: Member) -> Record
+    ensures { λ r. ⌜ r ≡ freshRecord set (own .0) ⌝ }
 {
-    let there = sets::contains(set, Member(own));
+    let there = sets::contains(set, own);
     let view = View { id: ViewId(0), set };
     let seat = Seat { there, view };
     let none = View {
@@ -57,18 +57,18 @@ pub fn record(set: u8, own: u8) -> Record
 }
 
 // The number of members and the own number.
-fn put_numbers(b: &mut [u8], members: u8, own: u8)
+fn put_numbers(b: &mut [u8], members: u8, own: Member)
     requires { ⌜ bookSize ≤ length (now b) ⌝ }
-    ensures { λ _. ⌜ now (b .exit) ≡ set (set (now (b .entry)) membersAt members) selfAt own ⌝ }
+    ensures { λ _. ⌜ now (b .exit) ≡ set (set (now (b .entry)) membersAt members) selfAt (own .0) ⌝ }
 {
     b[crate::MEMBERS] = members;
-    b[crate::SELF] = own;
+    b[crate::SELF] = own.0;
 }
 
 // The bytes of a fresh member.
-pub fn book(b: &mut [u8], members: u8, set: u8, own: u8)
+pub fn book(b: &mut [u8], members: u8, set: u8, own: Member)
     requires { ⌜ bookSize ≤ length (now b) ⌝ }
-    ensures { λ _. ⌜ now (b .exit) ≡ startBytes members set own (now (b .entry)) ⌝ }
+    ensures { λ _. ⌜ now (b .exit) ≡ startBytes members set (own .0) (now (b .entry)) ⌝ }
 {
     clear(b);
     put_numbers(b, members, own);

@@ -6,6 +6,7 @@ use events::Event;
 use events::Reply;
 use events::kinds;
 use views::Member;
+use views::Position;
 use views::View;
 use views::refusal::Verdict;
 use views::sizes;
@@ -91,14 +92,14 @@ pub fn send(b: &mut [u8], entry: u64) -> Reply
 }
 
 // The event of item k of the inward list with its count at a place, if it has so many.
-fn of_item(b: &[u8], at: usize, k: u8, kind: u8, h: Record) -> Event
+fn of_item(b: &[u8], at: usize, k: Position, kind: u8, h: Record) -> Event
     requires { ⌜ (at + 1 + itemSize * getD (now b) at 0 ≤ length (now b)) × (2 ≤ length (now b)) ⌝ }
-    ensures { λ r. ⌜ r ≡ itemEvent (now (b .entry)) at k kind h ⌝ }
+    ensures { λ r. ⌜ r ≡ itemEvent (now (b .entry)) at (k .0) kind h ⌝ }
 {
-    if b[at] <= k {
+    if b[at] <= k.0 {
         return events::no_event();
     }
-    let i = at + 1 + slots::ITEM * (k as usize);
+    let i = at + 1 + slots::ITEM * (k.0 as usize);
     let member = Member(b[book_bytes::SELF]);
     let sender = Member(b[i]);
     let entry = numbers::get_number(b, i + slots::ITEM_NUMBER, sizes::NUMBER);
@@ -123,7 +124,7 @@ pub fn hand(b: &mut [u8]) -> Reply
     let h = book_bytes::load(b);
     let at = book_bytes::INWARD + book_bytes::APART * (h.side as usize);
     let s = record_steps::client_view::hand(h, b[at]);
-    let e = of_item(b, at, h.handed.0, kinds::HAND, h);
+    let e = of_item(b, at, h.handed, kinds::HAND, h);
     crate::keep(b, s, e)
 }
 
@@ -153,6 +154,6 @@ pub fn safe(b: &mut [u8]) -> Reply
     let h = book_bytes::load(b);
     let at = book_bytes::INWARD + book_bytes::APART * (h.side as usize);
     let s = record_steps::client_view::safe(b[book_bytes::MEMBERS], h, b[at]);
-    let e = of_item(b, at, h.reported.0, kinds::SAFE, h);
+    let e = of_item(b, at, h.reported, kinds::SAFE, h);
     crate::keep(b, s, e)
 }

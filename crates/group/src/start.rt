@@ -1,4 +1,5 @@
 // Start: 4 for ranges not of their lengths, then 1, 2, 3; then every byte is determined.
+use views::Member;
 use views::View;
 use views::ViewId;
 use views::limits;
@@ -51,7 +52,7 @@ fn lay_books(all: &mut [u8], members: u8, first: u8)
     while p < members {
         let a = book_bytes::SIZE * (p as usize);
         let e = a + book_bytes::SIZE;
-        book_bytes::fresh::book(&mut all[a..e], members, first, p);
+        book_bytes::fresh::book(&mut all[a..e], members, first, Member(p));
         p += 1;
     }
 }

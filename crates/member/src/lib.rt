@@ -70,7 +70,7 @@ pub fn start(b: &mut [u8], members: u8, set: u8, own: Member) -> Reply
     match v {
         Verdict::Refused(r) => events::refuse(r),
         Verdict::Accepted => {
-            book_bytes::fresh::book(b, members, set, own.0);
+            book_bytes::fresh::book(b, members, set, own);
             Reply {
                 verdict: Verdict::Accepted,
                 event: events::no_event(),

@@ -2,6 +2,7 @@
 pub mod States
 pub mod Flatten
 pub mod Changes
+pub mod Firm
 pub mod Moves
 pub mod JointMoves
 pub mod RunMoves

@@ -10,3 +10,4 @@ pub mod NeverWedged
 pub mod Alone
 pub mod Refused
 pub mod Cases
+pub mod Hosts

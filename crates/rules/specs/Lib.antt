@@ -7,3 +7,4 @@ pub mod Runs
 pub mod Promise
 pub mod Alone
 pub mod Cases
+pub mod Hosts

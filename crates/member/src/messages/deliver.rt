@@ -2,6 +2,7 @@
 use crate::admit;
 use events::Reply;
 use views::Member;
+use views::Position;
 use views::View;
 use views::limits;
 use views::list;
@@ -41,8 +42,8 @@ fn all_fit(n: u8, list: Views) -> bool
 }
 
 // 7 for any view carried, 41 another view, 42 a sender not in it, 16 after 128 taken.
-fn answer(n: u8, v: View, taken: u8, q: Member, f: Frame) -> Verdict
-    ensures { λ r. ⌜ r ≡ frameAnswer n v taken (q .0) f ⌝ }
+fn answer(n: u8, v: View, taken: Position, q: Member, f: Frame) -> Verdict
+    ensures { λ r. ⌜ r ≡ frameAnswer n v (taken .0) (q .0) f ⌝ }
 {
     let list = f.views;
     if !all_fit(n, list) {
@@ -54,7 +55,7 @@ fn answer(n: u8, v: View, taken: u8, q: Member, f: Frame) -> Verdict
     if !sets::contains(v.set, q) {
         return Verdict::Refused(Refusal::SenderNotInView);
     }
-    if limits::ORDERED <= taken {
+    if limits::ORDERED <= taken.0 {
         return Verdict::Refused(Refusal::OrderFull);
     }
     Verdict::Accepted
@@ -69,7 +70,8 @@ fn deliver_frame(b: &mut [u8], v: View, q: Member, f: Frame) -> Reply
         (verdictOf (arriving (membersIn (now (b .entry))) v (sentIn f) (q .0) (bookIn (now (b .entry)))))
         (takeBytes (q .0) (sentIn f .message) (now (b .entry))) (now (b .entry))) ⌝ }
 {
-    let verdict = answer(b[book_bytes::MEMBERS], v, b[book_bytes::TAKEN], q, f);
+    let taken = Position(b[book_bytes::TAKEN]);
+    let verdict = answer(b[book_bytes::MEMBERS], v, taken, q, f);
     match verdict {
         Verdict::Refused(r) => events::refuse(r),
         Verdict::Accepted => book_steps::messages::deliver(b, q, f),

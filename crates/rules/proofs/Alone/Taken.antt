@@ -53,7 +53,7 @@ module _ {M : Type 0} where
   })
 
   -- 43 counts what an info leaves open
-  took-short : (q : Member) (m : MessageOf M) (b : BookOf M) → length (delivered q m b .held .opens) ≤ maxOpen
+  pub took-short : (q : Member) (m : MessageOf M) (b : BookOf M) → length (delivered q m b .held .opens) ≤ maxOpen
       → (x : View) (l : List View) → m ≡ info x l → length (learned x l (b .held) .opens) ≤ maxOpen
   unfolding delivered
   took-short q m b h x l e = rw e at h

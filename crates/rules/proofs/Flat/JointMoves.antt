@@ -1,13 +1,13 @@
 -- The steps in which the carrier and a member take part, and then any step and any list of steps: each is a move of the flat group, or changes nothing.
 use mathlib.Core.Path.{_≡_, refl, sym, _∙_, subst, ap}
-use mathlib.Core.Logic.{_≢_, _⊎_, inl, inr}
+use mathlib.Core.Logic.{_⊎_, inl, inr}
 use mathlib.Core.Bool.{Bool, true, false, cond}
 use mathlib.Core.Option.{Option, none, some}
-use mathlib.Core.List.{List, [], _∷_, _++_, map, append-nil, append-assoc}
+use mathlib.Core.List.{List, [], _∷_, _++_, map}
 use Prim.Native.Nat.{ℕ, zero, suc, _+_, _≤_, _<_, max}
 use native.Mathlib.Omega.{arith}
-use lib.Dec.{T, eqb, ltb}
-use lib.ListN.{length, take, drop}
+use lib.Dec.{ltb}
+use lib.ListN.{length, drop}
 use borrow.Author.Tests.{ltb-true, ltb-false, eqb-true, eqb-false}
 use Rattle.views.specs.declared.View.{View}
 use Rattle.views.specs.declared.list.Lookup.{Lookup}
@@ -15,24 +15,21 @@ use Rattle.views.specs.declared.list.Lookup.the-variants.{Found, Missing}
 use Rattle.views.specs.Limits.{maxMembers}
 use Rattle.views.specs.Members.{In, top, pop}
 use Rattle.views.specs.Points.{at, at2}
-use Rattle.views.specs.Lists.{idOf, findOf, unionOf, aboveOf}
+use Rattle.views.specs.Lists.{idOf, findOf, unionOf}
 use Rattle.views.proofs.Members.{in-cons, in-nil, in-append}
 use Rattle.views.proofs.ListLaws.{find-in, above-keep, union-left, union-right}
 use Rattle.views.proofs.PointLaws.{upd-ind, upd2-ind}
 use Rattle.rules.specs.Data as D
-use Rattle.rules.specs.Data.{Member, MessageOf, EntryOf, entry, Item, item, Held, BookOf, GroupOf, Step, Event, AnswerOf, ok, event, refusal, Result, refused, accepted, need, rank}
+use Rattle.rules.specs.Data.{Member, EntryOf, entry, item, Held, BookOf, GroupOf, ok, rank}
 use Rattle.rules.specs.Member.{clientIsCarrier, outgoes, passing, takes, received, ownOr, settledBy, learned, delivered}
-use Rattle.rules.specs.Sound.{sound}
-use Rattle.rules.specs.Group.{NextOf, booked, joinStep, passStep, orderStep, takeFrom, deliverStep, stepOf, settles, step, started, start, firstView, fresh}
-use Rattle.rules.specs.Figure1.{At}
-use Rattle.rules.specs.Runs.{lastOf, answersOf, eventsOf}
+use Rattle.rules.specs.Group.{booked, joinStep, passStep, orderStep, takeFrom, deliverStep}
 use Rattle.rules.proofs.Flat as F
-use Rattle.rules.proofs.Flat.{Flat, Move, Steps, flat0}
+use Rattle.rules.proofs.Flat.{Flat, Move}
 use Rattle.rules.proofs.Flat.Flatten.{flat, msgOf, entOf, bare}
 use Rattle.rules.proofs.Flat.Changes as C
-use Rattle.rules.proofs.Sound.{Sound, sound-says}
-use Rattle.rules.proofs.Holding.{Holds, gives, given, need-holds, view-holds, first-holds, after-holds, then-holds, listed-holds, pick-holds}
-use Rattle.rules.proofs.Flat.Moves.{in-map, map-in, sender, Own, shown, Moved, create-moves, owned, moved, handed-fits, same-view, join-well, attempt-well, register-well, send-well, tell-well, hand-well, safe-well, collect-well}
+use Rattle.rules.proofs.Holding.{Holds, gives, need-holds, view-holds, first-holds, then-holds, listed-holds}
+use Rattle.rules.proofs.Flat.Firm.{Firm, in-map, map-in, sender, Own}
+use Rattle.rules.proofs.Flat.Moves.{shown, Moved, owned, moved, handed-fits, join-well}
 
 pub map-drop : {A B : Type 0} (f : A → B) (n : ℕ) (l : List A) → drop n (map f l) ≡ map f (drop n l)
 map-drop f zero l = refl
@@ -92,66 +89,65 @@ module _ {M : Type 0} where
       join-moves g = listed-holds _ _ (λ v e. owned weight s o p _ (join-well weight s o p v (find-in g (s .views) v e .0)))
 
       -- ---- 3. pass
+      pub passed-moves : (v : View) (x : EntryOf M) (r : List (EntryOf M)) → b .carrier .view ≡ some v → b .outgoing ≡ x ∷ r
+          → Moved weight s (record {
+            state = record {
+              members = s .members;
+              room = s .room;
+              views = s .views;
+              books = at p (outgoes r b) (s .books);
+              waiting = at2 p (idOf v) (s .waiting p (idOf v) ++ (x ∷ [])) (s .waiting);
+              order = s .order;
+            };
+            answer = ok;
+          })
+      passed-moves v x r c k = (
+        quiet (C.pass-flat s p (idOf v) x r) (F.pass p (idOf v) (bare x) (map bare r) (ap rank c) (ap (map bare) k)),
+        record {
+          outgoing = upd-ind p (outgoes r b) (s .books) (λ q c. (e : EntryOf M) → In e (c .outgoing) → sender e ≡ q)
+              (λ e h. o .outgoing p e (subst (λ (l : List (EntryOf M)). In e l) (sym k) (pop h))) (λ q _. o .outgoing q);
+          waiting = upd2-ind p (idOf v) (s .waiting p (idOf v) ++ (x ∷ [])) (s .waiting) (λ q g l. (e : EntryOf M) → In e l → sender e ≡ q)
+              (λ e h. last e (in-append (s .waiting p (idOf v)) h)) (λ q g _. o .waiting q g);
+        },
+      )
+        where
+          last : (e : EntryOf M) → In e (s .waiting p (idOf v)) ⊎ In e (x ∷ []) → sender e ≡ p
+          last e (inl h) = o .waiting p (idOf v) e h
+          last e (inr h) = o .outgoing p e (subst (λ (l : List (EntryOf M)). In e l) (sym k) (elim (in-cons h) [ inl f ↦ subst (λ (y : EntryOf M). In e (y ∷ r)) f top | inr f ↦ absurd (in-nil f) ]))
+
       pub pass-moves : Holds (Moved weight s) (passStep s p)
       unfolding passStep passing
-      pass-moves =
-          then-holds _ _ (view-holds _ _ _ (λ v e. first-holds _ _ _ (λ x r k.
-          gives (need-holds _ _ _ (λ _. gives (
-            quiet (C.pass-flat s p (idOf v) x r) (F.pass p (idOf v) (bare x) (map bare r) (ap rank e) (ap (map bare) k)),
-            own' v x r k,
-          ))))))
-        where
-          own' : (v : View) (x : EntryOf M) (r : List (EntryOf M)) → b .outgoing ≡ x ∷ r
-              → Own (record {
-                members = s .members;
-                room = s .room;
-                views = s .views;
-                books = at p (outgoes r b) (s .books);
-                waiting = at2 p (idOf v) (s .waiting p (idOf v) ++ (x ∷ [])) (s .waiting);
-                order = s .order;
-              })
-          own' v x r k = record {
-            outgoing = upd-ind p (outgoes r b) (s .books) (λ q c. (e : EntryOf M) → In e (c .outgoing) → sender e ≡ q)
-                (λ e h. o .outgoing p e (subst (λ (l : List (EntryOf M)). In e l) (sym k) (pop h))) (λ q _. o .outgoing q);
-            waiting = upd2-ind p (idOf v) (s .waiting p (idOf v) ++ (x ∷ [])) (s .waiting) (λ q g l. (e : EntryOf M) → In e l → sender e ≡ q)
-                (λ e h. last e (in-append (s .waiting p (idOf v)) h)) (λ q g _. o .waiting q g);
-          }
-            where
-              last : (e : EntryOf M) → In e (s .waiting p (idOf v)) ⊎ In e (x ∷ []) → sender e ≡ p
-              last e (inl h) = o .waiting p (idOf v) e h
-              last e (inr h) = o .outgoing p e (subst (λ (l : List (EntryOf M)). In e l) (sym k) (elim (in-cons h) [ inl f ↦ subst (λ (y : EntryOf M). In e (y ∷ r)) f top | inr f ↦ absurd (in-nil f) ]))
+      pass-moves = then-holds _ _ (view-holds _ _ _ (λ v c. first-holds _ _ _ (λ x r k. gives (need-holds _ _ _ (λ _. gives (passed-moves v x r c k))))))
 
       -- ---- 4. order
+      pub ordered-moves : (g : ℕ) (e : EntryOf M) (r : List (EntryOf M)) → s .waiting p g ≡ e ∷ r
+          → Moved weight s (record {
+            state = record {
+              members = s .members;
+              room = s .room;
+              views = s .views;
+              books = s .books;
+              waiting = at2 p g r (s .waiting);
+              order = at g (s .order g ++ (e ∷ [])) (s .order);
+            };
+            answer = ok;
+          })
+      ordered-moves g (entry q m) r k =
+          let f : q ≡ p = o .waiting p g (entry q m) (subst (λ (l : List (EntryOf M)). In (entry q m) l) (sym k) top) in (
+            quiet (C.order-flat s p g q m r f) (F.order p g (msgOf m) (map bare r) (ap (map bare) k)),
+            record {
+              outgoing = o .outgoing;
+              waiting = upd2-ind p g r (s .waiting) (λ q h l. (e : EntryOf M) → In e l → sender e ≡ q)
+                  (λ d h. o .waiting p g d (subst (λ (l : List (EntryOf M)). In d l) (sym k) (pop h))) (λ q h _. o .waiting q h);
+            },
+          )
+
       pub order-moves : (g : ℕ) → Holds (Moved weight s) (orderStep s p g)
       unfolding orderStep
-      order-moves g = listed-holds _ _ (λ v _. first-holds _ _ _ (λ x r k. need-holds _ _ _ (λ _. gives (one x r k))))
-        where
-          own' : (e : EntryOf M) (r : List (EntryOf M)) → s .waiting p g ≡ e ∷ r
-              → Own (record { members = s .members; room = s .room; views = s .views; books = s .books; waiting = at2 p g r (s .waiting); order = at g (s .order g ++ (e ∷ [])) (s .order) })
-          own' e r k = record {
-            outgoing = o .outgoing;
-            waiting = upd2-ind p g r (s .waiting) (λ q h l. (e : EntryOf M) → In e l → sender e ≡ q)
-                (λ d h. o .waiting p g d (subst (λ (l : List (EntryOf M)). In d l) (sym k) (pop h))) (λ q h _. o .waiting q h);
-          }
-
-          one : (e : EntryOf M) (r : List (EntryOf M)) → s .waiting p g ≡ e ∷ r
-              → Moved weight s (record {
-                state = record {
-                  members = s .members;
-                  room = s .room;
-                  views = s .views;
-                  books = s .books;
-                  waiting = at2 p g r (s .waiting);
-                  order = at g (s .order g ++ (e ∷ [])) (s .order);
-                };
-                answer = ok;
-              })
-          one (entry q m) r k =
-              let f : q ≡ p = o .waiting p g (entry q m) (subst (λ (l : List (EntryOf M)). In (entry q m) l) (sym k) top) in
-              (quiet (C.order-flat s p g q m r f) (F.order p g (msgOf m) (map bare r) (ap (map bare) k)), own' (entry q m) r k)
+      order-moves g = listed-holds _ _ (λ v _. first-holds _ _ _ (λ x r k. need-holds _ _ _ (λ _. gives (ordered-moves g x r k))))
 
       -- ---- 5. deliver, on sound records
-      module _ (i : Sound s) (lt : p < s .members) where
+      module _ (i : Firm s) (lt : p < s .members) where
         -- the next of the order, in the flat group
         next : (v : View) (e : EntryOf M) (r : List (EntryOf M)) → drop (b .carrier .taken) (s .order (idOf v)) ≡ e ∷ r → drop (b .carrier .taken) (map entOf (s .order (idOf v))) ≡ entOf e ∷ map entOf r
         next v e r k = map-drop entOf (b .carrier .taken) (s .order (idOf v)) ∙ ap (map entOf) k
@@ -164,7 +160,7 @@ module _ {M : Type 0} where
             go none e = let z : _≡_ {A = ℕ} 0 (suc (idOf v)) = sym (ap rank e) ∙ eqb-true (rank (b .client .view)) (rank (b .carrier .view)) d ∙ ap rank c in absurd (omega arith)
             go (some u) e = handed-fits weight s o p i lt u e
 
-        took-moves : (v : View) → b .carrier .view ≡ some v → (e : EntryOf M) (r : List (EntryOf M)) → drop (b .carrier .taken) (s .order (idOf v)) ≡ e ∷ r
+        pub took-moves : (v : View) → b .carrier .view ≡ some v → (e : EntryOf M) (r : List (EntryOf M)) → drop (b .carrier .taken) (s .order (idOf v)) ≡ e ∷ r
             → Moved weight s (record { state = booked s p (takeFrom e b); answer = ok })
         unfolding delivered learned shown
         took-moves v c (entry q (D.client x)) r k = go (clientIsCarrier b) refl

@@ -1,82 +1,46 @@
 -- Each accepted step of the rules, where the queues hold their owners' messages, is a move of the flat group, and the queues still hold them. Some of
 -- them, as register and send, need no sound records for that.
 use mathlib.Core.Path.{_≡_, refl, sym, _∙_, subst, ap, fun-ext}
-use mathlib.Core.Logic.{_≢_, _⊎_, inl, inr}
+use mathlib.Core.Logic.{inl, inr}
 use mathlib.Core.Bool.{Bool, true, false, cond, not, _||_}
-use mathlib.Core.Option.{Option, none, some}
+use mathlib.Core.Option.{Option, some}
 use mathlib.Core.List.{List, [], _∷_, _++_, map}
-use Prim.Native.Nat.{ℕ, zero, suc, _+_, _*_, _^_, _≤_, _<_, max}
+use Prim.Native.Nat.{ℕ, suc, _+_, _*_, _≤_, _<_}
 use native.Mathlib.Omega.{arith}
-use lib.Dec.{T, eqb, ltb, leb}
-use lib.ListN.{length, take, drop}
+use lib.Dec.{T, ltb}
+use lib.ListN.{length}
 use lib.Seq.{length-take-le}
-use borrow.Author.Tests.{ltb-true, ltb-false, leb-true, leb-false, not-true, eqb-true, eqb-false, lt-ltb, le-ltb}
+use borrow.Author.Tests.{ltb-true, leb-true, eqb-true, eqb-false, lt-ltb}
 use Rattle.views.specs.declared.View.{View}
-use Rattle.views.specs.declared.list.Lookup.{Lookup}
-use Rattle.views.specs.declared.list.Lookup.the-variants.{Found, Missing}
 use Rattle.views.specs.declared.refusal.Refusal.{Refusal}
 use Rattle.views.specs.Limits.{maxMembers}
 use Rattle.views.specs.Members.{In, top, pop}
-use Rattle.views.specs.Points.{at, at2}
-use Rattle.views.specs.Sets.{both, has, isEmpty, isBeyond, inCommon, weigh, fits}
-use Rattle.views.specs.Lists.{idOf, findOf, insertOf, unionOf, aboveOf}
-use Rattle.views.proofs.Members.{in-nil, in-cons, in-append, in-left, in-right}
-use Rattle.views.proofs.SetLaws.{both-true, has-common, has-below, has-some}
-use Rattle.views.proofs.ListLaws.{find-in, above-keep, union-left, union-right, insert-keep, insert-there}
-use Rattle.views.proofs.PointLaws.{upd-ind, upd2-ind}
+use Rattle.views.specs.Sets.{has, weigh}
+use Rattle.views.specs.Lists.{idOf, insertOf, aboveOf}
+use Rattle.views.proofs.Members.{in-append}
+use Rattle.views.proofs.SetLaws.{has-common, has-below}
+use Rattle.views.proofs.ListLaws.{above-keep, insert-keep, insert-there}
+use Rattle.views.proofs.PointLaws.{upd-ind}
 use Rattle.membership.proofs.Counting.{Most}
 use Rattle.rules.specs.Data as D
-use Rattle.rules.specs.Data.{Member, MessageOf, EntryOf, entry, Item, item, Held, AtCarrierOf, AtClientOf, BookOf, GroupOf, Step, Event, AnswerOf, ok, event, refusal, Result, refused, accepted, need, withView, withFirst, rank}
-use Rattle.rules.specs.Member.{DoneOf, every, everyOf, all, isAbove, clientIsCarrier, passes, outgoes, queues, hasRoom, joined, joins, PassingOf, passing, ownOr, settledBy, learned, takes, received, delivered, opened, attempted, attempts, noted, registers, sends, moves, hands, tells, safes, collected, collects}
+use Rattle.rules.specs.Data.{Member, MessageOf, EntryOf, entry, BookOf, GroupOf, Event, AnswerOf, ok, event, refusal, Result, accepted, need, withView, withFirst, rank}
+use Rattle.rules.specs.Member.{DoneOf, everyOf, all, clientIsCarrier, passes, outgoes, queues, joined, joins, opened, attempted, attempts, noted, registers, sends, moves, hands, tells, safes, collected, collects}
 use Rattle.rules.specs.Sound.{limitAt}
-use Rattle.rules.specs.Group.{NextOf, booked, own, creates, joinStep, passStep, orderStep, takeFrom, deliverStep}
-use Rattle.rules.specs.Figure1.{At}
+use Rattle.rules.specs.Group.{NextOf, booked, own, creates}
 use Rattle.rules.proofs.Flat as F
 use Rattle.rules.proofs.Flat.{Flat, Move}
-use Rattle.rules.proofs.Flat.Flatten.{flat, msgOf, entOf, bare, map-snoc, put2}
+use Rattle.rules.proofs.Flat.Flatten.{flat}
 use Rattle.rules.proofs.Flat.Changes as C
 use Rattle.rules.proofs.Flat.Changes.{queuedBook}
-use Rattle.rules.proofs.Sound.{Sound, BookSound}
+use Rattle.rules.proofs.Flat.Firm.{true-T, T-true, set-below, set-some, in-map, map-in, sender, only, Own, Firm}
 use Rattle.rules.proofs.TestLaws.{every-at, all-at}
-use Rattle.rules.proofs.Holding.{Holds, gives, given, need-holds, view-holds, first-holds, after-holds, listed-holds, pick-holds}
-
--- ---- tests and facts
-
-pub true-T : {b : Bool} → b ≡ true → T b
-true-T e = rw e tt
-
-pub T-true : (b : Bool) → T b → b ≡ true
-T-true true t = refl
-T-true false t = absurd t
+use Rattle.rules.proofs.Holding.{Holds, gives, need-holds, view-holds, first-holds, after-holds}
 
 if-has : (a b : Bool) → (not a || b) ≡ true → a ≡ true → b ≡ true
 if-has true b e _ = e
 if-has false b e f = let z : _≡_ {A = Bool} false true = f in absurd (subst T (sym z) tt)
 
--- ---- views by identifier
-
-pub in-map : {A B : Type 0} (f : A → B) {x : A} {l : List A} → In x l → In (f x) (map f l)
-in-map f top = top
-in-map f (pop h) = pop (in-map f h)
-
-pub map-in : {A B : Type 0} (f : A → B) {y : B} (l : List A) → In y (map f l) → (x : A) × In x l × (f x ≡ y)
-map-in f [] h = absurd (in-nil h)
-map-in f (x ∷ l) top = (x, top, refl)
-map-in f (x ∷ l) (pop h) = let r = map-in f l h in (r .0, pop (r .1), r .2)
-
 module _ {M : Type 0} where
-  -- ---- whose messages the queues hold
-
-  abbrev pub sender : EntryOf M → Member
-  sender (entry q m) = q
-
-  pub only : {p : Member} (m : MessageOf M) (e : EntryOf M) → In e (entry p m ∷ []) → sender e ≡ p
-  only m e h = elim (in-cons h) [ inl k ↦ ap sender k | inr k ↦ absurd (in-nil k) ]
-
-  pub record Own (s : GroupOf M) : Type 0 where
-    pub outgoing : (p : Member) (e : EntryOf M) → In e (s .books p .outgoing) → sender e ≡ p
-    pub waiting : (p : Member) (g : ℕ) (e : EntryOf M) → In e (s .waiting p g) → sender e ≡ p
-
   -- ---- the outward events of an answer
 
   unfoldable pub shown : AnswerOf M → List (Event M)
@@ -90,28 +54,15 @@ module _ {M : Type 0} where
     Moved s x = Move maxMembers weight (flat s) (flat (x .state)) (shown (x .answer)) × Own (x .state)
 
     -- ---- 1. create
-    pub create-moves : (s : GroupOf M) → Sound s → Own s → (g S : ℕ) → Holds (Moved s) (creates s g S)
-    unfolding creates shown isBeyond
+    pub create-moves : (s : GroupOf M) → Firm s → Own s → (g S : ℕ) → Holds (Moved s) (creates s g S)
+    unfolding creates shown
     create-moves s i o g S =
         need-holds _ _ _ (λ f. need-holds _ _ _ (λ a. need-holds _ _ _ (λ _.
         gives (
-          F.create v (λ w h. ltb-true _ _ (all-at (λ v. ltb (idOf v) g) (s .views) a w h)) (some-one f) (below f),
+          F.create (record { id = record { 0 = g }; set = S }) (λ w h. ltb-true _ _ (all-at (λ v. ltb (idOf v) g) (s .views) a w h))
+              (set-some (s .members) S f) (set-below (s .members) S f (i .members-high)),
           record { outgoing = o .outgoing; waiting = o .waiting },
         ))))
-      where
-        v : View
-        v = record { id = record { 0 = g }; set = S }
-
-        small : fits (s .members) S ≡ true → isBeyond S (s .members) ≡ false
-        small f = not-true (isBeyond S (s .members)) (both-true (not (isEmpty S)) (not (isBeyond S (s .members))) f .1)
-
-        below : fits (s .members) S ≡ true → (p : ℕ) → T (has S p) → p < maxMembers
-        below f p t = omega (arith, has-below S (s .members) p (small f) (T-true (has S p) t), i .members-high)
-
-        some-one : fits (s .members) S ≡ true → (p : ℕ) × T (has S p)
-        some-one f =
-            let r = has-some (s .members) S (leb-false (2 ^ s .members) S (small f)) (not-true (isEmpty S) (both-true (not (isEmpty S)) (not (isBeyond S (s .members))) f .0)) in
-            (r .0, true-T (r .2))
 
     -- ---- a step of the member p alone: its book changes. The first ones need no sound records
     module _ (s : GroupOf M) (o : Own s) (p : Member) where
@@ -202,10 +153,10 @@ module _ {M : Type 0} where
           (F.hands p (idOf v) x r (ap rank e) k) (C.hand-flat s p x r k) refl (o .outgoing p))))
 
       -- ---- on sound records
-      module _ (i : Sound s) (lt : p < s .members) where
+      module _ (i : Firm s) (lt : p < s .members) where
         -- every member of a listed view is below the number of members
         of-view : (v : View) → In v (s .views) → (q : ℕ) → T (has (v .set) q) → q < s .members
-        of-view v h q t = has-below (v .set) (s .members) q (i .fits v h .1) (T-true (has (v .set) q) t)
+        of-view v h q t = has-below (v .set) (s .members) q (i .fits v h) (T-true (has (v .set) q) t)
 
         -- what is asked of every member of a listed view
         asked : (v : View) → In v (s .views) → (f : ℕ → Bool) → everyOf (s .members) v f ≡ true → (q : ℕ) → T (has (v .set) q) → f q ≡ true

@@ -1,29 +1,28 @@
 -- Any step, any list of steps from an accepted start: the flat group makes the same outward events by its moves.
-use mathlib.Core.Path.{_≡_, refl, sym, _∙_, subst, ap, fun-ext}
-use mathlib.Core.Bool.{Bool, true, false, cond, not}
-use mathlib.Core.Option.{Option, none, some}
-use mathlib.Core.List.{List, [], _∷_, _++_, map, append-nil, append-assoc}
-use Prim.Native.Nat.{ℕ, zero, suc, _+_, _^_, _≤_, _<_}
-use native.Mathlib.Omega.{arith}
-use lib.Dec.{T, eqb, ltb, leb}
-use borrow.Author.Tests.{ltb-true, leb-true, leb-false, not-true}
+use mathlib.Core.Path.{_≡_, refl, sym, _∙_, subst, ap}
+use mathlib.Core.Bool.{Bool, true, false, cond}
+use mathlib.Core.Option.{none, some}
+use mathlib.Core.List.{List, [], _∷_, _++_, append-nil, append-assoc}
+use Prim.Native.Nat.{ℕ, suc, _+_, _<_}
+use lib.Dec.{T, ltb, leb}
+use borrow.Author.Tests.{ltb-true, leb-true}
 use Rattle.views.specs.declared.View.{View}
 use Rattle.views.specs.declared.refusal.Refusal.{Refusal}
 use Rattle.views.specs.Limits.{maxMembers, maxViews}
-use Rattle.views.specs.Members.{In}
-use Rattle.views.specs.Sets.{both, has, isEmpty, isBeyond, fits}
+use Rattle.views.specs.Sets.{both, has, fits}
 use Rattle.views.specs.Lists.{idOf}
 use Rattle.views.proofs.Members.{in-nil}
-use Rattle.views.proofs.SetLaws.{both-true, has-below, has-some}
-use Rattle.rules.specs.Data.{Member, Entry, Group, GroupOf, Step, Event, Answer, ok, event, refusal, Result, refused, accepted, need, rank}
+use Rattle.views.proofs.SetLaws.{both-true}
+use Rattle.rules.specs.Data.{Member, Group, GroupOf, Step, Event, Answer, ok, event, refusal, Result, refused, accepted, need, rank}
 use Rattle.rules.specs.Sound.{sound}
 use Rattle.rules.specs.Group.{Next, stepOf, settles, step, start, started, firstView, fresh}
 use Rattle.rules.specs.Runs.{lastOf, answersOf, eventsOf}
-use Rattle.rules.proofs.Flat.{Flat, Move, Steps, flat0}
+use Rattle.rules.proofs.Flat.{Flat, Steps, flat0}
 use Rattle.rules.proofs.Flat.Flatten.{flat}
-use Rattle.rules.proofs.Sound.{Sound, sound-says}
-use Rattle.rules.proofs.Holding.{Holds, refuses, gives, given, need-holds, view-holds, first-holds, after-holds, listed-holds, pick-holds}
-use Rattle.rules.proofs.Flat.Moves.{true-T, T-true, sender, Own, shown, Moved, create-moves, owned, attempt-well, register-well, send-well, tell-well, hand-well, safe-well, collect-well}
+use Rattle.rules.proofs.Sound.{sound-says}
+use Rattle.rules.proofs.Holding.{Holds, refuses, gives, given, need-holds, pick-holds}
+use Rattle.rules.proofs.Flat.Firm.{Firm, firm, set-below, set-some, Own}
+use Rattle.rules.proofs.Flat.Moves.{shown, Moved, create-moves, owned, attempt-well, register-well, send-well, tell-well, hand-well, safe-well, collect-well}
 use Rattle.rules.proofs.Flat.JointMoves.{join-moves, pass-moves, order-moves, deliver-moves}
 
 events-shown : (a : Answer) (l : List Answer) → eventsOf (a ∷ l) ≡ shown a ++ eventsOf l
@@ -34,7 +33,7 @@ events-shown (refusal r) l = refl
 
 module _ (weight : Member → ℕ) where
   -- ---- one step
-  step-moves : (s : Group) → Sound s → Own s → (c : Step) → Holds (Moved weight s) (stepOf weight s c)
+  step-moves : (s : Group) → Firm s → Own s → (c : Step) → Holds (Moved weight s) (stepOf weight s c)
   unfolding stepOf
   step-moves s i o c =
       let p = c .first in
@@ -90,7 +89,7 @@ module _ (weight : Member → ℕ) where
     after-step : (s : Group) (l : List (Event ℕ)) → Own s → Steps maxMembers weight v (flat s) l → (c : Step)
         → Steps maxMembers weight v (flat (step weight s c .state)) (l ++ shown (step weight s c .answer)) × Own (step weight s c .state)
     unfolding step
-    after-step s l o st c = after-result s l o st _ (need-holds (sound s) _ _ (λ h. step-moves s (sound-says s h) o c))
+    after-step s l o st c = after-result s l o st _ (need-holds (sound s) _ _ (λ h. step-moves s (firm s (sound-says s h)) o c))
 
     after-steps : (s : Group) (l : List (Event ℕ)) → Own s → Steps maxMembers weight v (flat s) l → (k : List Step)
         → Steps maxMembers weight v (flat (lastOf weight s k)) (l ++ eventsOf (answersOf weight s k))
@@ -143,17 +142,14 @@ pub record Began {M : Type 0} (n S room : ℕ) (s : GroupOf M) : Type 0 where
   pub some-one : (p : ℕ) × T (has S p)
 
 module _ (n S room : ℕ) where
-  unfit : fits n S ≡ true → (isEmpty S ≡ false) × (isBeyond S n ≡ false)
-  unfit f = let h = both-true (not (isEmpty S)) (not (isBeyond S n)) f in (not-true (isEmpty S) (h .0), not-true (isBeyond S n) (h .1))
-
   start-began : {M : Type 0} → Holds (Began {M = M} n S room) (start n S room)
-  unfolding start isBeyond
+  unfolding start
   start-began =
       need-holds (both (leb 1 n) (leb n maxMembers)) _ _ (λ m. need-holds (fits n S) _ _ (λ f. need-holds (both (leb 1 room) (leb room maxViews)) _ _ (λ _.
       gives (record {
         is = refl;
-        below = λ p t. omega (arith, has-below S n p (unfit f .1) (T-true (has S p) t), leb-true n maxMembers (both-true (leb 1 n) (leb n maxMembers) m .1));
-        some-one = let r = has-some n S (leb-false (2 ^ n) S (unfit f .1)) (unfit f .0) in (r .0, true-T (r .2));
+        below = set-below n S f (leb-true n maxMembers (both-true (leb 1 n) (leb n maxMembers) m .1));
+        some-one = set-some n S f;
       }))))
 
   pub began : {M : Type 0} (s : GroupOf M) → start n S room ≡ accepted s → Began n S room s

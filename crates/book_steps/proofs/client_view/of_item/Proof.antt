@@ -20,6 +20,9 @@ returns c = rw (le-leb _ _ (c .before .if1 .taken)) (c .no-event .ensures)
 add-i : tie.Need-add-i
 add-i c = search needs
 
+cast-i : tie.Need-cast-i
+cast-i c = search needs
+
 mul-i : tie.Need-mul-i
 mul-i c = search needs
 
@@ -40,8 +43,8 @@ get-number-requires c κs = search needs
 
 returns-2 : tie.Need-returns-2
 returns-2 c =
-    let a = c .before .before .before .before .before .before .before .args in
-    item-found (a .b .now) (a .at) (a .k) (a .kind) (a .h) (c .before .get-number .result) (omega (arith, c .before .before .before .before .if1 .left)) (c .before .get-number .ensures .0)
+    let a = c .before .before .before .before .before .before .before .before .before .args in
+    item-found (a .b .now) (a .at) (a .k .0) (a .kind) (a .h) (c .before .get-number .result) (omega (arith, c .before .before .before .before .before .if1 .left)) (c .before .get-number .ensures .0)
 
 pub of-item-spec : {M : Type 1} → statement M
 of-item-spec =
@@ -51,6 +54,7 @@ of-item-spec =
     no-event-requires
     returns
     add-i
+    cast-i
     mul-i
     add-i-2
     shared-slice-read-t13
