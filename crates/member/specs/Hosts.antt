@@ -71,7 +71,7 @@ called w p r new = record {
 abbrev pub shows : Result Done → List (Event ℕ)
 shows r = shownBy (replyOf r .verdict) (replyOf r .event)
 
--- a message is given out in the view that it is tagged with
+-- what pass wrote into its buffer is given out in the view that it is tagged with
 abbrev pub passed : World → Member → Result Passing → World
 passed w p (refused r) = w
 passed w p (accepted x) = let g = idOf (x .to) in record {
