@@ -1,2 +1,3 @@
 pub mod Kinds
 pub mod Replies
+pub mod Shown

@@ -11,7 +11,7 @@ use Rattle.views.specs.Limits.{maxMembers, maxViews}
 use Rattle.views.specs.Sizes.{viewSize}
 use Rattle.views.specs.Sets.{one, fits}
 use Rattle.views.proofs.Members.{top, pop}
-use Rattle.rules.specs.Data.{Group, Step, Event as Outward, item, attempt, register, send, hand, safe, Answer, ok, event, refusal, Result, refused, accepted, need}
+use Rattle.rules.specs.Data.{Group, Step, Event as Outward, Answer, ok, event, refusal, Result, refused, accepted, need}
 use Rattle.rules.specs.Sound.{within, sound}
 use Rattle.rules.specs.Group.{Next, start, started, settles, stepOf, step}
 use Rattle.rules.specs.Runs.{lastOf, answersOf, eventsOf}
@@ -19,13 +19,13 @@ use Rattle.rules.proofs.TestLaws.{conditions-say, within-says}
 use Rattle.rules.proofs.Demand3.{demand3}
 use Rattle.rules.proofs.NeverWedged as W
 use Rattle.rules.proofs.Holding.{Holds, gives, need-holds}
-use Rattle.events.specs.Replies.{outwardOf, eventOf}
+use Rattle.events.proofs.ShownLaws.{answer-shown}
 use Rattle.group_bytes.specs.Places.{roomOf, booksSize, queuesSize}
 use Rattle.group_bytes.specs.Groups.{Ranges, rangesSound}
 use Rattle.group_bytes.specs.Answers.{nextReply}
 use Rattle.group_bytes.specs.Starts.{startRanges}
 use Rattle.group_bytes.specs.Steps.{rangesLong, startResult, stepResult, stepRanges, stepReply, lastRanges, repliesOf}
-use Rattle.group_bytes.specs.Promises.{shown, shownBy, eventsShown, AllGiven, Demand3, NeverWedged}
+use Rattle.group_bytes.specs.Promises.{shownBy, eventsShown, AllGiven, Demand3, NeverWedged}
 use Rattle.group_bytes.proofs.RangesLaws.{MeansGroup, ranges-from}
 use Rattle.group_bytes.proofs.StartGroup.{Startable, start-group}
 use Rattle.book_steps.proofs.Means.{gave}
@@ -33,26 +33,18 @@ use Rattle.group_bytes.proofs.StepGroup.{step-means}
 
 -- ---- the events
 
-outward-shown : (e : Outward ℕ) → shown (outwardOf e) ≡ e ∷ []
-unfolding shown
-outward-shown (attempt p v) = refl
-outward-shown (register p g) = refl
-outward-shown (send p g x) = refl
-outward-shown (hand p g (item q x)) = refl
-outward-shown (safe p g (item q x)) = refl
-
-answer-shown : (a : Answer) (l : List Answer) (k : List (Outward ℕ)) → k ≡ eventsOf l → shown (eventOf a) ++ k ≡ eventsOf (a ∷ l)
-unfolding shown eventsOf
-answer-shown ok l k e = e
-answer-shown (event x) l k e = ap (λ (z : List (Outward ℕ)). z ++ k) (outward-shown x) ∙ ap (λ (z : List (Outward ℕ)). x ∷ z) e
-answer-shown (refusal f) l k e = e
+answer-events : (a : Answer) (l : List Answer) (k : List (Outward ℕ)) → k ≡ eventsOf l → eventsOf (a ∷ []) ++ k ≡ eventsOf (a ∷ l)
+unfolding eventsOf
+answer-events ok l k e = e
+answer-events (event x) l k e = ap (λ (z : List (Outward ℕ)). x ∷ z) e
+answer-events (refusal f) l k e = e
 
 -- of a result
 result-shown : (x : Result Next) (s : Group) (l : List Answer) (k : List (Outward ℕ)) → k ≡ eventsOf l
     → shownBy (nextReply x .verdict) (nextReply x .event) ++ k ≡ eventsOf (settles s x .answer ∷ l)
 unfolding eventsOf
 result-shown (refused f) s l k e = e
-result-shown (accepted y) s l k e = answer-shown (y .answer) l k e
+result-shown (accepted y) s l k e = ap (λ (z : List (Outward ℕ)). z ++ k) (answer-shown (y .answer)) ∙ answer-events (y .answer) l k e
 
 -- of a step
 step-events : (r : Ranges) (s : Group) → MeansGroup r s → (c : Step) (l : List Answer) (k : List (Outward ℕ)) → k ≡ eventsOf l

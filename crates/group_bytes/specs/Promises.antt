@@ -1,54 +1,25 @@
 -- Demands 2 and 3 of what the code does to the lent ranges: a start and each step are the rules', on ranges of any
 -- content; and for every start that was accepted and every list of steps the events are promised.
 use mathlib.Core.Path.{_≡_}
-use mathlib.Core.Bool.{true, false, cond}
-use mathlib.Core.List.{List, [], _∷_, _++_}
+use mathlib.Core.Bool.{true, false}
+use mathlib.Core.List.{List}
 use Prim.Native.Nat.{ℕ, _^_, _<_}
-use lib.Dec.{eqb}
 use Rattle.views.specs.declared.refusal.Refusal.{Refusal}
 use Rattle.views.specs.declared.refusal.Refusal.the-variants.{RecordsUnsound}
-use Rattle.views.specs.declared.refusal.Verdict.{Verdict}
-use Rattle.views.specs.declared.refusal.Verdict.the-variants.{Accepted, Refused}
-use Rattle.events.specs.Kinds.{attemptKind, registerKind, sendKind, handKind, safeKind}
+use Rattle.views.specs.declared.refusal.Verdict.the-variants.{Refused}
 use Rattle.views.specs.Members.{In}
 use Rattle.views.specs.Sets.{one}
-use Rattle.views.specs.Lists.{idOf}
 use Rattle.wire.specs.Widths.{AreBytes}
-use Rattle.rules.specs.Data.{item, Group, Step, Event as Outward, attempt, register, send, hand, safe, refusal}
-use Rattle.rules.specs.Data.{refused, accepted}
+use Rattle.rules.specs.Data.{Group, Step, refusal, refused, accepted}
 use Rattle.rules.specs.Group.{start, step}
 use Rattle.rules.specs.Promise.{Promised}
-use Rattle.events.specs.declared.Event.{Event}
-use Rattle.events.specs.declared.Reply.{Reply}
+pub use Rattle.events.specs.Shown.{shownBy}
+unfoldable pub use Rattle.events.specs.Shown.{shown, eventsShown}
 use Rattle.group_bytes.specs.Places.{roomOf}
 use Rattle.group_bytes.specs.Groups.{Ranges, groupIn, rangesFit, rangesSound}
 use Rattle.group_bytes.specs.Answers.{answerReply}
 use Rattle.group_bytes.specs.Starts.{startRanges}
 use Rattle.group_bytes.specs.Steps.{rangesLong, startResult, stepRanges, stepReply, lastRanges, repliesOf}
-
--- the outward event that a reply shows, if it shows one: attempt P I S, register P I, send P I V, hand P I Q V, safe P
--- I Q V
-unfoldable pub shown : Event → List (Outward ℕ)
-shown e =
-    let k = e .kind in
-    let p = e .member .0 in
-    let g = idOf (e .view) in
-    let x = item (e .sender .0) (e .entry) in
-    cond (eqb k attemptKind) (attempt p (e .view) ∷ [])
-    (cond (eqb k registerKind) (register p g ∷ [])
-    (cond (eqb k sendKind) (send p g (e .entry) ∷ [])
-    (cond (eqb k handKind) (hand p g x ∷ [])
-    (cond (eqb k safeKind) (safe p g x ∷ []) []))))
-
--- a refusal or ok shows nothing
-abbrev pub shownBy : Verdict → Event → List (Outward ℕ)
-shownBy Accepted e = shown e
-shownBy (Refused r) e = []
-
--- first to last
-unfoldable pub eventsShown : List Reply → List (Outward ℕ)
-eventsShown [] = []
-eventsShown (x ∷ l) = shownBy (x .verdict) (x .event) ++ eventsShown l
 
 -- operands that the step can be given: the first in four bytes, the second in eight; the kind is any number
 pub record Given (c : Step) : Type 0 where

@@ -9,3 +9,4 @@ pub mod ReadLaws
 pub mod SetWalks
 pub mod PassReads
 pub mod Demand2
+pub mod Hosts

@@ -2,3 +2,4 @@ pub mod Calls
 pub mod Parts
 pub mod Drives
 pub mod Promises
+pub mod Hosts
