@@ -3,7 +3,7 @@
 
 # The gate, then the library from outside: everything that has to hold.
 test: gate
-	$(MAKE) headers outside offices
+	$(MAKE) headers outside offices duties
 
 # Layout, the list of refusals, the header's numbers, what the documents name, proofs, must-fail edits, programs.
 gate:
@@ -48,6 +48,14 @@ target/offices: $(wildcard examples/offices/*.?pp) $(HEADERS) $(LIBRARY)
 offices: target/offices
 	target/offices > target/offices.txt; status=$$?; cat target/offices.txt; exit $$status
 	diff examples/offices/expected.txt target/offices.txt
+
+# What comes of it where a host breaks a duty of docs/HOST.md: its stories beside what they should tell.
+.PHONY: duties
+target/duties: tests/duties/duties.cpp include/dvs.h $(LIBRARY)
+	$(CXX) $(HOSTFLAGS) -o $@ $< $(LIBRARY)
+duties: target/duties
+	target/duties > target/duties.txt; status=$$?; cat target/duties.txt; exit $$status
+	diff tests/duties/expected.txt target/duties.txt
 
 # ---- tests from outside
 

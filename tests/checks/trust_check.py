@@ -54,11 +54,12 @@ def is_operator(where, token):
 
 
 def is_named(d):
-    """Whether a theorem's type is a definition of specs, alone or put to operands."""
+    """Whether a theorem's type is a definition of specs, alone or put to operands, for any type M perhaps."""
     depth, outside = 0, []
     for token in d.type:
         depth += (token in '({') - (token in ')}')
         outside += [token] if depth == 0 and token not in ')}' else []
+    outside = outside[1:] if d.type[:1] == ['{'] and outside[:1] == ['→'] else outside
     head = d.file.meaning(outside[0]) if outside else None
     plain = all(is_name(t) and not is_operator(d.file, t) or t.isdecimal() for t in outside)
     return not d.around and plain and isinstance(head, Definition) and 'specs' in head.file.path.parts

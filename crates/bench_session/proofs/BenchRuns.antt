@@ -16,7 +16,8 @@ use Rattle.events.specs.Replies.{noEvent, replied, verdictOf}
 use Rattle.group_bytes.specs.Groups.{Ranges}
 use Rattle.group_bytes.specs.Starts.{startRanges}
 use Rattle.group_bytes.specs.Steps.{startResult, stepRanges, stepReply, repliesOf}
-use Rattle.group_bytes.specs.Promises.{Given, AllGiven, shownBy, eventsShown}
+use Rattle.events.specs.Shown.{shownBy, eventsShown}
+use Rattle.group_bytes.specs.Promises.{Given, AllGiven}
 use Rattle.group_bytes.proofs.GroupRuns.{demand3-ranges}
 use Rattle.group.specs.StepCalls.{asked}
 use Rattle.bench_lines.specs.declared.lines.Line.{Line}

@@ -12,7 +12,7 @@ use Rattle.events.specs.declared.Reply.{Reply}
 use Rattle.events.specs.Replies.{verdictOf}
 use Rattle.group_bytes.specs.Groups.{Ranges}
 use Rattle.group_bytes.specs.Steps.{startResult}
-use Rattle.group_bytes.specs.Promises.{eventsShown}
+use Rattle.events.specs.Shown.{eventsShown}
 use Rattle.bench_lines.specs.declared.lines.Line.{Line}
 use Rattle.bench_lines.specs.declared.lines.Line.the-variants.{Unreadable, Group, Step}
 use Rattle.bench_lines.specs.Lines.{lineOf}

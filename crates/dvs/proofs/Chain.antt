@@ -34,7 +34,8 @@ use Rattle.events.specs.Replies.{verdictOf}
 use Rattle.group_bytes.specs.Groups.{Ranges}
 use Rattle.group_bytes.specs.Starts.{startRanges}
 use Rattle.group_bytes.specs.Steps.{startResult, stepRanges, stepReply, repliesOf}
-use Rattle.group_bytes.specs.Promises.{shownBy, eventsShown, Given, AllGiven}
+use Rattle.events.specs.Shown.{shownBy, eventsShown}
+use Rattle.group_bytes.specs.Promises.{Given, AllGiven}
 use Rattle.c_answers.specs.Answers.{eventSize}
 use Rattle.c_answers.proofs.AnswerLaws.{sized-met, sized-unmet}
 use Rattle.dvs.specs.GroupCalls.{Begins, Steps, stepping}

@@ -13,7 +13,8 @@ use Rattle.rules.specs.Data.{Step, Event as Outward}
 use Rattle.rules.specs.Promise.{Promised}
 use Rattle.group_bytes.specs.Groups.{Ranges}
 use Rattle.group_bytes.specs.Steps.{stepReply}
-use Rattle.group_bytes.specs.Promises.{shownBy, Given}
+use Rattle.events.specs.Shown.{shownBy}
+use Rattle.group_bytes.specs.Promises.{Given}
 use Rattle.c_answers.specs.Answers.{lengthSize, lengthBytes}
 use Rattle.dvs.specs.MessageCalls.{Reads, Writes}
 use Rattle.dvs.specs.GroupCalls.{Begins, Steps, stepping}

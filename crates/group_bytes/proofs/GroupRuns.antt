@@ -25,7 +25,8 @@ use Rattle.group_bytes.specs.Groups.{Ranges, rangesSound}
 use Rattle.group_bytes.specs.Answers.{nextReply}
 use Rattle.group_bytes.specs.Starts.{startRanges}
 use Rattle.group_bytes.specs.Steps.{rangesLong, startResult, stepResult, stepRanges, stepReply, lastRanges, repliesOf}
-use Rattle.group_bytes.specs.Promises.{shownBy, eventsShown, AllGiven, Demand3, NeverWedged}
+use Rattle.events.specs.Shown.{shownBy, eventsShown}
+use Rattle.group_bytes.specs.Promises.{AllGiven, Demand3, NeverWedged}
 use Rattle.group_bytes.proofs.RangesLaws.{MeansGroup, ranges-from}
 use Rattle.group_bytes.proofs.StartGroup.{Startable, start-group}
 use Rattle.book_steps.proofs.Means.{gave}

@@ -13,8 +13,7 @@ use Rattle.wire.specs.Widths.{AreBytes}
 use Rattle.rules.specs.Data.{Group, Step, refusal, refused, accepted}
 use Rattle.rules.specs.Group.{start, step}
 use Rattle.rules.specs.Promise.{Promised}
-pub use Rattle.events.specs.Shown.{shownBy}
-unfoldable pub use Rattle.events.specs.Shown.{shown, eventsShown}
+use Rattle.events.specs.Shown.{eventsShown}
 use Rattle.group_bytes.specs.Places.{roomOf}
 use Rattle.group_bytes.specs.Groups.{Ranges, groupIn, rangesFit, rangesSound}
 use Rattle.group_bytes.specs.Answers.{answerReply}

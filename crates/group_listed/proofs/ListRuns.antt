@@ -14,7 +14,8 @@ use Rattle.events.specs.declared.Reply.{Reply}
 use Rattle.group_bytes.specs.Groups.{Ranges, rangesSound}
 use Rattle.group_bytes.specs.Starts.{startRanges}
 use Rattle.group_bytes.specs.Steps.{stepRanges, lastRanges, repliesOf}
-use Rattle.group_bytes.specs.Promises.{eventsShown, AllGiven}
+use Rattle.events.specs.Shown.{eventsShown}
+use Rattle.group_bytes.specs.Promises.{AllGiven}
 use Rattle.group_bytes.proofs.GroupRuns.{demand3-ranges, never-wedged-ranges}
 use Rattle.group_listed.specs.Calls.{rangesOf, Began}
 use Rattle.group_listed.specs.Runs.{WentOn, done, then, Demand2, Demand3, NeverWedged}

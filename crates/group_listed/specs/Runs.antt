@@ -16,7 +16,8 @@ use Rattle.events.specs.declared.Reply.{Reply}
 use Rattle.group_bytes.specs.Groups.{rangesSound}
 use Rattle.group_bytes.specs.Starts.{startRanges}
 use Rattle.group_bytes.specs.Steps.{stepRanges}
-use Rattle.group_bytes.specs.Promises.{eventsShown, AllGiven}
+use Rattle.events.specs.Shown.{eventsShown}
+use Rattle.group_bytes.specs.Promises.{AllGiven}
 use Rattle.group_listed.specs.Calls.{rangesOf, Began, Went}
 
 -- the steps gave these replies, each put to the list, the books and the queues that the one before left; those left at

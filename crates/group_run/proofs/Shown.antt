@@ -20,7 +20,7 @@ use Rattle.wire.specs.Reader.{viewIn}
 use Rattle.wire.proofs.SeamLaws.{length-viewBytes}
 use Rattle.events.specs.declared.Event.{Event}
 use Rattle.events.specs.declared.Reply.{Reply}
-use Rattle.group_bytes.specs.Promises.{shown, shownBy, eventsShown}
+use Rattle.events.specs.Shown.{shown, shownBy, eventsShown}
 use Rattle.c_answers.specs.Answers.{eventBytes}
 use Rattle.group_run.specs.Records.{answerSize, answerBytes, answersBytes, eventAt, shownAt, eventsFrom, eventsIn}
 use Rattle.group_run.specs.Parts.{Fits, AllFit}

@@ -12,7 +12,7 @@ use Rattle.rules.specs.Data.{Step, Event as Outward}
 use Rattle.events.specs.declared.Event.{Event}
 use Rattle.events.specs.declared.Reply.{Reply}
 use Rattle.events.specs.Replies.{happened}
-use Rattle.group_bytes.specs.Promises.{shown}
+use Rattle.events.specs.Shown.{shown}
 use Rattle.c_answers.specs.Answers.{eventSize, eventBytes, eventKind, eventMember, eventView, eventSender, eventEntry}
 
 -- ---- steps: kind 1 byte, first operand as an identifier 4, second operand as an entry number 8
