@@ -9,7 +9,7 @@ test: gate
 gate:
 	.ci/run
 
-# The bench, on document 01's whole case.
+# The bench, on the specification's whole case.
 run:
 	rt check bench
 	target/bin/bench < tests/scripts/whole-case.txt

@@ -12,7 +12,7 @@
 
 namespace benchmark {
 
-// Document 01's twelve steps by number; kind 0 is a start.
+// The specification's twelve steps by number; kind 0 is a start.
 struct Step { uint32_t kind, first; uint64_t second; };
 
 // A group as structs. Its type is hidden: there are two, compiled from one header.

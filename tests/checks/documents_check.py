@@ -48,6 +48,20 @@ for document in DOCUMENTS:
             faults.append('%s names %s, which is not there' % (document.relative_to(ROOT), name))
 
 
+# the sections and the words that docs/TRUST.md says to read beside a definition
+plain = re.sub(r'[*`\\]', '', ''.join((ROOT / 'docs' / name).read_text() for name in ('SPEC.md', 'LAYOUT.md', 'HOST.md')))
+sections = set(re.findall(r'^#+ (.*)$', plain, re.M))
+for row in TRUST.read_text().split('\n'):
+    cells = row.split(' | ')
+    if row.startswith('| `crates/') and len(cells) == 4:
+        for title in re.findall(r"(?:^|(?<=[ (]))'([A-Z0-9](?:[^']|'s)*)'", cells[2]):
+            if title not in sections:
+                faults.append("docs/TRUST.md names the section '%s', which is nowhere" % title)
+        for words in re.findall(r'"([^"]+?)(?: …)?"', cells[2]):
+            if words.replace('`', '') not in plain:
+                faults.append('docs/TRUST.md quotes "%s", which is nowhere' % words)
+
+
 def believed():
     """The files of definitions that docs/TRUST.md names, in a table or in its text."""
     named = {ROOT / name for name in re.findall(r'`(crates/\w+/specs/[\w/]+\.antt)`', TRUST.read_text())}

@@ -1,4 +1,4 @@
-// Document 01's limits and refusals, the places of docs/LAYOUT.md, and big-endian numbers. Plain C++, nothing of the
+// The specification's limits and refusals, the places of docs/LAYOUT.md, and big-endian numbers. Plain C++, nothing of the
 // library: tests/outside is a second implementation to compare with.
 #pragma once
 
@@ -30,7 +30,7 @@ enum Place : size_t {
 constexpr size_t kSlotSender = 0, kSlotKind = 1, kSlotNumber = 2, kSlotCount = 10, kSlotViews = 11;
 constexpr size_t kRecordKind = 0, kRecordView = 1, kRecordNumber = 5, kRecordCount = 13, kRecordViews = 14;
 
-// The refusals, numbered as in document 01's table.
+// The refusals, numbered as in the specification's table.
 enum Refusal : uint32_t {
   kAccepted = 0,
 #include "../reference/refusals.inc"

@@ -1,4 +1,4 @@
-// The library from outside: every exported function beside a plain implementation written from document 01.
+// The library from outside: every exported function beside a plain implementation written from the specification.
 //
 //   outside_test short SEED          lengths, limits and some thousand random cases; every answer must have been seen
 //   outside_test fuzz SECONDS SEED   random cases until the time is over

@@ -1,4 +1,4 @@
-// Document 01's own cases with its own answers: the whole case of the bench, the views that pass and fail, and the
+// The specification's own cases with its own answers: the whole case of the bench, the views that pass and fail, and the
 // messages. Here no answer comes from the plain implementation, which is called beside the library as ever.
 #pragma once
 
@@ -13,7 +13,7 @@ class Papers {
 
   void expect(const char* what, uint32_t answer, uint32_t expected) {
     if (answer == expected) return;
-    printf("DIFFERENCE with document 01, %s: %u, expected %u\n", what, answer, expected);
+    printf("DIFFERENCE with the specification, %s: %u, expected %u\n", what, answer, expected);
     right_ = false;
   }
 
@@ -103,7 +103,7 @@ class Papers {
  public:
   explicit Papers(Calls& c) : c_(c) {}
 
-  // False if an answer is not document 01's.
+  // False if an answer is not the specification's.
   bool run() {
     whole_case(), views(), messages();
     return right_;

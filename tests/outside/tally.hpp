@@ -37,7 +37,7 @@ struct Promise {
   const char* refusals;  // in the order in which they are checked
 };
 
-// After include/dvs.h. A group's step of each kind has its row of document 01's table behind 4 and 6.
+// After include/dvs.h. A group's step of each kind has its row of the specification's table behind 4 and 6.
 constexpr Promise kPromises[kFunctions] = {
     {"dvs_start", true, "4 1 2 6"},
     {"dvs_join", true, "4 6 7 11 12"},

@@ -1,5 +1,5 @@
 // Messages: the bytes that go over the line, the record that a reader fills and a writer takes, and the refusals of both
-// in document 01's order.
+// in the specification's order.
 #pragma once
 
 #include "layout.hpp"

@@ -1,4 +1,4 @@
-// The bench over the plain C++ group, to compare answers and speed with: document 01's lines in, its replies out.
+// The bench over the plain C++ group, to compare answers and speed with: the specification's lines in, its replies out.
 #include <cerrno>
 #include <unistd.h>
 
@@ -15,7 +15,7 @@ constexpr uint64_t kByte = 0xff, kWord = 0xffffffff, kLong = UINT64_MAX;
 
 struct Command { const char* name; uint8_t kind, operands; uint64_t widest[2]; };
 
-// Kind 0 is start. Operands are in document 01's order, each with the greatest number of its width.
+// Kind 0 is start. Operands are in the specification's order, each with the greatest number of its width.
 constexpr Command kCommands[] = {
     {"group", 0, 2, {kByte, kByte}},  {"create", 1, 2, {kWord, kByte}}, {"join", 2, 2, {kByte, kWord}},
     {"pass", 3, 1, {kByte, 0}},       {"order", 4, 2, {kByte, kWord}},  {"deliver", 5, 1, {kByte, 0}},

@@ -1,4 +1,4 @@
-// The group once more, as plain C++ written from document 01 alone: fixed places, no heap, no exceptions.
+// The group once more, as plain C++ written from the specification alone: fixed places, no heap, no exceptions.
 // With -DNO_CHECK the steps leave out refusal 4, to see what it costs.
 #pragma once
 
@@ -8,7 +8,7 @@
 
 namespace reference {
 
-// Document 01's limits.
+// The specification's limits.
 constexpr unsigned kMembers = 8, kViews = 32, kOpen = kViews - 1;
 constexpr unsigned kOutgoing = 16, kWaiting = 8, kOrdered = 128;
 
@@ -18,7 +18,7 @@ constexpr bool kCheck = false;
 constexpr bool kCheck = true;
 #endif
 
-// The refusals, numbered as in document 01's table.
+// The refusals, numbered as in the specification's table.
 enum Refusal : uint8_t {
   kAccepted = 0,
 #include "refusals.inc"

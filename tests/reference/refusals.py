@@ -1,4 +1,4 @@
-"""Document 01's refusals by their numbers, and how a plain implementation gives one."""
+"""The specification's refusals by their numbers, and how a plain implementation gives one."""
 
 MEMBERS_OUT_OF_RANGE = 1
 FIRST_SET_UNFIT = 2

@@ -41,7 +41,7 @@ void sets() {
   static_assert(set.with(Member{40}) == set && (set | Set{2}) == Set{0x87});
 }
 
-// Document 01's two messages, the longest one, and the reader's refusals for a byte less and a byte more.
+// The specification's two messages, the longest one, and the reader's refusals for a byte less and a byte more.
 void messages() {
   const std::uint8_t registered[] = {3, 0, 0, 0, 0, 0, 0};
   const auto read = dvs::read(registered);
@@ -78,7 +78,7 @@ void messages() {
   EXPECT(dvs::write(dvs::Message{dvs::MessageKind::told, Identifier{5}, 129, {}}).refusal() == Refusal::told_out_of_range);
 }
 
-// Document 01's case of {0,1,2} and {2,3,4}, by books.
+// The specification's case of {0,1,2} and {2,3,4}, by books.
 void books() {
   dvs::Book unsound;
   EXPECT(unsound.collect().refusal() == Refusal::records_unsound);
@@ -152,7 +152,7 @@ void entries() {
   EXPECT(here.collect().refusal() == Refusal::not_above_settled);
 }
 
-// Document 01's whole case, with safe added, by a group on lent memory.
+// The specification's whole case, with safe added, by a group on lent memory.
 void groups() {
   static dvs::GroupMemory<2> memory;
   dvs::Group group(memory);
