@@ -156,6 +156,18 @@ extern "C" {
  *
  * The book has DVS_BOOK_SIZE bytes. After dvs_start it is changed by these calls alone; a book of any other bytes is answered too, by 4 where it is no
  * sound book. The refusals stand in the order in which they are checked; 4 and then 6 come before them in every call but dvs_start.
+ *
+ * What a host owes is in docs/HOST.md, with what comes of it otherwise. Of the carrier and the hosts this is asked, and what is proved of books over a
+ * host's own carrier rests on it:
+ *
+ * 1. No two views share an identifier, and every view's set has members, all of them among the n.
+ * 2. In a view every member takes a prefix of one order of messages.
+ * 3. In that order stand, of each sender, the first messages that it gave out in that view, in that order, with none left out between: a lost message
+ *    stops its sender in this view.
+ * 4. A member's book never goes back, but for the outgoing list of a member that joins next.
+ *
+ * The start is the same in every office, and no two offices have one number. Messages are believed: their bytes and their sender must come from the
+ * office named. Being in a primary view is no licence: an entry is final when it is reported safe; what was only handed out may have to be withdrawn.
  */
 
 /* The book of member `own` in a group of `members`, with the first view, identifier 0, of `first_set`. 4, 1, 2, 6. */
@@ -168,8 +180,8 @@ uint32_t dvs_join(uint8_t *book, size_t book_size, uint32_t view, uint32_t set);
  * what lies behind the message in the buffer stays. 13, 14, 39. */
 uint32_t dvs_pass(uint8_t *book, size_t book_size, uint8_t *buffer, size_t buffer_size, uint8_t *length, size_t length_size);
 
-/* The next message of the carrier view's order, from `sender`, is taken. To give every member of a view each message once and in one order is the
- * carrier's duty: a message given twice is taken twice. A view has 128 messages of all kinds. 13, 32 to 38, 7, 41, 42, 16, 43. */
+/* The next message of the carrier view's order, from `sender`, is taken. What the carrier gives is
+ * taken as it comes: a message given twice is taken twice. A view has 128 messages of all kinds. 13, 32 to 38, 7, 41, 42, 16, 43. */
 uint32_t dvs_deliver(uint8_t *book, size_t book_size, const uint8_t *bytes, size_t bytes_size, uint32_t sender);
 
 /* The carrier view is attempted: it becomes the client view. 13, 19, 20, 21, 43. */

@@ -62,6 +62,14 @@ for row in TRUST.read_text().split('\n'):
                 faults.append('docs/TRUST.md quotes "%s", which is nowhere' % words)
 
 
+# what is asked of a carrier, in the same words wherever it is said
+asked = re.search(r'-- 1\. .*?\n--\n', (ROOT / 'crates' / 'rules' / 'specs' / 'Hosts.antt').read_text(), re.S).group(0)
+properties = [' '.join(words.replace('--', ' ').split()) for words in re.split(r'-- \d\. ', asked)[1:]]
+for name in ('docs/SPEC.md', 'docs/HOST.md', 'include/dvs.h'):
+    said = ' '.join(re.sub(r'^ \*', ' ', (ROOT / name).read_text(), flags=re.M).split())
+    faults.extend('%s does not say of a carrier: %s' % (name, words) for words in properties if words not in said)
+
+
 def believed():
     """The files of definitions that docs/TRUST.md names, in a table or in its text."""
     named = {ROOT / name for name in re.findall(r'`(crates/\w+/specs/[\w/]+\.antt)`', TRUST.read_text())}
