@@ -3,34 +3,14 @@
 
 It compares every constant, length, place and refusal number of the header, and the name and parameter list of every exported function, with
 crates/*/src. It prints each difference and exits with 1 where there is one."""
-import pathlib
 import re
 import sys
 
-ROOT = pathlib.Path(__file__).resolve().parents[2]
+from sources import ROOT, constants, source
+
 WIDTHS = {'u8': 'uint8_t', 'u32': 'uint32_t', 'u64': 'uint64_t'}
 BOOK_PLACES = ('MEMBERS', 'SELF', 'SETTLED', 'CARRIER', 'CLIENT', 'REGISTERED', 'HANDED', 'TOLD', 'REPORTED', 'TAKEN', 'OPENS', 'OUTGOING')
 faults = []
-
-
-def source(path):
-    return (ROOT / 'crates' / path).read_text()
-
-
-def constants(path):
-    """The numbers that a source names: each a number, or an expression of others, its own or another module's."""
-    known = {}
-
-    def number(match):
-        module, name = match.groups()
-        if not module:
-            return str(known[name])
-        paths = list((ROOT / 'crates').glob('%s/src/lib.rt' % module)) or list((ROOT / 'crates').glob('*/src/%s.rt' % module))
-        return str(constants(paths[0].relative_to(ROOT / 'crates'))[name])
-
-    for name, value in re.findall(r'pub const (\w+): \w+ = ([^;]+);', source(path)):
-        known[name] = eval(re.sub(r'\b(?:(?:\w+::)*(\w+)::)?([A-Z]\w*)', number, value.replace(' as usize', '')))
-    return known
 
 
 def found(pattern, text, where):

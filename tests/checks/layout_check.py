@@ -1,0 +1,66 @@
+#!/usr/bin/env python3
+"""layout_check.py: holds the offsets and lengths of docs/LAYOUT.md to the Rattle sources. It prints each difference and exits with 1 where there is one."""
+import re
+import sys
+
+from sources import ROOT, constants
+
+LAYOUT = (ROOT / 'docs' / 'LAYOUT.md').read_text()
+book, slot, group = constants('book_bytes/src/lib.rt'), constants('slots/src/lib.rt'), constants('group_bytes/src/lib.rt')
+event, record, run = constants('c_answers/src/lib.rt'), constants('wire/src/record.rt'), constants('group_run/src/lib.rt')
+sizes = constants('views/src/sizes.rt')
+view, number, identifier = sizes['VIEW'], sizes['NUMBER'], sizes['IDENTIFIER']
+
+
+def at(place, *strides):
+    """An offset as the document writes it: a place, and for each letter how far apart its places are."""
+    return ' + '.join(([str(place)] if place or not strides else []) + ['%d%s' % (apart, letter) if apart > 1 else letter for apart, letter in strides])
+
+
+def behind(apart, place):
+    """A place in the records of a list."""
+    return '%di' % apart + (' + %d' % place if place else '')
+
+
+front = 1 + identifier + 1
+order, waiting = (group['TABLE'], 'i'), (group['WAITING'], 'p')
+waits = group['HEAD'] + group['ORDER']
+# the offsets of each table, in order, by the title above it; a table's length where the text says one
+wanted = {
+    'A message': [0, 1, 1 + identifier, at(front, (view, 'i')), at(front + identifier, (view, 'i')), at(front, (view, 'n')), at(front + 1, (view, 'n'))],
+    'A queue entry': [0, slot['KIND'], slot['NUMBER'], slot['COUNT'], at(slot['VIEWS'], (view, 'i'))],
+    "A member's book": [book[name] for name in ('MEMBERS', 'SELF', 'SETTLED')] + [book['CARRIER'], book['CARRIER'] + 1, book['CLIENT'], book['CLIENT'] + 1]
+    + [book[name] for name in ('REGISTERED', 'HANDED', 'TOLD', 'REPORTED', 'TAKEN', 'INFOS', 'REGISTRATIONS')]
+    + [at(book['TOLDS'], (1, 'q')), book['SIDE'], book['OPENS'], at(book['OPENS'] + 1, (view, 'i')), book['OUTGOING']]
+    + [at(book['OUTGOING'] + 1, (slot['SLOT'], 'i')), book['INWARD'], at(book['INWARD'] + 1, (slot['ITEM'], 'i'))]
+    + [book['INWARD'] + book['APART'], at(book['INWARD'] + book['APART'] + 1, (slot['ITEM'], 'i'))],
+    'The list': [behind(view, 0), behind(view, identifier)],
+    'The queues': [group['MADE'], 1, at(group['HEAD'], order), at(group['HEAD'] + 1, order, (slot['SLOT'], 'k')), at(waits, order, waiting)]
+    + [at(waits + 1, order, waiting, (slot['SLOT'], 'k'))],
+    'A run: steps and answers': [behind(run['STEP'], 0), behind(run['STEP'], run['FIRST']), behind(run['STEP'], run['SECOND'])]
+    + [behind(run['ANSWER'], 0), behind(run['ANSWER'], run['SHOWN'])],
+    'An event': [event['KIND'], event['MEMBER'], event['VIEW'], event['VIEW'] + identifier, event['SENDER'], event['ENTRY']],
+    "A message's record": [record['KIND'], record['VIEW'], record['NUMBER'], record['COUNT'], at(record['VIEWS'], (view, 'i'))],
+}
+lengths = {
+    'A queue entry': slot['SLOT'],
+    'An inward item': slot['ITEM'],
+    "A member's book": book['SIZE'],
+    'The books': group['BOOKS'],
+    'An event': event['EVENT'],
+    'A length': event['LENGTH'],
+    "A message's record": record['RECORD'],
+}
+faults = []
+sections = dict(re.findall(r'^#+ ([^\n]*)\n(.*?)(?=^#|\Z)', LAYOUT, re.M | re.S))
+for title, offsets in wanted.items():
+    written = re.findall(r'^\| ([0-9][^|]*?) \|', sections.get(title, ''), re.M)
+    if written != [str(offset) for offset in offsets]:
+        faults.append("docs/LAYOUT.md, '%s', has the offsets %s, the sources %s" % (title, ', '.join(written), ', '.join(map(str, offsets))))
+for title, length in lengths.items():
+    if not re.match(r'\s*%s bytes' % '{:,}'.format(length), sections.get(title, '')):
+        faults.append("docs/LAYOUT.md, '%s', does not begin with its length, %s bytes" % (title, '{:,}'.format(length)))
+if '{} + {:,} × '.format(group['HEAD'], group['TABLE']) not in sections.get('The queues', ''):
+    faults.append("docs/LAYOUT.md, 'The queues', has another length than %d + %d for each view" % (group['HEAD'], group['TABLE']))
+print(*faults or ['docs/LAYOUT.md agrees with the sources: %d offsets' % sum(map(len, wanted.values()))], sep='\n')
+sys.exit(1 if faults else 0)
