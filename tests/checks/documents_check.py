@@ -107,6 +107,8 @@ if session != [list(pair) for pair in zip(stored('tests/scripts/readme-session.t
 example = [line for line in stored('examples/first/first.cpp') if line and not line.startswith('//')]
 if example != [line for line in shown('How to link it') if line in example]:
     faults.append('README.md shows another example than examples/first/first.cpp')
+linking = (ROOT / 'README.md').read_text().split('\n## How to link it\n')[1].split('\n## ')[0]
+faults.extend('README.md does not say that the example prints: %s' % line for line in stored('examples/first/expected.txt') if '`%s`' % line not in linking)
 for fault in faults:
     print(fault)
 sys.exit(1 if faults else 0)
