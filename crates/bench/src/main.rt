@@ -1,4 +1,4 @@
-// The bench: a reply to each line of standard input, as document 01's section 'The bench' has it. What a line does is
+// The bench: a reply to each line of standard input, as the specification's section 'The bench' has it. What a line does is
 // `bench_session`; here are only reading and writing, many lines to a call of the system.
 mod pieces;
 

@@ -1,4 +1,4 @@
--- Document 01's whole case with its replies: the started ranges reply what the rules answer, and that is computed.
+-- The specification's whole case with its replies: the started ranges reply what the rules answer, and that is computed.
 use mathlib.Core.Path.{_≡_, refl, ap, _∙_}
 use mathlib.Core.Bool.{Bool, true}
 use mathlib.Core.List.{List, [], _∷_, map}

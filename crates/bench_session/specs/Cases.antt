@@ -1,4 +1,4 @@
--- Document 01's whole case: its lines and the replies to them, as bytes, of a bench in any state.
+-- The specification's whole case: its lines and the replies to them, as bytes, of a bench in any state.
 use mathlib.Core.Path.{_≡_}
 use mathlib.Core.Bool.{Bool}
 use mathlib.Core.List.{List, [], _∷_, _++_, map}

@@ -1,5 +1,5 @@
 -- The ten cases marked * of 'Views that pass and fail', in its order, as one table: each row has what the definitions
--- give and what is due, and the words above it are document 01's.
+-- give and what is due, and the words above it are the specification's.
 use mathlib.Core.Path.{_≡_}
 use mathlib.Core.Bool.{Bool, true, false}
 use mathlib.Core.List.{List, [], _∷_, _++_, map}

@@ -2,8 +2,9 @@
 use crate::listed::LONGEST;
 use views::View;
 use views::ViewId;
-ghost use Prim.Native.Nat.{_≤_};
+ghost use Prim.Native.Nat.{_≤_, min};
 ghost use mathlib.Core.Path.{_≡_};
+ghost use Rattle.test_group.specs.DeskParts.{longest, freshDesk, withLent, withView};
 
 pub struct Desk {
     pub list: [View; LONGEST],
@@ -11,7 +12,9 @@ pub struct Desk {
 }
 
 // No record is lent before the first line that lends one.
-pub fn fresh() -> Desk {
+pub fn fresh() -> Desk
+    ensures { λ r. ⌜ r ≡ freshDesk ⌝ }
+{
     let none = View {
         id: ViewId(0),
         set: 0,
@@ -24,13 +27,13 @@ pub fn fresh() -> Desk {
 
 // How many records are lent.
 pub fn room(d: Desk) -> usize
-    ensures { λ r. ⌜ r ≤ 33 ⌝ }
+    ensures { λ r. ⌜ (r ≤ 33) × (r ≡ min (d .lent) longest) ⌝ }
 {
     if d.lent < LONGEST { d.lent } else { LONGEST }
 }
 
 pub fn lend(d: Desk, line: &[u8]) -> Desk
-    ensures { λ r. ⌜ (r .list ≡ d .list) × (r .lent ≤ 33) ⌝ }
+    ensures { λ r. ⌜ r ≡ withLent d (now (line .entry)) ⌝ }
 {
     let list = d.list;
     Desk {
@@ -47,7 +50,9 @@ pub fn with_list(d: Desk, list: [View; LONGEST]) -> Desk
 }
 
 // A record is filled, whether it is lent or not.
-pub fn put(d: Desk, line: &[u8]) -> Desk {
+pub fn put(d: Desk, line: &[u8]) -> Desk
+    ensures { λ r. ⌜ r ≡ withView d (now (line .entry)) ⌝ }
+{
     let i = test_script::operand::upto(line, 1, LONGEST - 1);
     let v = View {
         id: ViewId(test_script::operand::identifier(line, 2)),

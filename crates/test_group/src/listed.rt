@@ -12,6 +12,7 @@ ghost use lib.ListN.{take, drop};
 ghost use Rattle.group.specs.StepCalls.{asked};
 ghost use Rattle.group_listed.specs.Calls.{Went, Began};
 ghost use Rattle.views.specs.Lists.{findOf};
+ghost use Rattle.views.specs.Limits.{maxViews};
 ghost use Rattle.group_listed.specs.Creates.{madeIn, Created};
 
 // The longest list that is lent: one record more than a group can have.
@@ -89,7 +90,7 @@ pub fn create(
 // A lookup in the list by itself, among so many made.
 pub fn lookup(list: [View; LONGEST], room: usize, made: usize, id: ViewId) -> Lookup
     requires { ⌜ room ≤ 33 ⌝ }
-    ensures { λ r. ⌜ r ≡ findOf (id .0) (madeIn made (take room list)) ⌝ }
+    ensures { λ r. ⌜ r ≡ findOf (id .0) (take maxViews (madeIn made (take room list))) ⌝ }
 {
     group_listed::list::lookup(&list[..room], made, id)
 }

@@ -2,8 +2,11 @@
 use crate::QUEUES;
 use crate::listed::LONGEST;
 use views::refusal::Verdict;
-ghost use Prim.Native.Nat.{_≤_};
+ghost use Prim.Native.Nat.{_≤_, min};
+ghost use lib.ListN.{length};
+ghost use mathlib.Core.Path.{_≡_};
 ghost use Rattle.io.specs.Counts.{Counts};
+ghost use Rattle.group_bytes.specs.Places.{queuesSize};
 
 // How many steps a run can have.
 const STEPS: usize = 40;
@@ -23,6 +26,7 @@ fn list_lent(b: &[u8], room: usize) -> usize
 pub fn queues_lent(b: &[u8], room: usize) -> usize
     requires { ⌜ room ≤ 33 ⌝ }
     ensures { λ r. ⌜ Counts r (now (b .entry)) ⌝ }
+    ensures { λ r. ⌜ r ≡ min (queuesSize room) (length (now (b .entry))) ⌝ }
 {
     let n = group_bytes::HEAD + group_bytes::TABLE * room;
     test_script::parse::front(n as u64, b)

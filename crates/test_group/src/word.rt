@@ -1,4 +1,7 @@
 // What a line says: its word.
+ghost use mathlib.Core.Path.{_≡_};
+ghost use Rattle.test_group.specs.WordParts.{withL, wordOf};
+
 pub enum Word {
     Unknown,
     Comment,
@@ -13,7 +16,9 @@ pub enum Word {
 }
 
 // The first letters tell the word.
-pub fn of(line: &[u8]) -> Word {
+pub fn of(line: &[u8]) -> Word
+    ensures { λ r. ⌜ r ≡ wordOf (now (line .entry)) ⌝ }
+{
     let first = test_script::parse::byte(line, 0);
     match first {
         b'#' => Word::Comment,
@@ -28,7 +33,9 @@ pub fn of(line: &[u8]) -> Word {
 }
 
 // lend, list, lookup
-fn with_l(second: u8) -> Word {
+fn with_l(second: u8) -> Word
+    ensures { λ r. ⌜ r ≡ withL second ⌝ }
+{
     match second {
         b'e' => Word::Lend,
         b'i' => Word::List,

@@ -50,7 +50,7 @@ pub record Demand2 : Type 0 where
   -- no two messages share their bytes
   pub no-two-share : (f g : Frame) → Fits f → Fits g → frameVerdict f ≡ Accepted → frameVerdict g ≡ Accepted
       → frameBytes f ≡ frameBytes g → canonical f ≡ canonical g
-  -- the longest message is as long as document 01 says
+  -- the longest message is as long as the specification says
   pub longest-is-longest : (f : Frame) → frameVerdict f ≡ Accepted → length (frameBytes f) ≤ longest
   pub longest-is-reached : (g : ℕ) (l : List View) → length l ≡ maxViews → length (bytesOf g Info l) ≡ longest
   -- the record of a message, with 0 in what it does not use, is what reading gives of what writing it gives

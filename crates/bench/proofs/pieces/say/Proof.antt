@@ -4,7 +4,8 @@ use Prim.Native.Nat.{_≤_}
 use native.Mathlib.Omega.{arith}
 use lib.ListN.{length, length-drop}
 use Rattle.bench_lines.specs.ReplyLines.{replyLine, longestReply}
-use Rattle.bench_lines.proofs.Longest.{Sized, reply-fits}
+use Rattle.bench_lines.specs.Promises.{Sized}
+use Rattle.bench_lines.proofs.Longest.{reply-fits}
 use Rattle.bench_lines.proofs.BufferLaws.{wrote-put}
 use Rattle.bench.proofs.PieceLaws.{place-behind, place-front, put-place, part-all, put-part}
 use borrow.Author.Needs.{needs}

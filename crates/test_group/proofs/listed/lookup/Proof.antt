@@ -51,6 +51,7 @@ use Rattle.views.proofs.ViewId.Laws as I′
 use Rattle.views.specs.declared.list.Lookup.{Lookup}
 use Rattle.views.proofs.list.Lookup as P
 use Rattle.views.proofs.list.Lookup.Laws as P′
+use Rattle.views.specs.Limits.{maxViews}
 use Rattle.group_listed.specs.Creates.{madeIn}
 use Rattle.group_listed.proofs.list.lookup as ca
 use Rattle.group_listed.proofs.list.lookup.Symbol as ca-def
@@ -78,8 +79,8 @@ module _ {M : Type 1} (𝓤 : URA M) (H : Heap 𝓤) (A : Atoms 𝓤) (at-mem : 
   abbrev Callee : Contract 𝓤
   Callee = tripleOf 𝓤 H A ca.signature (ca.spec 𝓤 H A at-mem run)
 
-  found-of : (κ : Lft) (x : RefT (List View)) (d : ℕ) (i : ViewId) (r : Lookup) → ent 𝓤 (ensured 𝓤 H A ca.ended (ca.clauses 𝓤 H A at-mem run) (κ, tt) (x, (d, (i, tt))) tt r) (fact 𝓤 (r ≡ findOf (i .0) (madeIn d (now x))))
-  found-of κ x d i r = exE 𝓤 _ (λ ws. snd∗ 𝓤 (sem 𝓤 H A (lasts ca.ended (κ, tt) (x, (d, (i, tt))) ws)) (fact 𝓤 (r ≡ findOf (i .0) (madeIn d (now x)))))
+  found-of : (κ : Lft) (x : RefT (List View)) (d : ℕ) (i : ViewId) (r : Lookup) → ent 𝓤 (ensured 𝓤 H A ca.ended (ca.clauses 𝓤 H A at-mem run) (κ, tt) (x, (d, (i, tt))) tt r) (fact 𝓤 (r ≡ findOf (i .0) (take maxViews (madeIn d (now x)))))
+  found-of κ x d i r = exE 𝓤 _ (λ ws. snd∗ 𝓤 (sem 𝓤 H A (lasts ca.ended (κ, tt) (x, (d, (i, tt))) ws)) (fact 𝓤 (r ≡ findOf (i .0) (take maxViews (madeIn d (now x))))))
 
 -- the list by value, how many of its records are lent, and how many are made
 module _ {M : Type 1} (𝓤 : URA M) (H : Heap 𝓤) (A : Atoms 𝓤) (W : Given 𝓤 H A) (at-mem : Memory → SProp 𝓤) (run : Routine → Fun 𝓤) (xs : List View) (n d : ℕ) (i : ViewId)
@@ -96,7 +97,7 @@ module _ {M : Type 1} (𝓤 : URA M) (H : Heap 𝓤) (A : Atoms 𝓤) (W : Given
   abbrev Post : Val → SProp 𝓤
   Post = walkOf 𝓤 H A at.ended stayed (at.clauses 𝓤 H A at-mem run) .post ((tt, tt, tt, a, vals), tt)
 
-  exits : (r : Lookup) (w : Val) → r ≡ findOf (i .0) (madeIn d (take n xs)) → Is PT r (w ∷ []) → ent 𝓤 (sem 𝓤 H A ftrue) (Post w)
+  exits : (r : Lookup) (w : Val) → r ≡ findOf (i .0) (take maxViews (madeIn d (take n xs))) → Is PT r (w ∷ []) → ent 𝓤 (sem 𝓤 H A ftrue) (Post w)
   exits r w e g =
       qed W (‵ ftrue ∷ []) ∵
       suffices ! _ (ends-at 𝓤 H A at.ended stayed (at.clauses 𝓤 H A at-mem run) W ((tt, tt, tt, a, vals), tt) w r (tt, (tt, (tt, (tt, tt)))) (tt, (tt, (tt, (tt, tt))))) $ says ! e $
@@ -134,7 +135,7 @@ module _ {M : Type 1} (𝓤 : URA M) (H : Heap 𝓤) (A : Atoms 𝓤) (W : Given
         -- [what it asks; the lender's part; the other records; _7; …]
         calls-at ! fm (Callee 𝓤 H A at-mem run) known (to-callee ν l₅ γ) (and-then ! (load ! (from ! (stop !)) (look ! 3 refl)) (and-then ! (load ! (from ! (stop !)) (look ! 10 refl)) (and-then ! (load ! (from ! (stop !)) (look ! 8 refl)) (no-more !)))) (λ w.
         use1 W (later (some (λ (r : Lookup). ((‵ (flft (ν ∷ []) fullShare) ⊛ ‵ ftrue) ⊛ ‵ (PT .own r (w ∷ []))) ⊛ raw (ensured 𝓤 H A ca.ended (ca.clauses 𝓤 H A at-mem run) (ν ∷ [], tt) (lentAt xs n gx gn room l₅ γ, (d, (i, tt))) tt r)))) (id⊢ 𝓤 _) $ await ! tt $ pick ! (λ r.
-        split ! $ move ! (1 ∷ []) $ use1 W (raw (fact 𝓤 (r ≡ findOf (i .0) (madeIn d (take n xs))))) (found-of 𝓤 H A at-mem run (ν ∷ []) (lentAt xs n gx gn room l₅ γ) d i r) $ heard ! (r ≡ findOf (i .0) (madeIn d (take n xs))) (λ e.
+        split ! $ move ! (1 ∷ []) $ use1 W (raw (fact 𝓤 (r ≡ findOf (i .0) (take maxViews (madeIn d (take n xs)))))) (found-of 𝓤 H A at-mem run (ν ∷ []) (lentAt xs n gx gn room l₅ γ) d i r) $ heard ! (r ≡ findOf (i .0) (take maxViews (madeIn d (take n xs)))) (λ e.
         split ! $ move ! (1 ∷ []) $ peeks ! PT (Is PT) (shows 𝓤 H A PT) r (w ∷ []) (λ gr.
         land ! (from ! (stop !)) (init ! 17 refl (EL.lawful P.the-type P′.the-laws 𝓤 H A W tt .typed r _ gr .0)) $ drop ! $
         -- the lifetime is ended, and the local is back

@@ -1,0 +1,2 @@
+pub mod DeskParts
+pub mod WordParts
