@@ -1,5 +1,5 @@
-// The bench: a reply to each line of standard input, as the specification's section 'The bench' has it. What a line does is
-// `bench_session`; here are only reading and writing, many lines to a call of the system.
+// The bench: a reply to each line of standard input, as the specification's section 'The bench' has it. What a line
+// does is `bench_session`; here are only reading and writing, many lines to a call of the system.
 mod pieces;
 
 ghost use lib.ListN.{length};

@@ -1,6 +1,6 @@
 -- What the rules speak of: messages, a member's book, the group, steps, events and answers. M is what a client sends:
--- the rules pass it on and never look at it. In a group of the specification it is an entry number, and there the words go
--- without 'Of'.
+-- the rules pass it on and never look at it. In a group of the specification it is an entry number, and there the
+-- words go without 'Of'.
 use mathlib.Core.Bool.{Bool, true, false}
 use mathlib.Core.Option.{Option, none, some}
 use mathlib.Core.List.{List, [], _∷_}
