@@ -1,8 +1,8 @@
 /*
  * dvs.h: primary views for up to eight register servers, after the service DVS of MIT-LCS-TR-873.
  *
- * The library keeps no memory of its own, calls nothing but C's memcpy, memmove and memset, and never blocks. 8 KB of stack
- * are enough for any call. Its time is bounded by what the ranges hold: some microseconds for a call on a book; a step of a group looks at all of its
+ * The library keeps no memory of its own, calls nothing but C's memcpy, memmove and memset, and never blocks. 8 KB of stack are
+ * enough for any call. Its time is bounded by what the ranges hold: some microseconds for a call on a book; a step of a group looks at all of its
  * group, microseconds for a fresh one and milliseconds for one whose queues are full; a run takes the time of its steps.
  *
  * The host lends byte ranges, each as a pointer and a length in bytes, and gives plain numbers. A call answers any bytes, any lengths and any numbers:
@@ -16,6 +16,7 @@
  *
  * A range whose length this header fixes (a book, an event, ...) gets DVS_REFUSED_RECORDS_UNSOUND, before anything else, where it has another length.
  * Every byte of every range is described in docs/LAYOUT.md; numbers in them are big-endian. A set of members is a number with bit 0 for member 0.
+ * The documents that are named here are installed to share/doc/dvs.
  */
 #ifndef DVS_H
 #define DVS_H
