@@ -29,16 +29,24 @@ $(LIBRARY): $(SOURCES)
 	rt staticlib dvs
 	touch $@
 
-# The library, its headers and its pkg-config file, to PREFIX; DESTDIR goes before it, for those who make a package.
+# The library, its headers, what is written for its hosts, and its files for pkg-config and CMake, to PREFIX; DESTDIR goes before it, for those who make
+# a package. The version stands here alone; tests/checks/header_check.py holds the header and the library to it.
 .PHONY: install
 PREFIX ?= /usr/local
-VERSION := 0.1.0
+VERSION := 0.2.0
+HOST_DOCUMENTS := $(wildcard $(addprefix docs/,HOST.md LAYOUT.md REFUSALS.md SPEC.md))
+CMAKE_FILES := dvsConfig.cmake dvsConfigVersion.cmake
 install: $(LIBRARY)
-	sed -e 's|@PREFIX@|$(PREFIX)|' -e 's|@VERSION@|$(VERSION)|' include/dvs.pc.in > target/dvs.pc
-	install -d $(DESTDIR)$(PREFIX)/include $(DESTDIR)$(PREFIX)/lib/pkgconfig
+	mkdir -p target/package
+	for file in dvs.pc $(CMAKE_FILES); do \
+	    sed -e 's|@PREFIX@|$(PREFIX)|' -e 's|@VERSION@|$(VERSION)|' include/$$file.in > target/package/$$file || exit 1; \
+	done
+	install -d $(addprefix $(DESTDIR)$(PREFIX)/,include lib/pkgconfig lib/cmake/dvs share/doc/dvs)
 	install -m 644 $(HEADERS) $(DESTDIR)$(PREFIX)/include
 	install -m 644 $(LIBRARY) $(DESTDIR)$(PREFIX)/lib
-	install -m 644 target/dvs.pc $(DESTDIR)$(PREFIX)/lib/pkgconfig
+	install -m 644 target/package/dvs.pc $(DESTDIR)$(PREFIX)/lib/pkgconfig
+	install -m 644 $(addprefix target/package/,$(CMAKE_FILES)) $(DESTDIR)$(PREFIX)/lib/cmake/dvs
+	install -m 644 $(HOST_DOCUMENTS) $(DESTDIR)$(PREFIX)/share/doc/dvs
 
 # A host of the library: eight offices over a carrier of their own, and what they print beside what they should.
 .PHONY: offices
@@ -89,7 +97,7 @@ fuzz: target/outside_test
 
 # One fault after another put into the library's calls: the test from outside must report each.
 .PHONY: outside-selftest
-WRAPPED = $(shell sed -nE 's/^uint32_t (dvs_[a-z_]*).*/\1/p' include/dvs.h)
+WRAPPED = $(shell sed -nE 's/^uint(32|64)_t (dvs_[a-z_]*).*/\2/p' include/dvs.h)
 outside-selftest: target/outside_wrong
 	tests/strength/run.sh target/outside_wrong
 target/outside_wrong: $(OUTSIDE) tests/strength/wrong.cpp $(LIBRARY)
@@ -100,7 +108,8 @@ target/outside_wrong: $(OUTSIDE) tests/strength/wrong.cpp $(LIBRARY)
 outside-strength: $(LIBRARY)
 	python3 tests/strength/changed_rules.py $(LIBRARY)
 
-# The C++ wrapper and both examples, installed and linked by pkg-config, with every compiler here, in C++17 and C++20 and with sanitizers.
+# The C++ wrapper and both examples, installed and linked by pkg-config, with every compiler here, in C++17 and C++20 and with sanitizers; by CMake,
+# where it is here; and the archive in a shared object.
 .PHONY: wrapper
 wrapper: $(LIBRARY)
 	tests/wrapper/wrapper.sh

@@ -1,17 +1,22 @@
 /*
  * dvs.h: primary views for up to eight register servers, after the service DVS of MIT-LCS-TR-873.
  *
- * The library keeps no memory of its own, calls nothing but C's memcpy, memmove and memset, and never blocks; some 5 KB of stack are enough. The host
- * lends byte ranges, each as a pointer and a length in bytes, and gives plain numbers. A call answers any bytes, any lengths and any numbers:
+ * The library keeps no memory of its own, calls nothing but C's memcpy, memmove and memset, and never blocks. 8 KB of stack are
+ * enough for any call. Its time is bounded by what the ranges hold: some microseconds for a call on a book; a step of a group looks at all of its
+ * group, microseconds for a fresh one and milliseconds for one whose queues are full; a run takes the time of its steps.
+ *
+ * The host lends byte ranges, each as a pointer and a length in bytes, and gives plain numbers. A call answers any bytes, any lengths and any numbers:
  *
  *   0                   accepted: the lent ranges are what the step makes of them;
  *   1 to DVS_REFUSALS   refused by one number (DVS_REFUSED_...), and every lent byte is as it was.
  *
- * What is asked of the host is what C asks of it: a pointer is good for its length (it may be null where the length is 0), the ranges of one call do
- * not overlap, and no two threads use one range at a time.
+ * What is asked of the host is what C asks of it: a pointer is good for its length (it may be null where the length is 0); no range written by a call
+ * overlaps another range of that call (two that are only read may); a range that a call writes belongs to that call until it returns, while several
+ * calls may read one range at a time. Ranges may have any alignment.
  *
  * A range whose length this header fixes (a book, an event, ...) gets DVS_REFUSED_RECORDS_UNSOUND, before anything else, where it has another length.
  * Every byte of every range is described in docs/LAYOUT.md; numbers in them are big-endian. A set of members is a number with bit 0 for member 0.
+ * The documents that are named here are installed to share/doc/dvs.
  */
 #ifndef DVS_H
 #define DVS_H
@@ -23,6 +28,10 @@
 extern "C" {
 #endif
 
+/* ---- the version: major * 10000 + minor * 100 + patch; dvs_version() gives the library's, which a host compares with this once */
+
+#define DVS_VERSION 200u
+
 /* ---- limits */
 
 #define DVS_MEMBERS 8u   /* members of a group: 0 to 7 */
@@ -31,18 +40,20 @@ extern "C" {
 #define DVS_OUTGOING 16u /* messages outgoing in a member */
 #define DVS_WAITING 8u   /* messages waiting for a member in a view */
 #define DVS_ORDERED 128u /* messages ordered in a view */
-#define DVS_LONGEST 167u /* bytes of the longest message */
+#define DVS_LONGEST 167u /* bytes of the longest message: client, info, registered, told */
 
 /* ---- lengths of lent ranges, in bytes */
 
 #define DVS_BOOK_SIZE 5234u                                          /* a member's book */
-#define DVS_EVENT_SIZE 16u                                           /* an event that a call gives out */
+#define DVS_EVENT_SIZE 16u                                           /* an event that a call gives out, of the kinds below */
 #define DVS_LENGTH_SIZE 4u                                           /* the length of a message that a call gives out */
-#define DVS_MESSAGE_SIZE 174u                                        /* a message's record */
+#define DVS_MESSAGE_SIZE 174u                                        /* a message's record, of the kinds below */
 #define DVS_VIEW_SIZE 5u                                             /* a view record: identifier 4, set 1 */
 #define DVS_LIST_SIZE(views) (DVS_VIEW_SIZE * DVS_COUNT(views))      /* a group's list with room for 1 to 32 views */
 #define DVS_BOOKS_SIZE 41872u                                        /* a group's eight books */
 #define DVS_QUEUES_SIZE(views) (64u + 32841u * DVS_COUNT(views))     /* a group's queues, for a list with room for as many views */
+#define DVS_STEP_SIZE 13u                                            /* a step of a run */
+#define DVS_ANSWER_SIZE 17u                                          /* the answer to a step of a run */
 
 #ifdef __cplusplus
 #define DVS_COUNT(views) (static_cast<size_t>(views))
@@ -50,20 +61,47 @@ extern "C" {
 #define DVS_COUNT(views) ((size_t)(views))
 #endif
 
+/* ---- the ranges by number: dvs_size gives the lengths above to callers that have no macros */
+
+#define DVS_SIZE_BOOK 1u    /* DVS_BOOK_SIZE */
+#define DVS_SIZE_EVENT 2u   /* DVS_EVENT_SIZE */
+#define DVS_SIZE_LENGTH 3u  /* DVS_LENGTH_SIZE */
+#define DVS_SIZE_MESSAGE 4u /* DVS_MESSAGE_SIZE */
+#define DVS_SIZE_BUFFER 5u  /* DVS_LONGEST: a buffer for any message */
+#define DVS_SIZE_LIST 6u    /* DVS_LIST_SIZE(views) */
+#define DVS_SIZE_BOOKS 7u   /* DVS_BOOKS_SIZE */
+#define DVS_SIZE_QUEUES 8u  /* DVS_QUEUES_SIZE(views) */
+#define DVS_SIZE_STEP 9u    /* DVS_STEP_SIZE */
+#define DVS_SIZE_ANSWER 10u /* DVS_ANSWER_SIZE */
+
 /* ---- places in a book that a host may want to look at; of a book that was started and changed by the calls alone. docs/LAYOUT.md has all of them */
 
-#define DVS_BOOK_MEMBERS 0u     /* 1 byte: the number of members */
-#define DVS_BOOK_SELF 1u        /* 1 byte: the member's own number */
-#define DVS_BOOK_SETTLED 2u     /* a view record: the settled view */
-#define DVS_BOOK_CARRIER 7u     /* 1 byte, 1 if there is a carrier view; then its view record */
-#define DVS_BOOK_CLIENT 13u     /* 1 byte, 1 if there is a client view; then its view record */
-#define DVS_BOOK_REGISTERED 19u /* 1 byte: 1 if registered in the client view */
-#define DVS_BOOK_HANDED 20u     /* 1 byte: how many entries of the client view were handed out */
-#define DVS_BOOK_TOLD 21u       /* 1 byte: the number last told */
-#define DVS_BOOK_REPORTED 22u   /* 1 byte: how many were reported safe */
-#define DVS_BOOK_TAKEN 23u      /* 1 byte: how many messages of the carrier view were taken */
-#define DVS_BOOK_OPENS 35u      /* 1 byte, the number of open views; then their view records */
-#define DVS_BOOK_OUTGOING 191u  /* 1 byte: the number of outgoing messages */
+#define DVS_BOOK_MEMBERS 0u        /* 1 byte: the number of members */
+#define DVS_BOOK_SELF 1u           /* 1 byte: the member's own number */
+#define DVS_BOOK_SETTLED 2u        /* a view record: the settled view */
+#define DVS_BOOK_CARRIER 7u        /* 1 byte, 1 if there is a carrier view; then its view record */
+#define DVS_BOOK_CLIENT 13u        /* 1 byte, 1 if there is a client view; then its view record */
+#define DVS_BOOK_REGISTERED 19u    /* 1 byte: 1 if registered in the client view */
+#define DVS_BOOK_HANDED 20u        /* 1 byte: how many entries of the client view were handed out */
+#define DVS_BOOK_TOLD 21u          /* 1 byte: the number last told */
+#define DVS_BOOK_REPORTED 22u      /* 1 byte: how many were reported safe */
+#define DVS_BOOK_TAKEN 23u         /* 1 byte: how many messages of the carrier view were taken */
+#define DVS_BOOK_INFOS 24u         /* 1 byte, a set: whose infos of the carrier view were taken. 20 waits for those of the view not in it */
+#define DVS_BOOK_REGISTRATIONS 25u /* 1 byte, a set: whose registrations in it were taken. 31 waits for those of the view not in it */
+#define DVS_BOOK_TOLDS 26u         /* 8 bytes, a count that each member told. 29 waits for those of the view whose count is not above `reported` */
+#define DVS_BOOK_OPENS 35u         /* 1 byte, the number of open views; then their view records */
+#define DVS_BOOK_OUTGOING 191u     /* 1 byte: the number of outgoing messages */
+
+/* ---- places in a group's queues; i is a view's place in the list, 0 for the first view, p a member */
+
+#define DVS_QUEUES_MADE 0u                                                               /* 1 byte: how many views were made */
+#define DVS_QUEUES_ORDER(i) (64u + 32841u * DVS_COUNT(i))                                /* 1 byte: how many messages view i's order has */
+#define DVS_QUEUES_WAITING(i, p) (21953u + 32841u * DVS_COUNT(i) + 1369u * DVS_COUNT(p)) /* 1 byte: how many of member p wait in view i */
+
+/* ---- places in a view record: DVS_VIEW_SIZE bytes */
+
+#define DVS_VIEW_IDENTIFIER 0u /* 4 bytes */
+#define DVS_VIEW_SET 4u        /* 1 byte */
 
 /* ---- places in an event: DVS_EVENT_SIZE bytes. What an event does not have is 0. */
 
@@ -73,6 +111,14 @@ extern "C" {
 #define DVS_EVENT_SET 6u    /* 1 byte: its set, of attempt alone */
 #define DVS_EVENT_SENDER 7u /* 1 byte: the sender, of hand and safe */
 #define DVS_EVENT_ENTRY 8u  /* 8 bytes: the entry number, of send, hand and safe */
+
+/* ---- places in a run's records: a step, DVS_STEP_SIZE bytes, and the answer to it, DVS_ANSWER_SIZE bytes */
+
+#define DVS_STEP_KIND 0u     /* 1 byte: DVS_STEP_... */
+#define DVS_STEP_FIRST 1u    /* 4 bytes: the first operand */
+#define DVS_STEP_SECOND 5u   /* 8 bytes: the second operand */
+#define DVS_ANSWER_NUMBER 0u /* 1 byte: 0 for accepted, or the refusal's number */
+#define DVS_ANSWER_EVENT 1u  /* DVS_EVENT_SIZE bytes: the step's event, 0 everywhere for a refused step and for one that has no event */
 
 /* ---- places in a message's record: DVS_MESSAGE_SIZE bytes */
 
@@ -152,13 +198,24 @@ extern "C" {
 #define DVS_REFUSALS 43u /* how many there are: the highest number */
 
 /*
+ * ---- the library itself
+ */
+
+/* DVS_VERSION as the library was built with. */
+uint32_t dvs_version(void);
+
+/* How many bytes the range DVS_SIZE_... has, of a list and of queues with room for `views`; of the others `views` is not looked at. 0 for an unknown
+ * range, and for views that are not 1 to 32 where they count. */
+uint64_t dvs_size(uint32_t range, uint32_t views);
+
+/*
  * ---- the member by itself: one office's part, over a carrier of the host's own
  *
  * The book has DVS_BOOK_SIZE bytes. After dvs_start it is changed by these calls alone; a book of any other bytes is answered too, by 4 where it is no
  * sound book. The refusals stand in the order in which they are checked; 4 and then 6 come before them in every call but dvs_start.
  *
- * What a host owes is in docs/HOST.md, with what comes of it otherwise. Of the carrier and the hosts this is asked, and what is proved of books over a
- * host's own carrier rests on it:
+ * What a host owes is in docs/HOST.md, with what comes of it otherwise; no call can see it. Of the carrier and the hosts this is asked, and what is
+ * proved of books over a host's own carrier rests on it:
  *
  * 1. No two views share an identifier, and every view's set has members, all of them among the n.
  * 2. In a view every member takes a prefix of one order of messages.
@@ -166,8 +223,10 @@ extern "C" {
  *    stops its sender in this view.
  * 4. A member's book never goes back, but for the outgoing list of a member that joins next.
  *
- * The start is the same in every office, and no two offices have one number. Messages are believed: their bytes and their sender must come from the
- * office named. Being in a primary view is no licence: an entry is final when it is reported safe; what was only handed out may have to be withdrawn.
+ * An office that comes up again goes on with the last bytes that a call left, or does not go on: an old copy, or a second start, breaks the promise. The
+ * start is the same in every office, and no two offices have one number. Messages are believed: who can put bytes on the line can break the promise.
+ * Being in a primary view is no licence: two groups of offices may hand out entries at the same time. What is reported safe was in the hands of every
+ * office of its view and is final; what was only handed out may have to be withdrawn.
  */
 
 /* The book of member `own` in a group of `members`, with the first view, identifier 0, of `first_set`. 4, 1, 2, 6. */
@@ -184,7 +243,7 @@ uint32_t dvs_pass(uint8_t *book, size_t book_size, uint8_t *buffer, size_t buffe
  * taken as it comes: a message given twice is taken twice. A view has 128 messages of all kinds. 13, 32 to 38, 7, 41, 42, 16, 43. */
 uint32_t dvs_deliver(uint8_t *book, size_t book_size, const uint8_t *bytes, size_t bytes_size, uint32_t sender);
 
-/* The carrier view is attempted: it becomes the client view. 13, 19, 20, 21, 43. */
+/* The carrier view is attempted: it becomes the client view, this office's primary one. 13, 19, 20, 21, 43. */
 uint32_t dvs_attempt(uint8_t *book, size_t book_size, uint8_t *event, size_t event_size);
 
 /* The client registers in the client view. Where that is not the carrier view any more it is accepted and no message goes out. 22, 23, 24. */
@@ -193,17 +252,20 @@ uint32_t dvs_register(uint8_t *book, size_t book_size, uint8_t *event, size_t ev
 /* The client sends an entry number in the client view. Where that is not the carrier view any more it is accepted and no message goes out. 22, 24. */
 uint32_t dvs_send(uint8_t *book, size_t book_size, uint64_t entry, uint8_t *event, size_t event_size);
 
-/* The next entry of the client view is given to the client. 22, 25. */
+/* The next entry of the client view is given to the client, who may have to withdraw it as long as it is not reported safe. 22, 25. */
 uint32_t dvs_hand(uint8_t *book, size_t book_size, uint8_t *event, size_t event_size);
 
 /* The others are told how many entries the client has. 22, 26, 27, 24. */
 uint32_t dvs_tell(uint8_t *book, size_t book_size);
 
-/* The next entry that every client of the view has is reported safe. 22, 26, 28, 29. */
+/* The next entry is reported safe: every client of the view has it, and it is final. 22, 26, 28, 29. */
 uint32_t dvs_safe(uint8_t *book, size_t book_size, uint8_t *event, size_t event_size);
 
 /* The carrier view, registered by all its members, becomes settled. 13, 30, 31. */
 uint32_t dvs_collect(uint8_t *book, size_t book_size);
+
+/* Whether the bytes are a sound book of a member, which every call above takes: nothing changes. It cannot tell an old copy from the last. 4, 6. */
+uint32_t dvs_check(const uint8_t *book, size_t book_size);
 
 /*
  * ---- messages: the bytes that go over the line, and a record of DVS_MESSAGE_SIZE bytes
@@ -231,6 +293,66 @@ uint32_t dvs_group_start(uint8_t *list, size_t list_size, uint8_t *books, size_t
 /* One step of any kind (DVS_STEP_...) with its operands, 0 for those it does not have. An accepted step writes the event. 4, 5, 6, then as the kind. */
 uint32_t dvs_group_step(uint8_t *list, size_t list_size, uint8_t *books, size_t books_size, uint8_t *queues, size_t queues_size, uint32_t kind,
                         uint32_t first, uint64_t second, uint8_t *event, size_t event_size);
+
+/* dvs_group_start, then every step of `steps` (whole records of DVS_STEP_SIZE bytes, none or any number) in turn, each with its answer in `answers`
+ * (as many records of DVS_ANSWER_SIZE). A refused step does not end the run: its number is in its answer. 4 where the records do not pair, then as
+ * dvs_group_start. */
+uint32_t dvs_group_run(uint8_t *list, size_t list_size, uint8_t *books, size_t books_size, uint8_t *queues, size_t queues_size, uint32_t members,
+                       uint32_t first_set, const uint8_t *steps, size_t steps_size, uint8_t *answers, size_t answers_size);
+
+/* Whether the three ranges are a sound group, which every step takes: nothing changes. 4. */
+uint32_t dvs_group_check(const uint8_t *list, size_t list_size, const uint8_t *books, size_t books_size, const uint8_t *queues, size_t queues_size);
+
+/*
+ * ---- readers of what calls write: each looks at its own bytes alone, and asks for a range of its length
+ */
+
+static inline uint32_t dvs_get32(const uint8_t *at) {
+  uint32_t value = at[0];
+  value = value << 8 | at[1];
+  value = value << 8 | at[2];
+  return value << 8 | at[3];
+}
+static inline uint64_t dvs_get64(const uint8_t *at) {
+  uint64_t value = dvs_get32(at);
+  return value << 32 | dvs_get32(at + 4);
+}
+
+/* An event. */
+static inline uint32_t dvs_event_kind(const uint8_t *event) { return event[DVS_EVENT_KIND]; }
+static inline uint32_t dvs_event_member(const uint8_t *event) { return event[DVS_EVENT_MEMBER]; }
+static inline uint32_t dvs_event_view(const uint8_t *event) { return dvs_get32(event + DVS_EVENT_VIEW); }
+static inline uint32_t dvs_event_set(const uint8_t *event) { return event[DVS_EVENT_SET]; }
+static inline uint32_t dvs_event_sender(const uint8_t *event) { return event[DVS_EVENT_SENDER]; }
+static inline uint64_t dvs_event_entry(const uint8_t *event) { return dvs_get64(event + DVS_EVENT_ENTRY); }
+
+/* A length. */
+static inline size_t dvs_length(const uint8_t *length) { return dvs_get32(length); }
+
+/* A view record: in a book, a list or a message's record. */
+static inline uint32_t dvs_view_identifier(const uint8_t *view) { return dvs_get32(view + DVS_VIEW_IDENTIFIER); }
+static inline uint32_t dvs_view_set(const uint8_t *view) { return view[DVS_VIEW_SET]; }
+
+/* A message's record; its view i is a view record. */
+static inline uint32_t dvs_message_kind(const uint8_t *message) { return message[DVS_MESSAGE_KIND]; }
+static inline uint32_t dvs_message_view(const uint8_t *message) { return dvs_get32(message + DVS_MESSAGE_VIEW); }
+static inline uint64_t dvs_message_number(const uint8_t *message) { return dvs_get64(message + DVS_MESSAGE_NUMBER); }
+static inline uint32_t dvs_message_count(const uint8_t *message) { return message[DVS_MESSAGE_COUNT]; }
+static inline const uint8_t *dvs_message_views(const uint8_t *message, uint32_t i) { return message + DVS_MESSAGE_VIEWS + DVS_VIEW_SIZE * i; }
+
+/* A book: whom 20, 31 and 29 wait for. Sets, and the count that a member told. */
+static inline uint32_t dvs_book_infos(const uint8_t *book) { return book[DVS_BOOK_INFOS]; }
+static inline uint32_t dvs_book_registrations(const uint8_t *book) { return book[DVS_BOOK_REGISTRATIONS]; }
+static inline uint32_t dvs_book_told(const uint8_t *book, uint32_t member) { return book[DVS_BOOK_TOLDS + member]; }
+
+/* A group's queues. */
+static inline uint32_t dvs_queues_made(const uint8_t *queues) { return queues[DVS_QUEUES_MADE]; }
+static inline uint32_t dvs_queues_ordered(const uint8_t *queues, uint32_t i) { return queues[DVS_QUEUES_ORDER(i)]; }
+static inline uint32_t dvs_queues_waiting(const uint8_t *queues, uint32_t i, uint32_t p) { return queues[DVS_QUEUES_WAITING(i, p)]; }
+
+/* The answer i of a run. */
+static inline uint32_t dvs_answer_number(const uint8_t *answers, size_t i) { return answers[DVS_ANSWER_SIZE * i + DVS_ANSWER_NUMBER]; }
+static inline const uint8_t *dvs_answer_event(const uint8_t *answers, size_t i) { return answers + DVS_ANSWER_SIZE * i + DVS_ANSWER_EVENT; }
 
 #ifdef __cplusplus
 }

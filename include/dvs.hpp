@@ -1,16 +1,21 @@
 // dvs.hpp: dvs.h in today's C++, from C++17 on.
 //
 // Header only, over the same library. Nothing here is thrown or allocated. A call gives a Result: a value, or the Refusal that stands in its place;
-// after a refusal every byte is as it was. Ranges are std::span where the library of C++20 has it, and a small type of the same use before that; so
-// all parts of one program are compiled under one standard.
+// after a refusal every byte is as it was. Ranges are std::span where the library of C++20 has it, and a small type of the same use before that; the
+// two are different types in namespaces of their own, so parts of a program that pass them to each other are compiled under one standard.
 //
 //   dvs::Book book;                                                           // one office's part: 5,234 bytes, held by value
 //   auto started = book.start(5, dvs::Set::below(5), dvs::Member{2});         // member 2 of 5, all in the first view
 //   if (!started) log(dvs::text(started.refusal()));
 //   auto joined = book.join({dvs::Identifier{1}, dvs::Set{0b111}});           // the carrier gave a view
 //   while (auto message = book.pass()) my_carrier.post(message->bytes());     // what is to go over the line
-//   auto taken = book.deliver(bytes, dvs::Member{0});                         // what came over it, in the view's order
-//   if (auto event = book.attempt()) work_in(event->view, event->set);        // the view is now the primary one
+//   auto taken = book.deliver(bytes, dvs::Member{0});                         // what came over it, own messages too, in the view's order
+//   if (auto event = book.attempt()) work_in(event->view, event->set);        // the view is now this office's primary one
+//   if (auto event = book.hand()) take(event->sender, event->entry);          // to be withdrawn where it never becomes safe
+//   if (auto event = book.safe()) keep(event->sender, event->entry);          // every office of the view has it: final
+//
+// Being in a primary view is no licence: two groups of offices may hand out entries at the same time. dvs.h lists above dvs_start what the host has to
+// see to, and docs/HOST.md says it in full.
 #ifndef DVS_HPP
 #define DVS_HPP
 
@@ -23,6 +28,10 @@
 #include <type_traits>
 
 namespace dvs {
+inline namespace DVS_INLINE_NAMESPACE {
+
+// Whether the library that is linked is of this header's version.
+inline bool same_version() noexcept { return dvs_version() == DVS_VERSION; }
 
 // ---- messages
 
@@ -71,13 +80,21 @@ class BookReader {
   constexpr unsigned reported() const noexcept { return detail::byte(book_, DVS_BOOK_REPORTED); }
   constexpr unsigned taken() const noexcept { return detail::byte(book_, DVS_BOOK_TAKEN); }
   constexpr unsigned outgoing() const noexcept { return detail::byte(book_, DVS_BOOK_OUTGOING); }
+  // Whose infos and registrations of the carrier view were taken, and the count that a member 0 to 7 told: info_missing waits for
+  // carrier()->set - infos(), registration_missing for carrier()->set - registrations(), told_too_low for those not above reported().
+  constexpr Set infos() const noexcept { return Set(detail::byte(book_, DVS_BOOK_INFOS)); }
+  constexpr Set registrations() const noexcept { return Set(detail::byte(book_, DVS_BOOK_REGISTRATIONS)); }
+  constexpr unsigned told_by(Member member) const noexcept {
+    return number(member) < DVS_MEMBERS ? detail::byte(book_, DVS_BOOK_TOLDS + number(member)) : 0u;
+  }
   constexpr ViewList open() const noexcept {
     ViewList views;
     const std::size_t count = detail::byte(book_, DVS_BOOK_OPENS);
     for (std::size_t i = 0; i < count && i < DVS_OPEN; ++i) views.push_back(detail::view(book_, DVS_BOOK_OPENS + 1 + DVS_VIEW_SIZE * i));
     return views;
   }
-  // Whether the view that the carrier gave last is the one that the member attempted last: only then does it work in a primary view now.
+  // Whether the view that the carrier gave last is the one that the member attempted last: without it this office is in no primary view now. It is no
+  // licence: another group of offices may be in a primary view of its own at the same time, and may go on without this one.
   constexpr bool in_primary() const noexcept { return carrier() && client() && carrier()->identifier == client()->identifier; }
 
  private:
@@ -88,9 +105,36 @@ class BookReader {
   Bytes book_;
 };
 
-// One office's part, over a carrier of the host's own. A book is all bytes: copy it, save it and bring it back as they are.
+using BookBytes = std::array<std::uint8_t, DVS_BOOK_SIZE>;
+
+// One office's part, over a carrier of the host's own. A book must never go back: after a call only what that call left may be loaded again, by this
+// office alone. So a book is not copied; moving takes it away, and what it is taken from is no book (Refusal::records_unsound).
 class Book {
  public:
+  Book() noexcept = default;
+  Book(const Book &) = delete;
+  Book &operator=(const Book &) = delete;
+  Book(Book &&other) noexcept : bytes_(other.bytes_) { other.bytes_ = BookBytes{}; }
+  Book &operator=(Book &&other) noexcept {
+    const BookBytes taken = other.bytes_;
+    other.bytes_ = BookBytes{};
+    bytes_ = taken;
+    return *this;
+  }
+  ~Book() = default;
+
+  // The bytes to keep: saved before anything that the last call gave out, a message or an event, leaves this office.
+  BookBytes save() const noexcept { return bytes_; }
+  // The bytes that were saved last. Refused, and nothing done, where they are no sound book; whether they are the last, nobody can tell from them.
+  Result<void> load(Bytes saved) noexcept {
+    const Refusal refusal = refused(dvs_check(saved.data(), saved.size()));
+    if (refusal != Refusal::none) return refusal;
+    for (std::size_t i = 0; i < bytes_.size(); ++i) bytes_[i] = saved[i];
+    return {};
+  }
+  // Whether this is a sound book, which every call takes: a new one is not before its start.
+  Result<void> check() const noexcept { return refused(dvs_check(bytes_.data(), bytes_.size())); }
+
   // Member `own` of a group of `members`, with the first view, identifier 0, of `first`.
   Result<void> start(std::uint32_t members, Set first, Member own) noexcept {
     return refused(dvs_start(data(), size(), members, first.bits, number(own)));
@@ -112,11 +156,11 @@ class Book {
     if (refusal != Refusal::none) return refusal;
     return static_cast<std::size_t>(detail::get(length, 0, length.size()));
   }
-  // The next message of the carrier view's order.
+  // The next message of the carrier view's order, from its first on, this office's own too.
   Result<void> deliver(Bytes message, Member sender) noexcept {
     return refused(dvs_deliver(data(), size(), message.data(), message.size(), number(sender)));
   }
-  // The carrier view becomes the client view: the primary one. Refusal::test_failed: it is not to be one.
+  // The carrier view becomes the client view, this office's primary one. Refusal::test_failed: it is not to be one.
   Result<Event> attempt() noexcept {
     return with_event([this](std::uint8_t *event) { return dvs_attempt(data(), size(), event, DVS_EVENT_SIZE); });
   }
@@ -128,22 +172,24 @@ class Book {
   Result<Event> send(std::uint64_t entry) noexcept {
     return with_event([this, entry](std::uint8_t *event) { return dvs_send(data(), size(), entry, event, DVS_EVENT_SIZE); });
   }
-  // The next entry for the client.
+  // The next entry for the client. It is not final: an entry that never becomes safe may have to be withdrawn.
   Result<Event> hand() noexcept {
     return with_event([this](std::uint8_t *event) { return dvs_hand(data(), size(), event, DVS_EVENT_SIZE); });
   }
   // The others are told how many entries the client has.
   Result<void> tell() noexcept { return refused(dvs_tell(data(), size())); }
-  // The next entry that every client of the view has.
+  // The next entry that is safe: it was in the hands of every office of the view, and is final.
   Result<Event> safe() noexcept {
     return with_event([this](std::uint8_t *event) { return dvs_safe(data(), size(), event, DVS_EVENT_SIZE); });
   }
   // The carrier view, registered by all its members, becomes settled.
   Result<void> collect() noexcept { return refused(dvs_collect(data(), size())); }
 
-  BookReader look() const noexcept { return BookReader(bytes_); }
-  Bytes bytes() const noexcept { return bytes_; }
-  MutableBytes bytes() noexcept { return bytes_; }
+  // What they give lies in the book.
+  BookReader look() const & noexcept { return BookReader(bytes_); }
+  BookReader look() const && = delete;
+  Bytes bytes() const & noexcept { return bytes_; }
+  Bytes bytes() const && = delete;
 
  private:
   static Refusal refused(std::uint32_t answer) noexcept { return static_cast<Refusal>(answer); }
@@ -157,9 +203,10 @@ class Book {
   std::uint8_t *data() noexcept { return bytes_.data(); }
   std::size_t size() const noexcept { return bytes_.size(); }
 
-  std::array<std::uint8_t, DVS_BOOK_SIZE> bytes_{};
+  BookBytes bytes_{};
 };
-static_assert(sizeof(Book) == DVS_BOOK_SIZE && std::is_trivially_copyable_v<Book>, "a book is its bytes");
+static_assert(sizeof(Book) == DVS_BOOK_SIZE && std::is_standard_layout_v<Book>, "a book is its bytes");
+static_assert(!std::is_copy_constructible_v<Book> && !std::is_copy_assignable_v<Book>, "a book is not copied");
 
 // ---- the whole group
 
@@ -183,6 +230,16 @@ class Group {
     return static_cast<Refusal>(dvs_group_start(list_.data(), list_.size(), books_.data(), books_.size(), queues_.data(), queues_.size(),
                                                 members, first.bits));
   }
+  // A start, then every step in turn, each with its answer: whole records of Step::bytes, and as many of Answer::from. A refused step does not end it.
+  Result<void> run(std::uint32_t members, Set first, Bytes steps, MutableBytes answers) noexcept {
+    return static_cast<Refusal>(dvs_group_run(list_.data(), list_.size(), books_.data(), books_.size(), queues_.data(), queues_.size(),
+                                              members, first.bits, steps.data(), steps.size(), answers.data(), answers.size()));
+  }
+  // Whether the ranges are a sound group, which every step takes.
+  Result<void> check() const noexcept {
+    return static_cast<Refusal>(dvs_group_check(list_.data(), list_.size(), books_.data(), books_.size(), queues_.data(), queues_.size()));
+  }
+  Result<Event> step(Step step_) noexcept { return step(static_cast<std::uint32_t>(step_.kind), step_.first, step_.second); }
   // A step by its number (DVS_STEP_...), as the library takes it; the others name it.
   Result<Event> step(std::uint32_t kind, std::uint32_t first, std::uint64_t second = 0) noexcept {
     detail::EventBytes event{};
@@ -192,29 +249,36 @@ class Group {
     if (refusal != Refusal::none) return refusal;
     return Event::from(event);
   }
-  Result<void> create(View view) noexcept { return step(DVS_STEP_CREATE, number(view.identifier), view.set.bits).refusal(); }
-  Result<void> join(Member member, Identifier view) noexcept { return step(DVS_STEP_JOIN, number(member), number(view)).refusal(); }
-  Result<void> pass(Member member) noexcept { return step(DVS_STEP_PASS, number(member)).refusal(); }
-  Result<void> order(Member member, Identifier view) noexcept { return step(DVS_STEP_ORDER, number(member), number(view)).refusal(); }
-  Result<void> deliver(Member member) noexcept { return step(DVS_STEP_DELIVER, number(member)).refusal(); }
-  Result<Event> attempt(Member member) noexcept { return step(DVS_STEP_ATTEMPT, number(member)); }
-  Result<Event> register_view(Member member) noexcept { return step(DVS_STEP_REGISTER, number(member)); }
-  Result<Event> send(Member member, std::uint64_t entry) noexcept { return step(DVS_STEP_SEND, number(member), entry); }
-  Result<Event> hand(Member member) noexcept { return step(DVS_STEP_HAND, number(member)); }
-  Result<void> tell(Member member) noexcept { return step(DVS_STEP_TELL, number(member)).refusal(); }
-  Result<Event> safe(Member member) noexcept { return step(DVS_STEP_SAFE, number(member)); }
-  Result<void> collect(Member member) noexcept { return step(DVS_STEP_COLLECT, number(member)).refusal(); }
+  Result<void> create(View view) noexcept { return step(Step::create(view)).refusal(); }
+  Result<void> join(Member member, Identifier view) noexcept { return step(Step::join(member, view)).refusal(); }
+  Result<void> pass(Member member) noexcept { return step(Step::pass(member)).refusal(); }
+  Result<void> order(Member member, Identifier view) noexcept { return step(Step::order(member, view)).refusal(); }
+  Result<void> deliver(Member member) noexcept { return step(Step::deliver(member)).refusal(); }
+  Result<Event> attempt(Member member) noexcept { return step(Step::attempt(member)); }
+  Result<Event> register_view(Member member) noexcept { return step(Step::register_view(member)); }
+  Result<Event> send(Member member, std::uint64_t entry) noexcept { return step(Step::send(member, entry)); }
+  Result<Event> hand(Member member) noexcept { return step(Step::hand(member)); }
+  Result<void> tell(Member member) noexcept { return step(Step::tell(member)).refusal(); }
+  Result<Event> safe(Member member) noexcept { return step(Step::safe(member)); }
+  Result<void> collect(Member member) noexcept { return step(Step::collect(member)).refusal(); }
 
   // The book of a member 0 to 7.
   BookReader look(Member member) const noexcept {
     const std::size_t at = DVS_BOOK_SIZE * std::size_t{number(member)};
     return BookReader(at + DVS_BOOK_SIZE <= books_.size() ? Bytes(books_.data() + at, DVS_BOOK_SIZE) : Bytes());
   }
+  // How many views were made, and of the one at a place of the list how many messages its order has and how many of a member wait.
+  unsigned made() const noexcept { return detail::byte(queues_, DVS_QUEUES_MADE); }
+  unsigned ordered(std::size_t place) const noexcept { return detail::byte(queues_, DVS_QUEUES_ORDER(place)); }
+  unsigned waiting(std::size_t place, Member member) const noexcept {
+    return number(member) < DVS_MEMBERS ? detail::byte(queues_, DVS_QUEUES_WAITING(place, number(member))) : 0u;
+  }
 
  private:
   MutableBytes list_, books_, queues_;
 };
 
+}  // namespace DVS_INLINE_NAMESPACE
 }  // namespace dvs
 
 #endif

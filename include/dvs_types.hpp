@@ -4,6 +4,10 @@
 #ifndef DVS_TYPES_HPP
 #define DVS_TYPES_HPP
 
+#if !defined(__cplusplus) || (__cplusplus < 201703L && !(defined(_MSVC_LANG) && _MSVC_LANG >= 201703L))
+#error "dvs.hpp and dvs_types.hpp need C++17 or newer; dvs.h is for C and for older C++"
+#endif
+
 #include "dvs.h"
 
 #include <array>
@@ -20,7 +24,15 @@
 #include <span>
 #endif
 
+// The types differ with std::span, so each sort has a namespace of its own: parts of a program compiled with it and without it link, and do not mix.
+#ifdef __cpp_lib_span
+#define DVS_INLINE_NAMESPACE cpp20
+#else
+#define DVS_INLINE_NAMESPACE cpp17
+#endif
+
 namespace dvs {
+inline namespace DVS_INLINE_NAMESPACE {
 
 // ---- ranges of bytes
 
@@ -54,7 +66,7 @@ using MutableBytes = Range<std::uint8_t>;
 
 // ---- refusals and results
 
-// Why a call was refused. docs/REFUSALS.md has a section for each.
+// Why a call was refused. docs/REFUSALS.md has a section for each. Later versions may have more: a switch needs a default.
 enum class Refusal : std::uint32_t {
   none = DVS_ACCEPTED,
   members_out_of_range = DVS_REFUSED_MEMBERS_OUT_OF_RANGE,
@@ -155,7 +167,8 @@ constexpr const char *text(Refusal refusal) noexcept {
   return "no refusal of this library";
 }
 
-// What a call gives: a value, or the refusal in its place. The value of a refused call is T{}.
+// What a call gives: a value, or the refusal in its place. The value of a refused call is T{}. A Result without a name gives its value away and has no
+// arrow, so that nothing can point into it once it is gone.
 template <class T>
 class [[nodiscard]] Result {
  public:
@@ -165,9 +178,12 @@ class [[nodiscard]] Result {
   constexpr bool accepted() const noexcept { return refusal_ == Refusal::none; }
   constexpr explicit operator bool() const noexcept { return accepted(); }
   constexpr Refusal refusal() const noexcept { return refusal_; }
-  constexpr const T &value() const noexcept { return value_; }
-  constexpr const T &operator*() const noexcept { return value_; }
-  constexpr const T *operator->() const noexcept { return &value_; }
+  constexpr const T &value() const & noexcept { return value_; }
+  constexpr T value() && noexcept { return value_; }
+  constexpr const T &operator*() const & noexcept { return value_; }
+  constexpr T operator*() && noexcept { return value_; }
+  constexpr const T *operator->() const & noexcept { return &value_; }
+  const T *operator->() const && = delete;
 
  private:
   Refusal refusal_ = Refusal::none;
@@ -197,35 +213,69 @@ enum class Identifier : std::uint32_t {};
 constexpr std::uint32_t number(Member member) noexcept { return static_cast<std::uint32_t>(member); }
 constexpr std::uint32_t number(Identifier identifier) noexcept { return static_cast<std::uint32_t>(identifier); }
 
-// A set of members, bit 0 for member 0.
+// A set of members, bit 0 for member 0. It is as wide as the calls take it: a member of 8 and above stays in it, all of 31 and above as 31, and every
+// call refuses such a set.
 struct Set {
-  std::uint8_t bits = 0;
+  static constexpr std::uint32_t kLast = 31;
+  std::uint32_t bits = 0;
 
   constexpr Set() noexcept = default;
-  constexpr explicit Set(std::uint8_t members) noexcept : bits(members) {}
+  constexpr explicit Set(std::uint32_t members) noexcept : bits(members) {}
   constexpr Set(std::initializer_list<Member> members) noexcept {
     for (Member member : members) *this = with(member);
   }
   // The members 0 to `members` - 1.
-  static constexpr Set below(std::uint32_t members) noexcept {
-    return Set(static_cast<std::uint8_t>(members < DVS_MEMBERS ? (1u << members) - 1u : 0xFFu));
-  }
+  static constexpr Set below(std::uint32_t members) noexcept { return Set(members <= kLast ? (1u << members) - 1u : 0xFFFFFFFFu); }
 
-  constexpr Set with(Member member) const noexcept {
-    return number(member) < DVS_MEMBERS ? Set(static_cast<std::uint8_t>(bits | 1u << number(member))) : *this;
-  }
-  constexpr bool has(Member member) const noexcept { return number(member) < DVS_MEMBERS && (bits >> number(member) & 1u) != 0; }
+  constexpr Set with(Member member) const noexcept { return Set(bits | 1u << (number(member) < kLast ? number(member) : kLast)); }
+  constexpr bool has(Member member) const noexcept { return number(member) <= kLast && (bits >> number(member) & 1u) != 0; }
   constexpr bool empty() const noexcept { return bits == 0; }
   constexpr unsigned count() const noexcept {
     unsigned members = 0;
-    for (unsigned rest = bits; rest != 0; rest >>= 1u) members += rest & 1u;
+    for (std::uint32_t rest = bits; rest != 0; rest >>= 1u) members += rest & 1u;
     return members;
   }
+
+  // The members, rising: for (dvs::Member member : set).
+  class Iterator {
+   public:
+    using iterator_category = std::forward_iterator_tag;
+    using value_type = Member;
+    using difference_type = std::ptrdiff_t;
+    using pointer = const Member *;
+    using reference = Member;
+
+    constexpr Iterator() noexcept = default;
+    constexpr explicit Iterator(std::uint32_t rest) noexcept : rest_(rest) {}
+    constexpr Member operator*() const noexcept {
+      std::uint32_t member = 0;
+      while ((rest_ >> member & 1u) == 0) ++member;
+      return Member{member};
+    }
+    constexpr Iterator &operator++() noexcept {
+      rest_ &= rest_ - 1u;
+      return *this;
+    }
+    constexpr Iterator operator++(int) noexcept {
+      const Iterator before = *this;
+      ++*this;
+      return before;
+    }
+    friend constexpr bool operator==(Iterator a, Iterator b) noexcept { return a.rest_ == b.rest_; }
+    friend constexpr bool operator!=(Iterator a, Iterator b) noexcept { return a.rest_ != b.rest_; }
+
+   private:
+    std::uint32_t rest_ = 0;
+  };
+  constexpr Iterator begin() const noexcept { return Iterator(bits); }
+  constexpr Iterator end() const noexcept { return Iterator(); }
 };
 constexpr bool operator==(Set a, Set b) noexcept { return a.bits == b.bits; }
 constexpr bool operator!=(Set a, Set b) noexcept { return a.bits != b.bits; }
-constexpr Set operator&(Set a, Set b) noexcept { return Set(static_cast<std::uint8_t>(a.bits & b.bits)); }
-constexpr Set operator|(Set a, Set b) noexcept { return Set(static_cast<std::uint8_t>(a.bits | b.bits)); }
+constexpr Set operator&(Set a, Set b) noexcept { return Set(a.bits & b.bits); }
+constexpr Set operator|(Set a, Set b) noexcept { return Set(a.bits | b.bits); }
+// Those of a that are not in b.
+constexpr Set operator-(Set a, Set b) noexcept { return Set(a.bits & ~b.bits); }
 
 struct View {
   Identifier identifier{};
@@ -253,6 +303,13 @@ class ViewList {
   std::array<View, DVS_VIEWS> places_{};
   std::size_t size_ = 0;
 };
+constexpr bool operator==(const ViewList &a, const ViewList &b) noexcept {
+  if (a.size() != b.size()) return false;
+  for (std::size_t i = 0; i < a.size(); ++i)
+    if (a[i] != b[i]) return false;
+  return true;
+}
+constexpr bool operator!=(const ViewList &a, const ViewList &b) noexcept { return !(a == b); }
 
 // ---- numbers in bytes: big-endian; what lies beyond the end reads as 0
 
@@ -271,8 +328,11 @@ constexpr void put(MutableBytes bytes, std::size_t at, std::size_t width, std::u
 constexpr std::uint8_t byte(Bytes bytes, std::size_t at) noexcept { return static_cast<std::uint8_t>(get(bytes, at, 1)); }
 
 constexpr View view(Bytes bytes, std::size_t at) noexcept {
-  return {static_cast<Identifier>(get(bytes, at, 4)), Set(byte(bytes, at + 4))};
+  return {static_cast<Identifier>(get(bytes, at + DVS_VIEW_IDENTIFIER, 4)), Set(byte(bytes, at + DVS_VIEW_SET))};
 }
+
+// A set in its byte; one that no byte holds goes as the empty set, which is refused too.
+constexpr std::uint8_t set_byte(Set set) noexcept { return static_cast<std::uint8_t>(set.bits <= 0xFFu ? set.bits : 0u); }
 
 using EventBytes = std::array<std::uint8_t, DVS_EVENT_SIZE>;
 using LengthBytes = std::array<std::uint8_t, DVS_LENGTH_SIZE>;
@@ -281,6 +341,7 @@ using LengthBytes = std::array<std::uint8_t, DVS_LENGTH_SIZE>;
 
 // ---- events
 
+// Later versions may have more: a switch needs a default.
 enum class EventKind : std::uint8_t {
   none = 0,
   attempted = DVS_STEP_ATTEMPT,
@@ -308,9 +369,80 @@ struct Event {
             detail::get(bytes, DVS_EVENT_ENTRY, 8)};
   }
 };
+constexpr bool operator==(const Event &a, const Event &b) noexcept {
+  return a.kind == b.kind && a.member == b.member && a.view == b.view && a.set == b.set && a.sender == b.sender && a.entry == b.entry;
+}
+constexpr bool operator!=(const Event &a, const Event &b) noexcept { return !(a == b); }
+
+// ---- steps of a group, and the answers of a run
+
+enum class StepKind : std::uint8_t {
+  create = DVS_STEP_CREATE,
+  join = DVS_STEP_JOIN,
+  pass = DVS_STEP_PASS,
+  order = DVS_STEP_ORDER,
+  deliver = DVS_STEP_DELIVER,
+  attempt = DVS_STEP_ATTEMPT,
+  register_view = DVS_STEP_REGISTER,
+  send = DVS_STEP_SEND,
+  hand = DVS_STEP_HAND,
+  tell = DVS_STEP_TELL,
+  safe = DVS_STEP_SAFE,
+  collect = DVS_STEP_COLLECT,
+};
+
+// A step with its operands, 0 for those it does not have; the functions make each kind from what it is about.
+struct Step {
+  StepKind kind{};
+  std::uint32_t first = 0;    // create: the identifier; the others: the member
+  std::uint64_t second = 0;   // create: the set; join, order: the identifier; send: the entry number
+
+  static constexpr Step create(View view) noexcept { return {StepKind::create, number(view.identifier), view.set.bits}; }
+  static constexpr Step join(Member member, Identifier view) noexcept { return {StepKind::join, number(member), number(view)}; }
+  static constexpr Step pass(Member member) noexcept { return {StepKind::pass, number(member), 0}; }
+  static constexpr Step order(Member member, Identifier view) noexcept { return {StepKind::order, number(member), number(view)}; }
+  static constexpr Step deliver(Member member) noexcept { return {StepKind::deliver, number(member), 0}; }
+  static constexpr Step attempt(Member member) noexcept { return {StepKind::attempt, number(member), 0}; }
+  static constexpr Step register_view(Member member) noexcept { return {StepKind::register_view, number(member), 0}; }
+  static constexpr Step send(Member member, std::uint64_t entry) noexcept { return {StepKind::send, number(member), entry}; }
+  static constexpr Step hand(Member member) noexcept { return {StepKind::hand, number(member), 0}; }
+  static constexpr Step tell(Member member) noexcept { return {StepKind::tell, number(member), 0}; }
+  static constexpr Step safe(Member member) noexcept { return {StepKind::safe, number(member), 0}; }
+  static constexpr Step collect(Member member) noexcept { return {StepKind::collect, number(member), 0}; }
+
+  // Its record in a run.
+  static constexpr Step from(Bytes bytes) noexcept {
+    return {static_cast<StepKind>(detail::byte(bytes, DVS_STEP_KIND)), static_cast<std::uint32_t>(detail::get(bytes, DVS_STEP_FIRST, 4)),
+            detail::get(bytes, DVS_STEP_SECOND, 8)};
+  }
+  constexpr std::array<std::uint8_t, DVS_STEP_SIZE> bytes() const noexcept {
+    std::array<std::uint8_t, DVS_STEP_SIZE> record{};
+    record[DVS_STEP_KIND] = static_cast<std::uint8_t>(kind);
+    detail::put(record, DVS_STEP_FIRST, 4, first);
+    detail::put(record, DVS_STEP_SECOND, 8, second);
+    return record;
+  }
+};
+constexpr bool operator==(const Step &a, const Step &b) noexcept { return a.kind == b.kind && a.first == b.first && a.second == b.second; }
+constexpr bool operator!=(const Step &a, const Step &b) noexcept { return !(a == b); }
+
+// What a run answered to a step.
+struct Answer {
+  Refusal refusal = Refusal::none;
+  Event event{};
+
+  static constexpr Answer from(Bytes bytes) noexcept {
+    const bool whole = bytes.size() >= DVS_ANSWER_SIZE;
+    return {static_cast<Refusal>(detail::byte(bytes, DVS_ANSWER_NUMBER)),
+            Event::from(whole ? Bytes(bytes.data() + DVS_ANSWER_EVENT, DVS_EVENT_SIZE) : Bytes())};
+  }
+};
+constexpr bool operator==(const Answer &a, const Answer &b) noexcept { return a.refusal == b.refusal && a.event == b.event; }
+constexpr bool operator!=(const Answer &a, const Answer &b) noexcept { return !(a == b); }
 
 // ---- messages
 
+// Later versions may have more: a switch needs a default.
 enum class MessageKind : std::uint8_t { client = DVS_CLIENT, info = DVS_INFO, registered = DVS_REGISTERED, told = DVS_TOLD };
 
 // The message's record, as the library lays it out.
@@ -339,20 +471,33 @@ struct Message {
     bytes[DVS_MESSAGE_COUNT] = static_cast<std::uint8_t>(views.size());
     for (std::size_t i = 0; i < views.size(); ++i) {
       detail::put(bytes, DVS_MESSAGE_VIEWS + DVS_VIEW_SIZE * i, 4, dvs::number(views[i].identifier));
-      bytes[DVS_MESSAGE_VIEWS + DVS_VIEW_SIZE * i + 4] = views[i].set.bits;
+      bytes[DVS_MESSAGE_VIEWS + DVS_VIEW_SIZE * i + DVS_VIEW_SET] = detail::set_byte(views[i].set);
     }
     return bytes;
   }
 };
+constexpr bool operator==(const Message &a, const Message &b) noexcept {
+  return a.kind == b.kind && a.view == b.view && a.number == b.number && a.views == b.views;
+}
+constexpr bool operator!=(const Message &a, const Message &b) noexcept { return !(a == b); }
 
-// A message's bytes as they go over the line.
+// A message's bytes as they go over the line. What bytes() gives lies in it, so it has to have a name: auto message = book.pass(); message->bytes().
 struct MessageBytes {
   std::array<std::uint8_t, DVS_LONGEST> places{};
   std::size_t length = 0;
 
-  constexpr Bytes bytes() const noexcept { return {places.data(), length}; }
+  constexpr Bytes bytes() const & noexcept { return {places.data(), length}; }
+  Bytes bytes() const && = delete;
 };
+constexpr bool operator==(const MessageBytes &a, const MessageBytes &b) noexcept {
+  if (a.length != b.length) return false;
+  for (std::size_t i = 0; i < a.length && i < DVS_LONGEST; ++i)
+    if (a.places[i] != b.places[i]) return false;
+  return true;
+}
+constexpr bool operator!=(const MessageBytes &a, const MessageBytes &b) noexcept { return !(a == b); }
 
+}  // namespace DVS_INLINE_NAMESPACE
 }  // namespace dvs
 
 #endif

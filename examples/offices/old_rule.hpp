@@ -29,18 +29,22 @@ inline dvs::Result<dvs::Event> attempt(dvs::Book &book) {
   const std::optional<dvs::View> passing = first_passing(book.look(), book.look().carrier()->set);
   if (!passing) return answer;
 
-  const dvs::Book before = book;
-  const dvs::MutableBytes bytes = book.bytes();
-  const auto copy = [](dvs::Bytes from, std::size_t at, std::size_t end, dvs::MutableBytes to, std::size_t place) {
-    std::copy(from.data() + at, from.data() + end, to.data() + place);
+  const dvs::BookBytes before = book.save();
+  const dvs::ViewList open = book.look().open();
+  const auto copy = [&before](std::size_t at, std::size_t end, dvs::BookBytes &to, std::size_t place) {
+    std::copy(before.data() + at, before.data() + end, to.data() + place);
   };
-  for (std::size_t i = 0; i < before.look().open().size(); ++i)
-    if (before.look().open()[i] == *passing) copy(before.bytes(), kOpen + DVS_VIEW_SIZE * i, kOpen + DVS_VIEW_SIZE * (i + 1), bytes, kSettled);
+  dvs::BookBytes bytes = before;
+  for (std::size_t i = 0; i < open.size(); ++i)
+    if (open[i] == *passing) copy(kOpen + DVS_VIEW_SIZE * i, kOpen + DVS_VIEW_SIZE * (i + 1), bytes, kSettled);
   bytes[kOpenCount] = 0;
+  if (auto loaded = book.load(bytes); !loaded) return loaded.refusal();
   const dvs::Result<dvs::Event> event = book.attempt();
-  copy(before.bytes(), kSettled, kSettled + DVS_VIEW_SIZE, bytes, kSettled);
-  copy(before.bytes(), kOpenCount, kOpenEnd, bytes, kOpenCount);
-  copy(before.bytes(), kCarrier, kCarrier + DVS_VIEW_SIZE, bytes, kOpen + DVS_VIEW_SIZE * bytes[kOpenCount]++);
+  bytes = book.save();
+  copy(kSettled, kSettled + DVS_VIEW_SIZE, bytes, kSettled);
+  copy(kOpenCount, kOpenEnd, bytes, kOpenCount);
+  copy(kCarrier, kCarrier + DVS_VIEW_SIZE, bytes, kOpen + DVS_VIEW_SIZE * bytes[kOpenCount]++);
+  if (auto loaded = book.load(bytes); !loaded) return loaded.refusal();
   return event;
 }
 

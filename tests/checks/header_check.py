@@ -2,23 +2,36 @@
 """header_check.py: holds include/dvs.h to the Rattle sources.
 
 It compares every constant, length, place and refusal number of the header, and the name and parameter list of every exported function, with
-crates/*/src. It prints each difference and exits with 1 where there is one."""
+crates/*/src, and the version with the Makefile's. It prints each difference and exits with 1 where there is one."""
 import re
 import sys
 
 from sources import ROOT, constants, source
 
 WIDTHS = {'u8': 'uint8_t', 'u32': 'uint32_t', 'u64': 'uint64_t'}
-BOOK_PLACES = ('MEMBERS', 'SELF', 'SETTLED', 'CARRIER', 'CLIENT', 'REGISTERED', 'HANDED', 'TOLD', 'REPORTED', 'TAKEN', 'OPENS', 'OUTGOING')
+BOOK_PLACES = ('MEMBERS', 'SELF', 'SETTLED', 'CARRIER', 'CLIENT', 'REGISTERED', 'HANDED', 'TOLD', 'REPORTED', 'TAKEN', 'INFOS',
+               'REGISTRATIONS', 'TOLDS', 'OPENS', 'OUTGOING')
+RANGES = ('BOOK', 'EVENT', 'LENGTH', 'MESSAGE', 'BUFFER', 'LIST', 'BOOKS', 'QUEUES', 'STEP', 'ANSWER')
 faults = []
 
 
-def found(pattern, text, where):
-    """The first group of the one match of a pattern."""
-    matches = re.findall(pattern, text)
+def found(pattern, text, where, flags=0):
+    """The groups of the one match of a pattern."""
+    matches = re.findall(pattern, text, flags)
     if len(matches) != 1:
         sys.exit('%s: %d matches of %s, where this program looks for one' % (where, len(matches), pattern))
     return matches[0]
+
+
+def version():
+    """The version of the Makefile as one number, which the library's source and definition have too."""
+    major, minor, patch = map(int, found(r'^VERSION := (\d+)\.(\d+)\.(\d+)$', (ROOT / 'Makefile').read_text(), 'Makefile', re.M))
+    number = 10000 * major + 100 * minor + patch
+    defined = int(found(r'^version = (\d+)$', source('dvs/specs/Library.antt'), 'Library.antt', re.M))
+    for where, given in ('crates/dvs/src/library.rt', constants('dvs/src/library.rt')['VERSION']), ('crates/dvs/specs/Library.antt', defined):
+        if given != number:
+            faults.append('%s has the version %d, the Makefile %d' % (where, given, number))
+    return number
 
 
 def screaming(name):
@@ -28,17 +41,26 @@ def screaming(name):
 def expected_constants():
     """What the header has to define, by the sources: names to numbers, or to the text of a macro's body."""
     limits, books, groups = constants('views/src/limits.rt'), constants('book_bytes/src/lib.rt'), constants('group_bytes/src/lib.rt')
+    library, run, sizes = constants('dvs/src/library.rt'), constants('group_run/src/lib.rt'), constants('views/src/sizes.rt')
     answers, messages, kinds = constants('c_answers/src/lib.rt'), constants('wire/src/record.rt'), constants('wire/src/format.rt')
     wanted = {'DVS_' + name: limits[name] for name in ('MEMBERS', 'VIEWS', 'OPEN', 'OUTGOING', 'WAITING', 'ORDERED', 'LONGEST')}
     wanted.update(DVS_BOOK_SIZE=books['SIZE'], DVS_EVENT_SIZE=answers['EVENT'], DVS_LENGTH_SIZE=answers['LENGTH'],
                   DVS_MESSAGE_SIZE=messages['RECORD'], DVS_VIEW_SIZE=groups['VIEW'], DVS_BOOKS_SIZE=groups['BOOKS'])
     wanted['DVS_LIST_SIZE(views)'] = '(DVS_VIEW_SIZE * DVS_COUNT(views))'
     wanted['DVS_QUEUES_SIZE(views)'] = '(%du + %du * DVS_COUNT(views))' % (groups['HEAD'], groups['TABLE'])
+    wanted['DVS_QUEUES_ORDER(i)'] = '(%du + %du * DVS_COUNT(i))' % (groups['HEAD'], groups['TABLE'])
+    waiting = groups['HEAD'] + groups['ORDER'], groups['TABLE'], groups['WAITING']
+    wanted['DVS_QUEUES_WAITING(i, p)'] = '(%du + %du * DVS_COUNT(i) + %du * DVS_COUNT(p))' % waiting
     wanted['DVS_COUNT(views)'] = '((size_t)(views))'  # as C has it, the last of the two
     wanted.update({'DVS_BOOK_' + name: books[name] for name in BOOK_PLACES})
+    wanted.update({'DVS_SIZE_' + name: library[name] for name in RANGES}, DVS_VERSION=version(), DVS_QUEUES_MADE=groups['MADE'])
+    wanted.update(DVS_VIEW_IDENTIFIER=0, DVS_VIEW_SET=sizes['IDENTIFIER'])
+    # a run's records: the kind and the number stand first
+    wanted.update(DVS_STEP_SIZE=run['STEP'], DVS_STEP_KIND=0, DVS_STEP_FIRST=run['FIRST'], DVS_STEP_SECOND=run['SECOND'],
+                  DVS_ANSWER_SIZE=run['ANSWER'], DVS_ANSWER_NUMBER=0, DVS_ANSWER_EVENT=run['SHOWN'])
     # the places in an event and in a message's record
     wanted.update({'DVS_EVENT_' + name: answers[name] for name in ('KIND', 'MEMBER', 'VIEW', 'SENDER', 'ENTRY')})
-    wanted['DVS_EVENT_SET'] = answers['VIEW'] + constants('views/src/sizes.rt')['IDENTIFIER']
+    wanted['DVS_EVENT_SET'] = answers['VIEW'] + sizes['IDENTIFIER']
     wanted.update({'DVS_MESSAGE_' + name: messages[name] for name in ('KIND', 'VIEW', 'NUMBER', 'COUNT', 'VIEWS')})
     wanted.update({'DVS_' + name: kinds[name] for name in ('CLIENT', 'INFO', 'REGISTERED', 'TOLD')})
     # the steps, by the kinds of the dispatcher's arms; the refusals, by their numbers
@@ -58,7 +80,7 @@ def expected_constants():
 
 def given_constants(text):
     given = {}
-    for name, body in re.findall(r'^#define (DVS_\w+(?:\(\w+\))?)[ \t]+(\S.*?)[ \t]*$', text, flags=re.M):
+    for name, body in re.findall(r'^#define (DVS_\w+(?:\([\w, ]+\))?)[ \t]+(\S.*?)[ \t]*$', text, flags=re.M):
         number = re.fullmatch(r'(\d+)u', body)
         given[name] = int(number.group(1)) if number else body
     return given
@@ -68,7 +90,7 @@ def expected_functions():
     """The exported functions as C has them: a range is a pointer and its length."""
     functions = {}
     for path in sorted((ROOT / 'crates').glob('*/src/**/*.rt')):
-        for name, parameters, result in re.findall(r'pub extern "C" fn (\w+)\(([^)]*)\) -> (\w+)', path.read_text()):
+        for name, parameters, result in re.findall(r'pub extern "C" fn (\w+)\(([^)]*)\)\s*-> (\w+)', path.read_text()):
             listed = []
             for parameter in filter(None, (p.strip() for p in parameters.split(','))):
                 own, kind = (part.strip() for part in parameter.split(':'))
@@ -76,7 +98,7 @@ def expected_functions():
                     listed += ['%suint8_t *%s' % ('' if 'mut' in kind else 'const ', own), 'size_t %s_size' % own]
                 else:
                     listed.append('%s %s' % (WIDTHS[kind], own))
-            functions[name] = '%s %s(%s)' % (WIDTHS[result], name, ', '.join(listed))
+            functions[name] = '%s %s(%s)' % (WIDTHS[result], name, ', '.join(listed) or 'void')
     return functions
 
 

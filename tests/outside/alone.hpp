@@ -99,6 +99,11 @@ class Alone {
   Refusal tell() { return change([&] { return m_.tell(); }); }
   Refusal safe(Range event) { return show(event, [&](Event& e) { return m_.safe(e); }); }
   Refusal collect() { return change([&] { return m_.collect(); }); }
+
+  Refusal check() {
+    if (book_.size != kBookSize || !load(book_.at, m_)) return kRecordsUnsound;
+    return m_.admit();
+  }
 };
 
 }  // namespace plain

@@ -48,6 +48,7 @@ class Calls {
   Tally& tally;
   // What calls are lent besides books and a group's ranges. Their contents are whatever the last call left.
   Lent event{"event", 64}, buffer{"buffer", 512}, length{"length", 16}, bytes{"bytes", 1024}, record{"message", 256};
+  Lent steps{"steps", 4096}, answers{"answers", 8192};
 
   explicit Calls(Tally& t) : tally(t) { usual(); }
 
@@ -55,7 +56,8 @@ class Calls {
   void usual() {
     event.resize(DVS_EVENT_SIZE, kBack), length.resize(DVS_LENGTH_SIZE, kBack), bytes.resize(0, kBack);
     buffer.resize(DVS_LONGEST, kBack), record.resize(DVS_MESSAGE_SIZE, kBack);
-    for (Lent* lent : {&event, &length, &buffer, &record}) lent->copy_to_theirs();
+    steps.resize(2 * DVS_STEP_SIZE, kBack), answers.resize(2 * DVS_ANSWER_SIZE, kBack);
+    for (Lent* lent : {&event, &length, &buffer, &record, &steps, &answers}) lent->copy_to_theirs();
   }
 
   uint32_t start(Lent& book, uint32_t members, uint32_t first_set, uint32_t own) {
@@ -114,6 +116,11 @@ class Calls {
                 [&] { return plain::Alone(book.range()).collect(); });
   }
 
+  uint32_t check(Lent& book) {
+    return both(kFnCheck, {&book}, {}, [&] { return dvs_check(book.theirs(), book.size()); },
+                [&] { return plain::Alone(book.range()).check(); });
+  }
+
   uint32_t read() {
     return both(kFnRead, {&bytes, &record}, {},
                 [&] { return dvs_read(bytes.theirs(), bytes.size(), record.theirs(), record.size()); },
@@ -136,6 +143,26 @@ class Calls {
                 },
                 [&] { return plain::Group(list.range(), books.range(), queues.range()).start(members, first_set); });
   }
+  uint32_t group_run(Lent& list, Lent& books, Lent& queues, uint32_t members, uint32_t first_set) {
+    return both(kFnGroupRun, {&list, &books, &queues, &steps, &answers}, {members, first_set},
+                [&] {
+                  return dvs_group_run(list.theirs(), list.size(), books.theirs(), books.size(), queues.theirs(),
+                                       queues.size(), members, first_set, steps.theirs(), steps.size(), answers.theirs(),
+                                       answers.size());
+                },
+                [&] {
+                  return plain::Group(list.range(), books.range(), queues.range())
+                      .run(members, first_set, steps.range(), answers.range());
+                });
+  }
+  uint32_t group_check(Lent& list, Lent& books, Lent& queues) {
+    return both(kFnGroupCheck, {&list, &books, &queues}, {},
+                [&] {
+                  return dvs_group_check(list.theirs(), list.size(), books.theirs(), books.size(), queues.theirs(),
+                                         queues.size());
+                },
+                [&] { return plain::Group(list.range(), books.range(), queues.range()).check(); });
+  }
   uint32_t group_step(Lent& list, Lent& books, Lent& queues, uint32_t kind, uint32_t first, uint64_t second) {
     auto f = static_cast<Function>(kFnStepOther + (kind >= 1 && kind <= 12 ? kind : 0));
     return both(f, {&list, &books, &queues, &event}, {kind, first, second},
@@ -148,5 +175,26 @@ class Calls {
                 });
   }
 };
+
+// What the library says of itself, beside the header's macros. False on a difference.
+inline bool library_agrees() {
+  if (dvs_version() != DVS_VERSION) return printf("DIFFERENCE in dvs_version: %" PRIu32 "\n", dvs_version()), false;
+  for (uint32_t range = 0; range <= 300; ++range) {
+    for (uint64_t views = 0; views <= 300; ++views) {
+      bool some = views >= 1 && views <= plain::kViews;
+      uint64_t sizes[] = {0, DVS_BOOK_SIZE, DVS_EVENT_SIZE, DVS_LENGTH_SIZE, DVS_MESSAGE_SIZE, DVS_LONGEST,
+                          some ? DVS_LIST_SIZE(views) : 0, DVS_BOOKS_SIZE, some ? DVS_QUEUES_SIZE(views) : 0,
+                          DVS_STEP_SIZE, DVS_ANSWER_SIZE};
+      // The last views beyond 32 bits' half and whole, so that none is taken for a smaller number.
+      uint32_t given = views < 298 ? static_cast<uint32_t>(views) : UINT32_MAX - static_cast<uint32_t>(300 - views);
+      uint32_t asked = range < 298 ? range : 0x80000000u + (range - 298);
+      uint64_t expected = asked < sizeof sizes / sizeof sizes[0] ? sizes[asked] : 0, size = dvs_size(asked, given);
+      if (size == expected) continue;
+      printf("DIFFERENCE in dvs_size %" PRIu32 " %" PRIu32 ": %" PRIu64 ", expected %" PRIu64 "\n", asked, given, size, expected);
+      return false;
+    }
+  }
+  return true;
+}
 
 }  // namespace outside

@@ -28,7 +28,7 @@ class Edges {
 
   void all_calls() {
     c_.join(book_, 1, 3), c_.pass(book_), c_.deliver(book_, 0), c_.attempt(book_), c_.enroll(book_), c_.send(book_, 5);
-    c_.hand(book_), c_.tell(book_), c_.safe(book_), c_.collect(book_);
+    c_.hand(book_), c_.tell(book_), c_.safe(book_), c_.collect(book_), c_.check(book_);
   }
 
   void book_lengths() {
@@ -100,7 +100,9 @@ class Edges {
     auto calls = [&] {
       c_.group_step(list_, books_, queues_, plain::kSend, 0, 5), c_.group_step(list_, books_, queues_, 13, 255, 0);
       c_.group_start(list_, books_, queues_, 2, 3), c_.group_start(list_, books_, queues_, 9, 0);
-      c_.group_start(list_, books_, queues_, 2, 4);
+      c_.group_start(list_, books_, queues_, 2, 4), c_.group_check(list_, books_, queues_);
+      c_.group_run(list_, books_, queues_, 9, 0), c_.group_run(list_, books_, queues_, 2, 4);
+      c_.group_run(list_, books_, queues_, 2, 3), c_.group_check(list_, books_, queues_);
     };
     auto fresh = [&] { lend(10, plain::kBooksSize, plain::queues_size(2)), c_.group_start(list_, books_, queues_, 2, 3); };
     for (size_t list = 0; list <= 5 * 36; ++list) {
@@ -123,6 +125,20 @@ class Edges {
     c_.usual();
   }
 
+  // Every length of the steps with every length of the answers: only whole records, as many of each, are taken.
+  void run_lengths() {
+    cut(list_, 10, false), cut(books_, plain::kBooksSize, false), cut(queues_, plain::queues_size(2), false);
+    for (size_t i = 0; i < 5; ++i) plain::put_step(c_.steps.mine() + plain::kStepSize * i, {plain::kSend, 0, i});
+    for (size_t steps = 0; steps <= 4 * plain::kStepSize; ++steps)
+      for (size_t answers = 0; answers <= 4 * plain::kAnswerSize; ++answers) {
+        cut(c_.steps, steps, true), cut(c_.answers, answers, true);
+        c_.group_run(list_, books_, queues_, 2, steps % 2 ? 0 : 3);
+      }
+    for (uint32_t members : kWords)
+      for (uint32_t set : kWords) c_.group_run(list_, books_, queues_, members, set);
+    c_.usual();
+  }
+
   void group_numbers() {
     cut(list_, 10, false), cut(books_, plain::kBooksSize, false), cut(queues_, plain::queues_size(2), false);
     for (uint32_t members : kWords)
@@ -139,7 +155,7 @@ class Edges {
 
  public:
   explicit Edges(Calls& c) : c_(c) {
-    for (Lent* lent : {&book_, &list_, &books_, &c_.event, &c_.length, &c_.bytes, &c_.buffer, &c_.record}) {
+    for (Lent* lent : {&book_, &list_, &books_, &c_.event, &c_.length, &c_.bytes, &c_.buffer, &c_.record, &c_.answers}) {
       uint8_t noise[64];
       r_.fill(noise, sizeof noise);
       memcpy(lent->mine(), noise, lent == &c_.length ? 16 : 64);
@@ -148,7 +164,7 @@ class Edges {
 
   void run() {
     c_.usual();
-    book_lengths(), other_lengths(), numbers(), group_lengths(), group_numbers();
+    book_lengths(), other_lengths(), numbers(), group_lengths(), run_lengths(), group_numbers();
   }
 };
 

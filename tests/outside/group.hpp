@@ -163,6 +163,22 @@ class Group {
     if (r == kAccepted) e.store(event.at);
     return r;
   }
+
+  // A start, then every step with its answer: its number, and its event or 16 times 0.
+  Refusal run(uint32_t members, uint32_t first_set, Range steps, Range answers) {
+    size_t count = steps.size / kStepSize;
+    if (steps.size != count * kStepSize || answers.size != count * kAnswerSize) return kRecordsUnsound;
+    if (Refusal r = start(members, first_set)) return r;
+    for (size_t i = 0; i < count; ++i) {
+      StepRecord asked = get_step(steps.at + kStepSize * i);
+      uint8_t* answer = answers.at + kAnswerSize * i;
+      memset(answer, 0, kAnswerSize);
+      answer[0] = static_cast<uint8_t>(step(asked.kind, asked.first, asked.second, Range{answer + 1, kEventSize}));
+    }
+    return kAccepted;
+  }
+
+  Refusal check() { return sound() ? kAccepted : kRecordsUnsound; }
 };
 
 }  // namespace plain

@@ -16,6 +16,7 @@ class GroupCases {
   Lent list_{"list", 256}, books_{"books", plain::kBooksSize, false};
   Lent queues_{"queues", plain::queues_size(plain::kViews), false};
   std::unique_ptr<reference::Group> third_ = std::make_unique<reference::Group>();
+  unsigned calls_ = 0;
   bool clean_ = false;  // whether the third implementation has made the same steps
 
   size_t room() const { return list_.size() / plain::kViewSize; }
@@ -48,6 +49,7 @@ class GroupCases {
   }
 
   uint32_t call(uint32_t kind, uint32_t first, uint64_t second) {
+    if (++calls_ % 4 == 0) c_.group_check(list_, books_, queues_);
     uint32_t answer = c_.group_step(list_, books_, queues_, kind, first, second);
     if (!clean_ || kind > 255) return answer;
     reference::Reply reply = third_->step(static_cast<uint8_t>(kind), first, second);
@@ -195,6 +197,34 @@ class GroupCases {
       if (step(r, r.between(1, 12), true) == plain::kRecordsUnsound) return;
       if (r.chance(500)) damaged(r);
     }
+  }
+
+  // A list of steps as one run. What it leaves is looked at, and goes on by single steps.
+  void run(Random& r) {
+    static const uint8_t kinds[] = {plain::kCreate,  plain::kJoin,     plain::kPass, plain::kPass, plain::kOrder, plain::kOrder,
+                                    plain::kDeliver, plain::kDeliver,  plain::kHand, plain::kSend, plain::kTell,  plain::kSafe,
+                                    plain::kAttempt, plain::kRegister, plain::kCollect};
+    unsigned members = r.between(1, 4), count = r.chance(100) ? 0 : r.between(1, 200);
+    uint32_t views = 1;
+    lend(r, some_room(r));
+    if (r.chance(80)) list_.resize(plain::kViewSize * r.below(40), kBack);
+    for (Lent* lent : {&list_, &books_, &queues_}) r.fill(lent->mine(), lent->size()), lent->copy_to_theirs();
+    c_.steps.resize(plain::kStepSize * count + (r.chance(50) ? r.below(20) : 0), r.chance(500) ? kFront : kBack);
+    r.fill(c_.steps.mine(), c_.steps.size());
+    for (unsigned i = 0; i < count; ++i) {
+      plain::StepRecord step{r.one_of(kinds), r.below(members), r.chance(900) ? views - 1 : r.below(views + 1)};
+      if (step.kind == plain::kCreate) step.first = views++, step.second = r.set(members);
+      if (r.chance(980)) plain::put_step(c_.steps.mine() + plain::kStepSize * i, step);
+    }
+    c_.answers.resize(plain::kAnswerSize * (r.chance(30) ? r.below(count + 3) : count), r.chance(500) ? kFront : kBack);
+    r.fill(c_.answers.mine(), c_.answers.size());
+    c_.steps.copy_to_theirs(), c_.answers.copy_to_theirs();
+    auto all = static_cast<uint32_t>((1u << members) - 1);
+    c_.group_run(list_, books_, queues_, r.chance(970) ? members : r.odd_word(), r.chance(900) ? all : r.chance(500) ? r.set(members) : r.odd_word());
+    clean_ = false;
+    c_.group_check(list_, books_, queues_);
+    if (room() < 1 || room() > plain::kViews) return;
+    for (unsigned n = 0; n < 5; ++n) call(r.between(1, 12), r.below(members), r.below(views));
   }
 
   // Bytes that mean nothing, or little.

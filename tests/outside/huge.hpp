@@ -48,6 +48,7 @@ class Huge {
     expect("dvs_tell", dvs_tell(at_, far), 4);
     expect("dvs_safe", dvs_safe(at_, far, event, sizeof event), 4);
     expect("dvs_collect", dvs_collect(at_, far), 4);
+    expect("dvs_check", dvs_check(at_, far), 4);
     expect("dvs_attempt", dvs_attempt(book, sizeof book, at_, far_event), 4);
     expect("dvs_register", dvs_register(book, sizeof book, at_, far_event), 4);
     expect("dvs_send", dvs_send(book, sizeof book, 5, at_, far_event), 4);
@@ -94,6 +95,11 @@ class Huge {
     expect("dvs_group_step", dvs_group_step(list, 10, b, books_size, at_, kFar + queues_size, 8, 0, 5, event, 16), 4);
     expect("dvs_group_start", dvs_group_start(list, 10, b, books_size, at_, kFar + queues_size, 2, 3), 4);
     expect("dvs_group_step", dvs_group_step(list, 10, b, books_size, q, queues_size, 8, 0, 5, at_, kFar + 16), 4);
+    expect("dvs_group_check", dvs_group_check(list, 10, b, books_size, at_, kFar + queues_size), 4);
+    // 330382100 steps of 13 bytes are 4 bytes more than 32 bits hold; the answers are one record.
+    uint8_t answer[plain::kAnswerSize];
+    size_t steps = plain::kStepSize * ((kFar + plain::kStepSize) / plain::kStepSize);
+    expect("dvs_group_run", dvs_group_run(list, 10, b, books_size, q, queues_size, 2, 3, at_, steps, answer, sizeof answer), 4);
   }
 
  public:

@@ -13,6 +13,7 @@ constexpr unsigned kMembers = 8, kViews = 32, kOpen = 31, kOutgoing = 16, kWaiti
 // Lengths of ranges and of what stands in them.
 constexpr size_t kViewSize = 5, kSlotSize = 171, kItemSize = 9, kBookSize = 5234, kEventSize = 16, kLengthSize = 4;
 constexpr size_t kRecordSize = 174, kLongest = 167, kBooksSize = kMembers * kBookSize;
+constexpr size_t kStepSize = 13, kAnswerSize = 17;
 constexpr size_t kQueuesHead = 64, kWaitingSize = 1 + kWaiting * kSlotSize, kOrderSize = 1 + kOrdered * kSlotSize;
 constexpr size_t kTableSize = kOrderSize + kMembers * kWaitingSize;
 static_assert(kTableSize == 32841, "the queues of one view");
@@ -60,6 +61,15 @@ inline uint64_t get(const uint8_t* at, size_t width) {
 inline void put(uint8_t* at, size_t width, uint64_t value) {
   for (size_t i = width; i-- > 0; value >>= 8) at[i] = static_cast<uint8_t>(value);
 }
+
+// The step in a run's record, its kind in one byte, its operands in four and eight.
+struct StepRecord { uint8_t kind; uint32_t first; uint64_t second; };
+
+inline StepRecord get_step(const uint8_t* at) {
+  return StepRecord{at[0], static_cast<uint32_t>(get(at + 1, 4)), get(at + 5, 8)};
+}
+
+inline void put_step(uint8_t* at, const StepRecord& s) { at[0] = s.kind, put(at + 1, 4, s.first), put(at + 5, 8, s.second); }
 
 inline View get_view(const uint8_t* at) { return View{static_cast<uint32_t>(get(at, 4)), at[4]}; }
 

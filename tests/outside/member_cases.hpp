@@ -62,6 +62,7 @@ class MemberCases {
   // One call of any function, with numbers and ranges that fit the book more often than not.
   uint32_t any_call(Random& r, Lent& book) {
     const uint8_t* b = book.mine();
+    c_.check(book);
     lend_event(r, r.chance(995) ? plain::kEventSize : r.below(24));
     switch (r.below(20)) {
       case 0: case 1: {

@@ -20,7 +20,7 @@ namespace {
 using namespace outside;
 using Clock = std::chrono::steady_clock;
 
-constexpr uint64_t kShortCases = 1440;
+constexpr uint64_t kShortCases = 1560;
 
 class Test {
   Tally tally_;
@@ -37,9 +37,9 @@ class Test {
     tally_.seed = seed, tally_.number = number;
     Random r(seed, number);
     // Nothing of an earlier case is left in what calls are lent besides books.
-    for (Lent* lent : {&calls_.event, &calls_.buffer, &calls_.length, &calls_.record}) r.fill(lent->mine(), lent->most());
+    for (Lent* lent : {&calls_.event, &calls_.buffer, &calls_.length, &calls_.record, &calls_.answers}) r.fill(lent->mine(), lent->most());
     calls_.usual();
-    switch (number % 12) {
+    switch (number % 13) {
       case 0: case 1: case 2: case 3: return member_.history(r);
       case 4: case 5: case 6: case 7:
         for (unsigned n = 0; n < 40; ++n) member_.single(r);
@@ -49,6 +49,7 @@ class Test {
         return group_.noise(r);
       case 9: return group_.history(r);
       case 10: return group_.made_up(r);
+      case 11: return group_.run(r);
       default: return messages_.some(r);
     }
   }
@@ -64,6 +65,7 @@ class Test {
  public:
   int run_short(uint64_t seed) {
     if (!guards_work()) return printf("the pages beside a lent range can be touched\n"), 1;
+    if (!library_agrees()) return 1;
     if (!Papers(calls_).run()) return 1;
     for (uint64_t number = 0; number < kShortCases; ++number) run_case(seed, number);
     Random r(seed);

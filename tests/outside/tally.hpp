@@ -26,7 +26,7 @@ static_assert(named_in_order() && sizeof kNamed / sizeof kNamed[0] == kAnswers, 
 // The exported functions; a group's step is counted by its kind.
 enum Function : unsigned {
   kFnStart, kFnJoin, kFnPass, kFnDeliver, kFnAttempt, kFnRegister, kFnSend, kFnHand, kFnTell, kFnSafe, kFnCollect,
-  kFnRead, kFnWrite, kFnGroupStart, kFnStepOther, kFnStepCreate, kFnStepJoin, kFnStepPass, kFnStepOrder,
+  kFnCheck, kFnRead, kFnWrite, kFnGroupStart, kFnGroupRun, kFnGroupCheck, kFnStepOther, kFnStepCreate, kFnStepJoin, kFnStepPass, kFnStepOrder,
   kFnStepDeliver, kFnStepAttempt, kFnStepRegister, kFnStepSend, kFnStepHand, kFnStepTell, kFnStepSafe,
   kFnStepCollect, kFunctions
 };
@@ -50,9 +50,12 @@ constexpr Promise kPromises[kFunctions] = {
     {"dvs_tell", true, "4 6 22 26 27 24"},
     {"dvs_safe", true, "4 6 22 26 28 29"},
     {"dvs_collect", true, "4 6 13 30 31"},
+    {"dvs_check", true, "4 6"},
     {"dvs_read", true, "4 32 33 34 35 36 37 38"},
     {"dvs_write", true, "4 33 34 35 36 37 39"},
     {"dvs_group_start", true, "4 1 2 3"},
+    {"dvs_group_run", true, "4 1 2 3"},
+    {"dvs_group_check", true, "4"},
     {"dvs_group_step ?", false, "4 5"},
     {"dvs_group_step create", true, "4 7 8 9"},
     {"dvs_group_step join", true, "4 6 10 11 12"},

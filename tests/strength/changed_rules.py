@@ -129,6 +129,7 @@ CHANGES = {
         ("if (!set_fits(message.views[i].set, members)) return kSetUnfit;", ";"),
         exchanged("    if (!set_fits(set, members)) return kSetUnfit;", "    if (!(set >> own & 1)) return kNotInSet;"),
         ("put(length.at, kLengthSize, size);", "put(length.at, kLengthSize, size << 24);"),
+        ("    return m_.admit();", "    return kAccepted;"),
     ],
     "group.hpp": [
         ("at[0] * kSlotSize); }", "kWaiting * kSlotSize - kSlotSize); }"),
@@ -154,6 +155,10 @@ CHANGES = {
         ("view(i).id != id", "view(i).id != static_cast<uint32_t>(id)"),
         ("to.push(m_.outgoing[0]);", "m_.outgoing[0].bytes[170] = 0, to.push(m_.outgoing[0]);"),
         ("event.size != kEventSize || !sound()", "event.size != kEventSize"),
+        gone("steps.size != count * kStepSize || "),
+        ("answers.size != count * kAnswerSize", "answers.size < count * kAnswerSize"),
+        gone("memset(answer, 0, kAnswerSize);"),
+        ("return sound() ? kAccepted : kRecordsUnsound;", "return lengths() ? kAccepted : kRecordsUnsound;"),
     ],
 }
 

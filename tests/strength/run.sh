@@ -23,8 +23,8 @@ try() { # function fault range
 
 # Every function of the header, with the number of ranges that it may write: those that are not const.
 functions() {
-  tr '\n' ' ' < include/dvs.h | grep -o 'uint32_t dvs_[a-z_]*([^)]*)' | while IFS='(' read -r name parameters; do
-    echo "${name#uint32_t }" "$(tr ',' '\n' <<< "$parameters" | grep -c '^ *uint8_t \*')"
+  sed -nE '/^uint(32|64)_t dvs_/,/;/p' include/dvs.h | tr '\n' ' ' | grep -oE 'uint(32|64)_t dvs_[a-z_]*\([^)]*\)' | while IFS='(' read -r name parameters; do
+    echo "${name#* }" "$(tr ',' '\n' <<< "$parameters" | grep -c '^ *uint8_t \*')"
   done
 }
 

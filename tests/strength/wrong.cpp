@@ -2,7 +2,7 @@
 // (-Wl,--wrap); the fault is named by three words in the environment:
 //
 //   WRONG_FUNCTION   one exported function
-//   WRONG_FAULT      answer: an accepted call says 4;  accepted, refused: such a call leaves a byte flipped;
+//   WRONG_FAULT      answer: an accepted call says 4, one that gives a number 1 more;  accepted, refused: such a call leaves a byte flipped;
 //                    outside: an accepted call writes beside a range
 //   WRONG_RANGE      which of its lent ranges, from 0
 //
@@ -52,10 +52,21 @@ uint32_t spoil(const char* name, uint32_t answer, std::initializer_list<Range> r
     return spoil(#NAME, __real_##NAME ARGUMENTS, {__VA_ARGS__});                      \
   }
 
+// Of a function that has no refusals.
+#define WRAP_NUMBER(TYPE, NAME, PARAMETERS, ARGUMENTS)                                               \
+  extern "C" TYPE __real_##NAME PARAMETERS;                                                          \
+  extern "C" TYPE __wrap_##NAME PARAMETERS;                                                          \
+  extern "C" TYPE __wrap_##NAME PARAMETERS {                                                         \
+    return __real_##NAME ARGUMENTS + (strcmp(#NAME, function) == 0 && strcmp(fault, "answer") == 0); \
+  }
+
 #define BOOK uint8_t *book, size_t book_size
 #define EVENT uint8_t *event, size_t event_size
 #define THREE uint8_t *list, size_t list_size, uint8_t *books, size_t books_size, uint8_t *queues, size_t queues_size
+#define CONST_THREE const uint8_t *list, size_t list_size, const uint8_t *books, size_t books_size, const uint8_t *queues, size_t queues_size
 #define IN(NAME) Range { NAME, NAME##_size }
+// What is only read: such a call has a fault in its answer alone.
+#define READ(NAME) Range { nullptr, NAME##_size }
 
 WRAP(dvs_start, (BOOK, uint32_t m, uint32_t s, uint32_t o), (book, book_size, m, s, o), IN(book))
 WRAP(dvs_join, (BOOK, uint32_t v, uint32_t s), (book, book_size, v, s), IN(book))
@@ -77,3 +88,10 @@ WRAP(dvs_group_start, (THREE, uint32_t m, uint32_t s), (list, list_size, books, 
      IN(list), IN(books), IN(queues))
 WRAP(dvs_group_step, (THREE, uint32_t k, uint32_t f, uint64_t s, EVENT),
      (list, list_size, books, books_size, queues, queues_size, k, f, s, event, event_size), IN(list), IN(books), IN(queues), IN(event))
+WRAP(dvs_group_run, (THREE, uint32_t m, uint32_t s, const uint8_t* steps, size_t steps_size, uint8_t* answers, size_t answers_size),
+     (list, list_size, books, books_size, queues, queues_size, m, s, steps, steps_size, answers, answers_size), IN(list), IN(books), IN(queues),
+     IN(answers))
+WRAP(dvs_check, (const uint8_t* book, size_t book_size), (book, book_size), READ(book))
+WRAP(dvs_group_check, (CONST_THREE), (list, list_size, books, books_size, queues, queues_size), READ(list))
+WRAP_NUMBER(uint32_t, dvs_version, (void), ())
+WRAP_NUMBER(uint64_t, dvs_size, (uint32_t range_number, uint32_t views), (range_number, views))

@@ -3,6 +3,7 @@
 #include "dvs.hpp"
 
 #include <algorithm>
+#include <array>
 #include <cstdio>
 #include <cstdlib>
 #include <cstring>
@@ -38,7 +39,44 @@ void sets() {
   constexpr Set set{Member{0}, Member{2}, Member{7}};
   static_assert(set == Set{0x85} && set.count() == 3 && set.has(Member{2}) && !set.has(Member{1}) && !set.has(Member{8}));
   static_assert(Set::below(3) == Set{7} && Set::below(8) == Set{0xFF} && Set::below(0).empty() && (set & Set{5}) == Set{5});
-  static_assert(set.with(Member{40}) == set && (set | Set{2}) == Set{0x87});
+  static_assert((set | Set{2}) == Set{0x87} && (set - Set{5}) == Set{0x80});
+  // A member of 8 and above stays in a set, and the calls refuse it.
+  static_assert(set.with(Member{8}) == Set{0x185} && set.with(Member{40}) != set && set.with(Member{40}).has(Member{31}));
+  static_assert(Set::below(9) == Set{0x1FF} && Set::below(32) == Set{0xFFFFFFFFu} && Set::below(33) == Set::below(32) && Set::below(31) != Set::below(32));
+  dvs::Book book;
+  EXPECT(book.start(8, Set{Member{0}, Member{8}}, Member{0}).refusal() == Refusal::first_set_unfit);
+  EXPECT(book.start(8, Set{Member{0}, Member{0xFFFFFFFFu}}, Member{0}).refusal() == Refusal::first_set_unfit);
+  EXPECT(book.start(8, Set::below(8), Member{0}) && book.join({Identifier{1}, Set::below(9)}).refusal() == Refusal::set_unfit);
+  dvs::Message info{dvs::MessageKind::info, Identifier{1}, 0, {}};
+  EXPECT(info.views.push_back({Identifier{0}, Set::below(9)}) && dvs::write(info).refusal() == Refusal::empty_set);
+
+  std::vector<Member> listed(set.begin(), set.end());
+  EXPECT((listed == std::vector<Member>{Member{0}, Member{2}, Member{7}}) && Set().begin() == Set().end());
+  unsigned sum = 0;
+  for (Member member : Set::below(8)) sum += dvs::number(member);
+  EXPECT(sum == 28);
+}
+
+// Steps and answers as the records of a run.
+void steps() {
+  constexpr dvs::Step step = dvs::Step::send(Member{0x01020304}, 0x05060708090A0B0Cu);
+  constexpr auto bytes = step.bytes();
+  static_assert(bytes.size() == 13 && bytes[0] == 8 && bytes[1] == 1 && bytes[4] == 4 && bytes[5] == 5 && bytes[12] == 12);
+  EXPECT(dvs::Step::from(bytes) == step && step != dvs::Step::hand(Member{0x01020304}));
+  static_assert(dvs::Step::create({Identifier{7}, Set{3}}) == dvs::Step{dvs::StepKind::create, 7, 3});
+  static_assert(dvs::Step::join(Member{1}, Identifier{7}) == dvs::Step{dvs::StepKind::join, 1, 7});
+  static_assert(dvs::Step::order(Member{1}, Identifier{7}) == dvs::Step{dvs::StepKind::order, 1, 7});
+  const dvs::Step alone[] = {dvs::Step::pass(Member{1}), dvs::Step::deliver(Member{1}), dvs::Step::attempt(Member{1}), dvs::Step::register_view(Member{1}),
+                             dvs::Step::hand(Member{1}), dvs::Step::tell(Member{1}), dvs::Step::safe(Member{1}), dvs::Step::collect(Member{1})};
+  const std::uint32_t kinds[] = {3, 5, 6, 7, 9, 10, 11, 12};
+  for (std::size_t i = 0; i < std::size(kinds); ++i) EXPECT((alone[i] == dvs::Step{static_cast<dvs::StepKind>(kinds[i]), 1, 0}));
+  const std::array<std::uint8_t, DVS_ANSWER_SIZE> answer{0, 9, 1, 0, 0, 0, 7, 0, 2, 0, 0, 0, 0, 0, 0, 1, 5};
+  const dvs::Event handed{dvs::EventKind::handed, Member{1}, Identifier{7}, Set{}, Member{2}, 0x105};
+  EXPECT((dvs::Answer::from(answer) == dvs::Answer{Refusal::none, handed}));
+  const std::uint8_t *const event = dvs_answer_event(answer.data(), 0);
+  EXPECT(dvs_event_kind(event) == 9 && dvs_event_member(event) == 1 && dvs_event_view(event) == 7 && dvs_event_set(event) == 0);
+  EXPECT(dvs_event_sender(event) == 2 && dvs_event_entry(event) == 0x105 && dvs_get64(answer.data()) == 0x0009010000000700u);
+  EXPECT((dvs::Answer::from(dvs::Bytes(answer.data(), 1)) != dvs::Answer{Refusal::none, handed}));
 }
 
 // The specification's two messages, the longest one, and the reader's refusals for a byte less and a byte more.
@@ -65,14 +103,14 @@ void messages() {
   const auto written = dvs::write(longest);
   EXPECT(written && written->length == DVS_LONGEST);
   const auto back = dvs::read(written->bytes());
-  EXPECT(back && back->view == longest.view && back->record() == longest.record());
+  EXPECT(back && *back == longest && back->record() == longest.record() && *dvs::write(*back) == *written);
 
   const dvs::Message client{dvs::MessageKind::client, Identifier{5}, 0x0102030405060708u, {}};
   std::array<std::uint8_t, 16> buffer{};
   buffer[15] = 77;
   const auto length = dvs::write(client, buffer);
   EXPECT(length && *length == 15 && buffer[15] == 77 && buffer[7] == 1 && buffer[14] == 8);
-  EXPECT(dvs::read(dvs::Bytes(buffer.data(), 15))->number == client.number);
+  EXPECT((*dvs::read(dvs::Bytes(buffer.data(), 15))).number == client.number && *dvs::read(dvs::Bytes(buffer.data(), 15)) == client);
   EXPECT(dvs::write(client, dvs::MutableBytes(buffer.data(), 14)).refusal() == Refusal::buffer_too_short);
   EXPECT(dvs::write(dvs::Message{}).refusal() == Refusal::unknown_kind);
   EXPECT(dvs::write(dvs::Message{dvs::MessageKind::told, Identifier{5}, 129, {}}).refusal() == Refusal::told_out_of_range);
@@ -116,11 +154,39 @@ void books() {
   EXPECT(!book[2].look().in_primary() && book[2].look().settled() == (dvs::View{Identifier{0}, Set{31}}));
   EXPECT(book[2].look().members() == 5 && book[2].look().own() == Member{2} && book[2].look().taken() == 3);
 
-  dvs::Book saved;
-  const dvs::Bytes bytes = static_cast<const dvs::Book &>(book[2]).bytes();
-  std::copy(bytes.begin(), bytes.end(), saved.bytes().begin());
-  EXPECT(saved.attempt().refusal() == Refusal::test_failed);
+  EXPECT(book[2].look().carrier()->set - book[2].look().infos() == Set{} && book[2].look().registrations().empty());
+
+  // Saved and loaded; bytes that are no book are not taken, and of a book that moved on nothing is left.
+  dvs::BookBytes saved = book[2].save();
+  EXPECT(std::equal(saved.begin(), saved.end(), book[2].bytes().begin(), book[2].bytes().end()));
+  dvs::Book loaded;
+  EXPECT(loaded.check().refusal() == Refusal::records_unsound && loaded.load(saved).accepted() && loaded.check().accepted());
+  EXPECT(loaded.attempt().refusal() == Refusal::test_failed);
+  saved[DVS_BOOK_SELF] = 5;
+  EXPECT(loaded.load(saved).refusal() == Refusal::no_such_member && loaded.look().own() == Member{2});
+  EXPECT(loaded.load(dvs::Bytes(saved.data(), saved.size() - 1)).refusal() == Refusal::records_unsound && loaded.check().accepted());
+  dvs::Book moved(std::move(loaded)), again;
+  EXPECT(moved.check().accepted() && loaded.check().refusal() == Refusal::records_unsound);
+  again = std::move(moved);
+  EXPECT(again.check().accepted() && moved.check().refusal() == Refusal::records_unsound);
 }
+
+// What would point into something that is gone does not compile.
+template <class T, class = void>
+constexpr bool has_arrow = false;
+template <class T>
+constexpr bool has_arrow<T, std::void_t<decltype(std::declval<T>().operator->())>> = true;
+template <class T, class = void>
+constexpr bool has_bytes = false;
+template <class T>
+constexpr bool has_bytes<T, std::void_t<decltype(std::declval<T>().bytes())>> = true;
+template <class T, class = void>
+constexpr bool has_look = false;
+template <class T>
+constexpr bool has_look<T, std::void_t<decltype(std::declval<T>().look())>> = true;
+static_assert(has_arrow<dvs::Result<dvs::MessageBytes> &> && !has_arrow<dvs::Result<dvs::MessageBytes>>);
+static_assert(has_bytes<dvs::MessageBytes &> && !has_bytes<dvs::MessageBytes> && has_bytes<dvs::Book &> && !has_bytes<dvs::Book>);
+static_assert(has_look<dvs::Book &> && !has_look<dvs::Book> && !std::is_copy_constructible_v<dvs::Book> && std::is_nothrow_move_constructible_v<dvs::Book>);
 
 // An entry from one book to another until it is safe there.
 void entries() {
@@ -142,8 +208,9 @@ void entries() {
     EXPECT(handed && handed->kind == dvs::EventKind::handed && handed->sender == Member{0} && handed->entry == sent->entry);
     EXPECT(book->hand().refusal() == Refusal::none_to_hand && book->look().handed() == 1 && book->look().told() == 0);
   }
-  EXPECT(here.tell().accepted() && here.look().told() == 1);
+  EXPECT(here.tell().accepted() && here.look().told() == 1 && here.look().told_by(Member{0}) == 0);
   carry(here, Member{0});
+  EXPECT(here.look().told_by(Member{0}) == 1 && here.look().told_by(Member{1}) == 0 && here.look().told_by(Member{8}) == 0);
   EXPECT(here.safe().refusal() == Refusal::told_too_low);
   EXPECT(there.tell().accepted());
   carry(there, Member{1});
@@ -178,6 +245,30 @@ void groups() {
   EXPECT(group.create({Identifier{10}, Set{1}}).refusal() == Refusal::list_full);
   EXPECT(group.look(Member{0}).carrier() == (dvs::View{Identifier{9}, Set{1}}) && group.collect(Member{1}).refusal() == Refusal::not_above_settled);
   EXPECT(group.step(13, 255).refusal() == Refusal::unknown_step && group.look(Member{8}).members() == 0);
+  EXPECT(group.step(dvs::Step::pass(Member{0})).accepted() && group.made() == 2 && group.waiting(1, Member{0}) == 1 && group.waiting(1, Member{1}) == 0);
+  EXPECT(group.step(dvs::Step::order(Member{0}, Identifier{9})).accepted() && group.ordered(1) == 1 && group.ordered(0) == 3 && group.ordered(2) == 0);
+  EXPECT(group.waiting(0, Member{8}) == 0 && group.check().accepted());
+  EXPECT(group.step(dvs::Step::send(Member{1}, 7)).accepted() && group.pass(Member{1}).accepted() && group.waiting(0, Member{1}) == 1);
+  const std::uint8_t *const queues_at = memory.queues.data();
+  EXPECT(dvs_queues_made(queues_at) == 2 && dvs_queues_ordered(queues_at, 0) == 3 && dvs_queues_ordered(queues_at, 1) == 1);
+  EXPECT(dvs_queues_waiting(queues_at, 0, 1) == 1 && dvs_queues_waiting(queues_at, 0, 0) == 0 && dvs_queues_waiting(queues_at, 1, 1) == 0);
+  memory.queues[DVS_QUEUES_MADE] = 3;
+  EXPECT(group.check().refusal() == Refusal::records_unsound);
+
+  // A run: accepted, refused and unknown steps, each with its answer.
+  const dvs::Step asked[] = {dvs::Step::send(Member{1}, 6), dvs::Step::hand(Member{1}), {static_cast<dvs::StepKind>(77), 0, 0}};
+  std::array<std::uint8_t, 3 * DVS_STEP_SIZE> steps{};
+  for (std::size_t i = 0; i < std::size(asked); ++i) {
+    const auto record = asked[i].bytes();
+    std::copy(record.begin(), record.end(), &steps[DVS_STEP_SIZE * i]);
+  }
+  std::array<std::uint8_t, 3 * DVS_ANSWER_SIZE> answers{};
+  EXPECT(group.run(2, Set{3}, steps, dvs::MutableBytes(answers.data(), answers.size() - 1)).refusal() == Refusal::records_unsound);
+  EXPECT(group.run(2, Set{3}, steps, answers).accepted() && group.check().accepted());
+  const auto answer = [&](std::size_t i) { return dvs::Answer::from(dvs::Bytes(&answers[DVS_ANSWER_SIZE * i], DVS_ANSWER_SIZE)); };
+  EXPECT((answer(0) == dvs::Answer{Refusal::none, {dvs::EventKind::sent, Member{1}, Identifier{0}, Set{}, Member{}, 6}}));
+  EXPECT((answer(1) == dvs::Answer{Refusal::none_to_hand, {}} && answer(2) == dvs::Answer{Refusal::unknown_step, {}}));
+  EXPECT(dvs_answer_number(answers.data(), 1) == 25 && dvs_event_entry(dvs_answer_event(answers.data(), 0)) == 6);
 
   std::vector<std::uint8_t> list(DVS_LIST_SIZE(33)), rest(DVS_BOOKS_SIZE), queues(DVS_QUEUES_SIZE(33));
   EXPECT(dvs::Group(list, rest, queues).start(2, Set{3}).refusal() == Refusal::list_length);
@@ -186,8 +277,10 @@ void groups() {
 }  // namespace
 
 int main() {
+  EXPECT(dvs::same_version());
   texts();
   sets();
+  steps();
   messages();
   books();
   entries();

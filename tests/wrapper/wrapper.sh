@@ -1,6 +1,7 @@
 #!/usr/bin/env bash
 # Installs the library to a folder of its own and links against it by pkg-config alone: the wrapper's cases, the first example and the offices, with
-# every compiler here, in C++17 and C++20, with all warnings and sanitizers; and the C header in a C99 program.
+# every compiler here, in C++17 and C++20, with all warnings and sanitizers; the C header in a C99 program; the archive in a shared object; and the first
+# example by CMake, where it is here.
 set -euo pipefail
 cd "$(dirname "${BASH_SOURCE[0]}")/../.."
 work=$(mktemp -d)
@@ -10,11 +11,50 @@ make --no-print-directory install DESTDIR="$work/root" PREFIX=/opt/dvs > "$work/
 export PKG_CONFIG_PATH="$work/root/opt/dvs/lib/pkgconfig" PKG_CONFIG_SYSROOT_DIR="$work/root"
 read -ra cflags <<< "$(pkg-config --cflags dvs)"
 read -ra libs <<< "$(pkg-config --libs dvs)"
+fails() { # a command that must not succeed
+  ! "$@" || { echo "not refused: $*"; exit 1; }
+}
 warnings=(-Wall -Wextra -Wpedantic -Wconversion -Wshadow -Werror)
 
-printf '#include <dvs.h>\nint main(void) { return dvs_collect(0, 0) == DVS_REFUSED_RECORDS_UNSOUND ? 0 : 1; }\n' > "$work/c99.c"
-"${CC:-cc}" -std=c99 "${warnings[@]}" "${cflags[@]}" -o "$work/c99" "$work/c99.c" "${libs[@]}"
+"${CC:-cc}" -std=c99 "${warnings[@]}" "${cflags[@]}" -o "$work/c99" tests/wrapper/c99.c "${libs[@]}"
 "$work/c99"
+"${CC:-cc}" -std=c99 -fPIC -shared -Wl,-z,text "${warnings[@]}" "${cflags[@]}" -o "$work/libhost.so" tests/wrapper/shared.c "${libs[@]}"
+"${CC:-cc}" -std=c99 -DSHARED "${warnings[@]}" "${cflags[@]}" -o "$work/c99" tests/wrapper/c99.c -L"$work" -lhost "${libs[@]}"
+LD_LIBRARY_PATH="$work" "$work/c99"
+for name in HOST LAYOUT REFUSALS SPEC; do
+  [ ! -e "docs/$name.md" ] || cmp "docs/$name.md" "$work/root/opt/dvs/share/doc/dvs/$name.md"
+done
+
+# Below C++17 the wrapper says what it needs.
+for header in dvs.hpp dvs_types.hpp; do
+  printf '#include <%s>\n' "$header" > "$work/old.cpp"
+  fails "${CXX:-c++}" -std=c++14 -fsyntax-only "${cflags[@]}" "$work/old.cpp" 2> "$work/log"
+  grep -q 'need C++17 or newer' "$work/log"
+done
+
+# By CMake: the version of this installation is found, its minor version too; a later patch, minor or major version is not.
+if command -v cmake > /dev/null; then
+  find() { # version
+    cmake -S tests/wrapper/package -B "$work/cmake-$1" -DWANTED="$1" -DCMAKE_PREFIX_PATH="$work/root/opt/dvs" \
+      -DFIRST="$PWD/examples/first/first.cpp" > "$work/log" 2>&1
+  }
+  version=$(pkg-config --modversion dvs)
+  IFS=. read -r major minor patch <<< "$version"
+  find "$version" && cmake --build "$work/cmake-$version" >> "$work/log" 2>&1 || { cat "$work/log"; exit 1; }
+  "$work/cmake-$version/first" | diff examples/first/expected.txt -
+  find "$major.$minor" || { cat "$work/log"; exit 1; }
+  for later in "$major.$minor.$((patch + 1))" "$major.$((minor + 1))" "$((major + 1))"; do fails find "$later"; done
+  echo "wrapper: CMake: as expected"
+else
+  echo "no cmake here: its package was not tried"
+fi
+
+# Parts compiled under C++17 and under C++20 stand in one program.
+printf '#include <dvs.hpp>\nvoid other(dvs::Book &book) { (void)book.load(dvs::Bytes()); }\n' > "$work/other.cpp"
+printf '#include <dvs.hpp>\nint main() { dvs::Book book; return book.load(dvs::Bytes()).accepted() ? 1 : 0; }\n' > "$work/part.cpp"
+"${CXX:-c++}" -std=c++17 "${cflags[@]}" -c -o "$work/other.o" "$work/other.cpp"
+"${CXX:-c++}" -std=c++20 "${cflags[@]}" -o "$work/parts" "$work/part.cpp" "$work/other.o" "${libs[@]}"
+"$work/parts"
 
 for compiler in g++ clang++; do
   command -v "$compiler" > /dev/null || continue

@@ -6,3 +6,6 @@ pub mod GroupLaws
 pub mod GroupNarrowing
 pub mod Chain
 pub mod Demand2
+pub mod CheckLaws
+pub mod RunNarrowing
+pub mod LibraryLaws

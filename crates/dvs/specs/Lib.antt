@@ -3,3 +3,4 @@ pub mod MessageCalls
 pub mod EventCalls
 pub mod GroupCalls
 pub mod Promises
+pub mod Library

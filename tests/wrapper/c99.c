@@ -1,0 +1,30 @@
+/* The C header in a C99 program: a book, its event read by the header's readers, and what a shared object answers where one is linked. */
+#include <dvs.h>
+
+#ifdef SHARED
+uint32_t in_a_shared_object(uint8_t *book);
+#endif
+
+int main(void) {
+  static uint8_t book[DVS_BOOK_SIZE], event[DVS_EVENT_SIZE], buffer[DVS_LONGEST], length[DVS_LENGTH_SIZE], message[DVS_MESSAGE_SIZE];
+  if (dvs_version() != DVS_VERSION || dvs_size(DVS_SIZE_BOOK, 0) != sizeof book) return 1;
+  if (dvs_check(book, sizeof book) != DVS_REFUSED_RECORDS_UNSOUND) return 2;
+  if (dvs_start(book, sizeof book, 3, 7, 1) != DVS_ACCEPTED || dvs_check(book, sizeof book) != DVS_ACCEPTED) return 3;
+  if (dvs_send(book, sizeof book, 0x0102030405060708u, event, sizeof event) != DVS_ACCEPTED) return 4;
+  if (dvs_event_kind(event) != DVS_STEP_SEND || dvs_event_member(event) != 1 || dvs_event_entry(event) != 0x0102030405060708u) return 5;
+  if (dvs_pass(book, sizeof book, buffer, sizeof buffer, length, sizeof length) != DVS_ACCEPTED || dvs_length(length) != 15) return 6;
+  if (dvs_read(buffer, dvs_length(length), message, sizeof message) != DVS_ACCEPTED) return 7;
+  if (dvs_message_kind(message) != DVS_CLIENT || dvs_message_view(message) != 0 || dvs_message_count(message) != 0) return 8;
+  if (dvs_message_number(message) != 0x0102030405060708u) return 9;
+  if (dvs_join(book, sizeof book, 258, 6) != DVS_ACCEPTED || dvs_book_infos(book) != 0) return 10;
+  if (dvs_pass(book, sizeof book, buffer, sizeof buffer, length, sizeof length) != DVS_ACCEPTED) return 11;
+  if (dvs_read(buffer, dvs_length(length), message, sizeof message) != DVS_ACCEPTED || dvs_message_view(message) != 258) return 12;
+  if (dvs_message_count(message) != 1 || dvs_view_set(dvs_message_views(message, 0)) != 7) return 13;
+  if (dvs_deliver(book, sizeof book, buffer, dvs_length(length), 1) != DVS_ACCEPTED) return 14;
+  if (dvs_book_infos(book) != 2 || dvs_book_registrations(book) != 0 || dvs_book_told(book, 1) != 0) return 15;
+  if (dvs_view_identifier(book + DVS_BOOK_CARRIER + 1) != 258 || dvs_view_set(book + DVS_BOOK_CARRIER + 1) != 6) return 16;
+#ifdef SHARED
+  if (in_a_shared_object(book) != DVS_VERSION) return 17;
+#endif
+  return 0;
+}
