@@ -1,18 +1,17 @@
 # Thin names for the commands that matter.
-.PHONY: test gate run clean
+.PHONY: test run clean
 
-# The gate, then the library from outside: everything that has to hold.
-test: gate
-	$(MAKE) headers outside offices duties
+# The gate: everything that has to hold. The tests from outside, then every proof, every must-fail edit and every program, a line for each.
+test:
+	SHORT=1 .ci/run
 
-# Layout, the list of refusals, the header's numbers, what the documents name, proofs, must-fail edits, programs.
-gate:
-	.ci/run
-
-# The bench, on the specification's whole case.
-run:
-	rt check bench
-	target/bin/bench < tests/scripts/whole-case.txt
+# The bench, compiled without proving, on the specification's whole case: each line and its answer.
+CASE := tests/scripts/whole-case
+run: target/unproved/bench
+	@$< < $(CASE).txt > $<.out
+	@paste $(CASE).txt $<.out | expand -t 20
+	@diff $(CASE).out $<.out
+	@echo "These answers are the specification's. Nothing was proved for them: make lib proves the library, make test all there is. To type lines: $<"
 
 clean:
 	rm -rf target
@@ -23,11 +22,16 @@ clean:
 .PHONY: lib
 HEADERS := $(wildcard include/*.h include/*.hpp)
 SOURCES := crates.txt $(shell find crates -name '*.rt' -o -name '*.antt')
-LIBRARY := target/staticlib/libdvs.a
-lib: $(LIBRARY)
-$(LIBRARY): $(SOURCES)
-	rt staticlib dvs
+# What the tests below are of: what was proved or, with UNPROVED=1, the same sources compiled in seconds without proving, for the gate, which proves them
+# too. Programs over a library stand beside it, so that none is taken for another's.
+BUILT := $(if $(UNPROVED),target/unproved,target/staticlib)
+LIBRARY := $(BUILT)/libdvs.a
+lib: target/staticlib/libdvs.a
+target/staticlib/libdvs.a: $(SOURCES)
+	.ci/prove staticlib dvs
 	touch $@
+target/unproved/libdvs.a: $(SOURCES)
+	.ci/unproved dvs
 
 # The library, its headers, what is written for its hosts, and its files for pkg-config and CMake, to PREFIX; DESTDIR goes before it, for those who make
 # a package. The version stands here alone; tests/checks/header_check.py holds the header and the library to it.
@@ -51,19 +55,19 @@ install: $(LIBRARY)
 # A host of the library: eight offices over a carrier of their own, and what they print beside what they should.
 .PHONY: offices
 HOSTFLAGS := -std=c++17 -O2 -Wall -Wextra -Wpedantic -Wconversion -Wshadow -Werror -Iinclude
-target/offices: $(wildcard examples/offices/*.?pp) $(HEADERS) $(LIBRARY)
+$(BUILT)/offices: $(wildcard examples/offices/*.?pp) $(HEADERS) $(LIBRARY)
 	$(CXX) $(HOSTFLAGS) -o $@ $(wildcard examples/offices/*.cpp) $(LIBRARY)
-offices: target/offices
-	target/offices > target/offices.txt; status=$$?; cat target/offices.txt; exit $$status
-	diff examples/offices/expected.txt target/offices.txt
+offices: $(BUILT)/offices
+	$< > $<.txt; status=$$?; cat $<.txt; exit $$status
+	diff examples/offices/expected.txt $<.txt
 
 # What comes of it where a host breaks a duty of docs/HOST.md: its stories beside what they should tell.
 .PHONY: duties
-target/duties: tests/duties/duties.cpp include/dvs.h $(LIBRARY)
+$(BUILT)/duties: tests/duties/duties.cpp include/dvs.h $(LIBRARY)
 	$(CXX) $(HOSTFLAGS) -o $@ $< $(LIBRARY)
-duties: target/duties
-	target/duties > target/duties.txt; status=$$?; cat target/duties.txt; exit $$status
-	diff tests/duties/expected.txt target/duties.txt
+duties: $(BUILT)/duties
+	$< > $<.txt; status=$$?; cat $<.txt; exit $$status
+	diff tests/duties/expected.txt $<.txt
 
 # ---- tests from outside
 
@@ -80,20 +84,20 @@ headers:
 REFERENCE := tests/reference/reference_group.hpp tests/reference/refusals.inc
 OUTSIDE := $(wildcard tests/outside/*.hpp tests/outside/*.cpp tests/outside/*.inc) $(REFERENCE) include/dvs.h
 OUTSIDE_FLAGS := $(CXXFLAGS) -Wpedantic
-outside: target/outside_test target/outside_test_sanitized
-	target/outside_test_sanitized short 1 > target/outside_sanitized.log || { cat target/outside_sanitized.log; false; }
-	target/outside_test short 2
-target/outside_test: $(OUTSIDE) $(LIBRARY)
+outside: $(BUILT)/outside_test $(BUILT)/outside_test_sanitized
+	$(BUILT)/outside_test_sanitized short 1 > $(BUILT)/outside_sanitized.log || { cat $(BUILT)/outside_sanitized.log; false; }
+	$(BUILT)/outside_test short 2
+$(BUILT)/outside_test: $(OUTSIDE) $(LIBRARY)
 	$(CXX) $(OUTSIDE_FLAGS) -o $@ tests/outside/outside_test.cpp $(LIBRARY)
-target/outside_test_sanitized: $(OUTSIDE) $(LIBRARY)
+$(BUILT)/outside_test_sanitized: $(OUTSIDE) $(LIBRARY)
 	$(CXX) $(OUTSIDE_FLAGS) -O1 -g -fsanitize=address,undefined -fno-sanitize-recover=all -o $@ tests/outside/outside_test.cpp $(LIBRARY)
 
 # The same for as long as one likes: make fuzz SECONDS=60 SEED=1.
 .PHONY: fuzz
 SECONDS := 60
 SEED := 1
-fuzz: target/outside_test
-	target/outside_test fuzz $(SECONDS) $(SEED)
+fuzz: $(BUILT)/outside_test
+	$(BUILT)/outside_test fuzz $(SECONDS) $(SEED)
 
 # One fault after another put into the library's calls: the test from outside must report each.
 .PHONY: outside-selftest
@@ -143,14 +147,17 @@ target/reference-unchecked: tests/reference/reference.cpp $(REFERENCE)
 
 # The benches beside each other: every script with its answers, a random script, and two sent line by line, the second in pieces too.
 .PHONY: compare
-compare: target/bin/bench reference-cpp
-	python3 tests/reference/compare.py corpus tests/scripts target/bin/bench target/reference target/reference-unchecked
-	python3 tests/reference/compare.py random 1 20000 target/bin/bench target/reference target/reference-unchecked
-	python3 tests/reference/compare.py live 2 2000 target/bin/bench
-	python3 tests/scripts/bench_waits.py target/bin/bench
+BENCH := $(if $(UNPROVED),target/unproved,target/bin)/bench
+compare: $(BENCH) reference-cpp
+	python3 tests/reference/compare.py corpus tests/scripts $(BENCH) target/reference target/reference-unchecked
+	python3 tests/reference/compare.py random 1 20000 $(BENCH) target/reference target/reference-unchecked
+	python3 tests/reference/compare.py live 2 2000 $(BENCH)
+	python3 tests/scripts/bench_waits.py $(BENCH)
 target/bin/bench: $(SOURCES)
-	rt check bench
+	.ci/prove check bench
 	touch $@
+target/unproved/bench: $(SOURCES)
+	.ci/unproved bench
 
 # What the library costs beside independent implementations in C++: messages, calls of the member and of the group, lines of the bench, and how a step's
 # cost grows with what the records hold. The others are compiled by LLVM too, where it is here, and for speed: make benchmark BENCHMARK_CXX=g++ for another.

@@ -25,11 +25,24 @@ void need(std::uint32_t answer, const char *call) {
   if (answer != 0) stop(std::string(call) + " refused " + std::to_string(answer));
 }
 
+// The members of a set, in braces.
 std::string names(Set set) {
   std::string text = "{";
   for (unsigned p = 0; p < DVS_MEMBERS; ++p)
     if (set >> p & 1) text += (text.size() > 1 ? "," : "") + std::to_string(p);
   return text + "}";
+}
+
+Set set_of(std::initializer_list<unsigned> members) {
+  Set set = 0;
+  for (const unsigned p : members) set |= 1u << p;
+  return set;
+}
+
+// What a story of two primary views ends with.
+void without_common_office(std::initializer_list<unsigned> here, std::initializer_list<unsigned> there) {
+  if (set_of(here) & set_of(there)) stop("the views have a common office");
+  std::printf("  two primary views without a common office: %s and %s\n", names(set_of(here)).c_str(), names(set_of(there)).c_str());
 }
 
 struct Message {
@@ -89,12 +102,32 @@ void carry(Offices &offices, std::initializer_list<unsigned> members) {
   each(offices, members, [&](Office &office) { for (const Message &message : order) office.take(message); });
 }
 
-// The members join a view, hear of each other and attempt it.
-void go_over(Offices &offices, std::initializer_list<unsigned> members, std::uint32_t view, Set set) {
-  each(offices, members, [&](Office &office) { office.join(view, set); });
+// What all of the members get for an attempt.
+std::uint32_t attempt(Offices &offices, std::initializer_list<unsigned> members) {
+  const std::uint32_t first = offices[*members.begin()].attempt();
+  bool same = true;
+  each(offices, members, [&](Office &office) { if (office.own != *members.begin()) same = same && office.attempt() == first; });
+  if (!same) stop("an attempt has different answers");
+  return first;
+}
+
+// The members join a view, hear of each other and try to attempt it.
+std::uint32_t try_over(Offices &offices, std::initializer_list<unsigned> members, std::uint32_t view) {
+  each(offices, members, [&](Office &office) { office.join(view, set_of(members)); });
   carry(offices, members);
-  each(offices, members, [](Office &office) { need(office.attempt(), "attempt"); });
-  std::printf("  view %u %s is attempted by all its offices\n", view, names(set).c_str());
+  return attempt(offices, members);
+}
+
+void go_over(Offices &offices, std::initializer_list<unsigned> members, std::uint32_t view) {
+  need(try_over(offices, members, view), "attempt");
+  std::printf("  view %u %s is attempted by all its offices\n", view, names(set_of(members)).c_str());
+}
+
+// The same where it must be refused, on copies: what comes of it where the duty is kept.
+void refused_if_kept(Offices offices, std::initializer_list<unsigned> members, std::uint32_t view) {
+  const std::uint32_t answer = try_over(offices, members, view);
+  if (answer == 0) stop("an attempt was not refused");
+  std::printf("  (where the duty is kept, view %u %s is refused with %u)\n", view, names(set_of(members)).c_str(), answer);
 }
 
 // They register, and settle it.
@@ -102,17 +135,19 @@ void settle(Offices &offices, std::initializer_list<unsigned> members) {
   each(offices, members, [](Office &office) { office.register_view(); });
   carry(offices, members);
   each(offices, members, [](Office &office) { office.collect(); });
+  std::puts("  it is registered in and settled by all of them");
 }
 
 // One of them sends an entry, and it becomes safe at all of them.
 void work(Offices &offices, std::initializer_list<unsigned> members, std::uint64_t entry) {
   offices[*members.begin()].send(entry);
   carry(offices, members);
-  each(offices, members, [](Office &office) { need(office.hand(), "hand"); });
+  const auto given = [&](const Office &office) { if (office.entry() != entry) stop("another entry was given out"); };
+  each(offices, members, [&](Office &office) { need(office.hand(), "hand"), given(office); });
   each(offices, members, [](Office &office) { office.tell(); });
   carry(offices, members);
-  each(offices, members, [](Office &office) { need(office.safe(), "safe"); });
-  std::printf("  entry %llu is safe at all of them\n", static_cast<unsigned long long>(entry));
+  each(offices, members, [&](Office &office) { need(office.safe(), "safe"), given(office); });
+  std::printf("  entry %llu is reported safe at %s\n", static_cast<unsigned long long>(entry), names(set_of(members)).c_str());
 }
 
 Offices fresh() {
@@ -127,52 +162,60 @@ void old_book() {
   std::puts("1. A book goes back");
   Offices offices = fresh();
   const auto before = offices[2].book;
-  go_over(offices, {0, 1, 2}, 1, 0b00111);
+  go_over(offices, {0, 1, 2}, 1);
   settle(offices, {0, 1, 2});
   work(offices, {0, 1, 2}, 7);
+  refused_if_kept(offices, {2, 3, 4}, 2);
   offices[2].book = before;
   std::puts("  office 2 brings back its book from before");
-  go_over(offices, {2, 3, 4}, 2, 0b11100);
+  go_over(offices, {2, 3, 4}, 2);
   work(offices, {2, 3, 4}, 8);
-  go_over(offices, {0, 1}, 3, 0b00011);
+  go_over(offices, {0, 1}, 3);
   work(offices, {0, 1}, 9);
-  std::puts("  two primary views without a common office: entry 8 is safe in one, entry 9 in the other");
+  without_common_office({2, 3, 4}, {0, 1});
+}
+
+// One order of messages among {0,1,2} and one among {2,3,4}, where office 2 takes the first alone and is heard in both.
+void carry_both(Offices &offices) {
+  std::vector<Message> here, there;
+  each(offices, {0, 1}, [&](Office &office) { for (Message &message : office.pass()) here.push_back(message); });
+  for (Message &message : offices[2].pass()) here.push_back(message), there.push_back(message);
+  each(offices, {3, 4}, [&](Office &office) { for (Message &message : office.pass()) there.push_back(message); });
+  each(offices, {0, 1, 2}, [&](Office &office) { for (const Message &message : here) office.take(message); });
+  each(offices, {3, 4}, [&](Office &office) { for (const Message &message : there) office.take(message); });
 }
 
 void one_identifier_two_sets() {
   std::puts("2. One identifier, two sets");
+  Offices kept = fresh();
+  need(try_over(kept, {0, 1, 2}, 1), "attempt");
+  refused_if_kept(kept, {2, 3, 4}, 2);
   Offices offices = fresh();
-  each(offices, {0, 1, 2}, [](Office &office) { office.join(1, 0b00111); });
-  each(offices, {3, 4}, [](Office &office) { office.join(1, 0b11100); });
-  const auto carry_both = [&] {
-    std::vector<Message> here, there;
-    each(offices, {0, 1}, [&](Office &office) { for (Message &message : office.pass()) here.push_back(message); });
-    for (Message &message : offices[2].pass()) here.push_back(message), there.push_back(message);
-    each(offices, {3, 4}, [&](Office &office) { for (Message &message : office.pass()) there.push_back(message); });
-    each(offices, {0, 1, 2}, [&](Office &office) { for (const Message &message : here) office.take(message); });
-    each(offices, {3, 4}, [&](Office &office) { for (const Message &message : there) office.take(message); });
-  };
-  carry_both();
-  each(offices, {0, 1, 2, 3, 4}, [](Office &office) { need(office.attempt(), "attempt"); });
+  each(offices, {0, 1, 2}, [](Office &office) { office.join(1, set_of({0, 1, 2})); });
+  each(offices, {3, 4}, [](Office &office) { office.join(1, set_of({2, 3, 4})); });
+  carry_both(offices);
+  need(attempt(offices, {0, 1, 2, 3, 4}), "attempt");
   std::puts("  view 1 is attempted as {0,1,2} and as {2,3,4}: what office 2 says counts in both");
   each(offices, {0, 1, 2, 3, 4}, [](Office &office) { office.register_view(); });
-  carry_both();
+  carry_both(offices);
   each(offices, {0, 1, 2, 3, 4}, [](Office &office) { office.collect(); });
-  go_over(offices, {0, 1}, 2, 0b00011);
+  std::puts("  it is registered in and settled as both");
+  go_over(offices, {0, 1}, 2);
   work(offices, {0, 1}, 7);
-  go_over(offices, {3, 4}, 3, 0b11000);
+  go_over(offices, {3, 4}, 3);
   work(offices, {3, 4}, 8);
-  std::puts("  two primary views without a common office");
+  without_common_office({0, 1}, {3, 4});
 }
 
 void two_starts() {
   std::puts("3. Two starts");
   Offices offices;
-  for (const unsigned p : {0u, 1u}) offices[p].start(0b00011, p);
-  for (const unsigned p : {2u, 3u, 4u}) offices[p].start(0b11100, p);
+  for (const unsigned p : {0u, 1u}) offices[p].start(set_of({0, 1}), p);
+  for (const unsigned p : {2u, 3u, 4u}) offices[p].start(set_of({2, 3, 4}), p);
+  std::puts("  offices 0 and 1 start with the first set {0,1}, the others with {2,3,4}");
   work(offices, {0, 1}, 7);
   work(offices, {2, 3, 4}, 8);
-  std::puts("  each part has its own first view, and they have no common office");
+  without_common_office({0, 1}, {2, 3, 4});
 }
 
 void lost_in_the_middle() {
@@ -189,36 +232,32 @@ void lost_in_the_middle() {
 
 void forged_info() {
   std::puts("5. A message is forged");
-  Offices honest = fresh();
-  each(honest, {0, 1}, [](Office &office) { office.join(2, 0b00011); });
-  carry(honest, {0, 1});
-  std::printf("  view 2 {0,1} of five: attempt is refused with %u\n", honest[0].attempt());
   Offices offices = fresh();
-  offices[0].join(2, 0b00011);
+  refused_if_kept(offices, {0, 1}, 2);
+  offices[0].join(2, set_of({0, 1}));
   // in the name of office 1: view 1 of {0,1} is settled
   const Message forged{{DVS_INFO, 0, 0, 0, 2, 1, 0, 0, 0, 1, 0b00011, 0}, 1};
   for (const Message &message : offices[0].pass()) offices[0].take(message);
   offices[0].take(forged);
   need(offices[0].attempt(), "attempt");
-  std::puts("  with one forged info, which says that {0,1} is settled, office 0 attempts it");
+  std::puts("  with one forged info, which says that {0,1} is settled, office 0 attempts view 2 {0,1}");
 }
 
 void too_many_open() {
   std::puts("6. Views that not all their offices register in");
-  Offices offices = fresh();
-  std::uint32_t view = 1, refused = 0;
-  for (; refused == 0; ++view) {
-    each(offices, {0, 1, 2}, [&](Office &office) { office.join(view, 0b00111); });
-    carry(offices, {0, 1, 2});
-    each(offices, {0, 1, 2}, [&](Office &office) { if (const std::uint32_t answer = office.attempt()) refused = answer; });
+  Offices offices = fresh(), last = offices;
+  std::uint32_t view = 0, refused = 0;
+  while (refused == 0) {
+    last = offices;
+    refused = try_over(offices, {0, 1, 2}, ++view);
   }
-  std::printf("  %u views in a row were attempted and not registered in by all; the next attempt is refused with %u, and so is every later one\n", view - 2,
-              refused);
-  for (unsigned more = 0; more < 3; ++more, ++view) {
-    each(offices, {0, 1, 2}, [&](Office &office) { office.join(view, 0b00111); });
-    carry(offices, {0, 1, 2});
-    each(offices, {0, 1, 2}, [&](Office &office) { if (office.attempt() != refused) stop("an attempt was not refused"); });
-  }
+  std::printf("  %u views in a row were attempted and not registered in; view %u is refused with %u", view - 1, view, refused);
+  for (unsigned more = 1; more <= 3; ++more)
+    if (try_over(offices, {0, 1, 2}, view + more) != refused) stop("an attempt was not refused");
+  std::puts(", and so are the three after it");
+  std::printf("  where they stay in view %u:\n", view - 1);
+  settle(last, {0, 1, 2});
+  go_over(last, {0, 1, 2}, view);
 }
 
 }  // namespace

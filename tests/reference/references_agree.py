@@ -1,10 +1,13 @@
 """The two references beside each other: random steps of a group, each put to the
 reference of the group and to references of the member by itself, one for each member,
-whose bytes are carried in the same order. Their answers must be the same.
+whose bytes are carried in the same order. Their answers must be the same. Every refusal
+that a step has in both must have come, and every step must have succeeded: where one
+was not seen the exit status is 1.
 
     python3 tests/reference/references_agree.py SEED STEPS
 """
 
+import collections
 import random
 import sys
 
@@ -14,10 +17,32 @@ import reference as group
 # The limit of the group's list; the group never has more open.
 ROOM = 32
 
+# After so many steps another group is begun.
+LIFE = 2000
+
+# The refusals that a step has in both; the others concern the carrier's own queues, or the bytes.
+SHARED = {
+    "join": [11, 12],
+    "pass": [13, 14],
+    "order": [],
+    "deliver": [13],
+    "attempt": [13, 19, 20, 21],
+    "register": [22, 23, 24],
+    "send": [22, 24],
+    "hand": [22, 25],
+    "tell": [22, 24, 26, 27],
+    "safe": [22, 26, 28, 29],
+    "collect": [13, 30, 31],
+}
+CARRIERS_OWN = [10, 15, 16, 17, 18]
+
+KINDS = {name: kind for kind, (name, _, _) in group.STEPS.items()}
+
 
 class Beside:
-    def __init__(self, draw):
+    def __init__(self, draw, seen):
         self.draw = draw
+        self.seen = seen
         members = draw.choice([1, 2, 2, 3, 3, 4, 8])
         first_set = draw.choice([2**members - 1, draw.randint(1, 2**members - 1)])
         self.group = group.start(members, first_set, ROOM)
@@ -50,34 +75,77 @@ class Beside:
         except alone.Refused as refusal:
             return f"refused {refusal.number}"
 
-    def step(self):
-        draw = self.draw
-        kind = draw.choice([1, 2, 2, 2] + [3, 4, 5, 5] * 20 + [6, 7, 8, 9, 10, 11, 12] * 5)
-        name = group.STEPS[kind][0]
-        if name == "create":
-            identifier = self.group.views[-1][0] + draw.randint(0, 2)
-            whole = 2 ** len(self.members) - 1
-            self.group.step(kind, identifier, draw.choice([whole, whole, draw.randrange(256)]))
-            return
-        p = draw.randrange(len(self.members))
-        views = self.group.views[-2:]
-        x = draw.randrange(100) if name == "send" else draw.choice(views)[0]
-        want = " ".join(str(part) for part in self.group.step(kind, p, x))
-        # What concerns the carrier's own queues is no matter of the member's.
-        if want in ("refused 10", "refused 15", "refused 16", "refused 17", "refused 18"):
-            return
+    def put(self, name, p, x):
+        """One step of the member p, to both; whether it was accepted."""
+        want = " ".join(str(part) for part in self.group.step(KINDS[name], p, x))
+        refused = int(want.split(" ")[1]) if want.startswith("refused ") else 0
+        if refused in CARRIERS_OWN:
+            return False
         got = self.alone(name, p, x)
         if got != want:
             sys.exit(f"{name} {p} {x}: the group says {want}, the member by itself {got}")
+        self.seen[name, refused] += 1
+        return refused == 0
+
+    def create(self):
+        """A further view, of all, of one in any set, or of what no view may have."""
+        whole = 2 ** len(self.members) - 1
+        identifier = self.group.views[-1][0] + self.draw.randint(0, 2)
+        some = self.draw.choice([whole, whole, self.draw.randint(1, whole), self.draw.randrange(256)])
+        self.group.step(KINDS["create"], identifier, some)
+
+    def form(self):
+        """The members of the last view join it, hear of each other and attempt it, also where it fails the test."""
+        identifier, members_set = self.group.views[-1]
+        inside = [p for p in range(len(self.members)) if members_set >> p & 1]
+        for name in ("join", "pass", "order"):
+            for p in inside:
+                self.put(name, p, identifier)
+        for p in inside:
+            while self.put("deliver", p, identifier):
+                pass
+        for p in inside:
+            self.put("attempt", p, identifier)
+
+    def fill(self, p):
+        """The member sends until its outgoing list is full, and then has more to say."""
+        self.put("hand", p, 0)
+        for entry in range(alone.MOST_OUTGOING + 1):
+            self.put("send", p, entry)
+        self.put("register", p, 0)
+        self.put("tell", p, 0)
+
+    def step(self):
+        draw = self.draw
+        name = draw.choice(["create"] + ["join"] * 3 + ["pass", "order", "deliver", "deliver"] * 20
+                           + ["attempt", "register", "send", "hand", "tell", "safe", "collect"] * 5 + ["form", "fill"])
+        p = draw.randrange(len(self.members))
+        if name == "create":
+            self.create()
+        elif name == "form":
+            self.form()
+        elif name == "fill":
+            self.fill(p)
+        else:
+            self.put(name, p, draw.randrange(100) if name == "send" else draw.choice(self.group.views[-2:])[0])
 
 
 def main(words):
     draw = random.Random(int(words[0]))
-    beside = Beside(draw)
+    seen = collections.Counter()
     for n in range(int(words[1])):
-        if n % 2000 == 0:
-            beside = Beside(draw)
+        if n % LIFE == 0:
+            beside = Beside(draw, seen)
         beside.step()
+    missing = [(name, number) for name, numbers in SHARED.items() for number in [0] + numbers if not seen[name, number]]
+    for name, number in missing:
+        print(f"{name}: {f'refusal {number}' if number else 'success'} was not seen")
+    strange = [(name, number) for name, number in seen if number and number not in SHARED[name]]
+    for name, number in strange:
+        print(f"{name}: refusal {number} is not one that the two have in common")
+    if missing or strange:
+        sys.exit(1)
+    print(f"the two references agree on {sum(seen.values())} steps, and on each of {len(seen)} answers")
 
 
 if __name__ == "__main__":
