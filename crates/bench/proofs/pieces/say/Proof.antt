@@ -4,7 +4,8 @@ use Prim.Native.Nat.{_≤_}
 use native.Mathlib.Omega.{arith}
 use lib.ListN.{length, length-drop}
 use Rattle.bench_lines.specs.ReplyLines.{replyLine, longestReply}
-use Rattle.bench_lines.proofs.Longest.{Sized, reply-fits}
+use Rattle.bench_lines.specs.Promises.{Sized}
+use Rattle.bench_lines.proofs.Longest.{reply-fits}
 use Rattle.bench_lines.proofs.BufferLaws.{wrote-put}
 use Rattle.bench.proofs.PieceLaws.{place-behind, place-front, put-place, part-all, put-part}
 use borrow.Author.Needs.{needs}
@@ -41,8 +42,8 @@ part-write-end c = search needs
 write-requires-2 : tie.Need-write-requires-2
 write-requires-2 c κs = search needs
 
-add-result : tie.Need-add-result
-add-result c =
+add-t8 : tie.Need-add-t8
+add-t8 c =
     let z : Sized (c .before .before .before .before .before .before .before .args .r .event) = record { member = omega arith; identifier = omega arith; set = omega arith; sender = omega arith; entry = omega arith } in
     let l : length (replyLine (c .before .before .before .before .before .before .before .args .r)) ≤ longestReply = reply-fits (c .before .before .before .before .before .before .before .args .r) z in
     let p = wrote-put _ _ _ _ (omega (arith, ap length (part-all (c .before .before .before .before .before .before .before .args .out .now) (c .before .before .before .before .before .before .before .args .filled)), length-drop (c .before .before .before .before .before .before .before .args .filled) (c .before .before .before .before .before .before .before .args .out .now))) (c .before .before .before .write2 .ensures) in
@@ -70,6 +71,6 @@ say-spec =
     part-write-start
     part-write-end
     write-requires-2
-    add-result
+    add-t8
     same-length-2
     returns-2)
