@@ -145,7 +145,7 @@ target/reference-unchecked: tests/reference/reference.cpp $(REFERENCE)
 	mkdir -p target
 	$(CXX) $(CXXFLAGS) -DNO_CHECK -o $@ $<
 
-# The benches beside each other: every script with its answers, a random script, and two sent line by line, the second in pieces too.
+# The benches beside each other: every script with its answers, a random script, and two sent line by line, the second in pieces too; what fails.
 .PHONY: compare
 BENCH := $(if $(UNPROVED),target/unproved,target/bin)/bench
 compare: $(BENCH) reference-cpp
@@ -153,6 +153,7 @@ compare: $(BENCH) reference-cpp
 	python3 tests/reference/compare.py random 1 20000 $(BENCH) target/reference target/reference-unchecked
 	python3 tests/reference/compare.py live 2 2000 $(BENCH)
 	python3 tests/scripts/bench_waits.py $(BENCH)
+	python3 tests/scripts/bench_fails.py $(BENCH)
 target/bin/bench: $(SOURCES)
 	.ci/prove check bench
 	touch $@

@@ -6,6 +6,7 @@ use Prim.Native.Nat.{ℕ, _+_, _-_, _≤_, min}
 use lib.Dec.{leb}
 use lib.ListN.{length, take, drop}
 use Rattle.wire.specs.Writer.{overwritten}
+use Rattle.bench_lines.specs.TextParts.{Put}
 use Rattle.bench_lines.specs.Lines.{longestLine}
 use Rattle.bench_lines.specs.ReplyLines.{longestReply}
 
@@ -27,3 +28,7 @@ pub record Kept (at n : ℕ) (entry exit : List ℕ) (r : ℕ) : Type 0 where
 -- where the next reply goes: behind the bytes that are filled, or to the front where no room for every reply is left
 abbrev pub placeFor : ℕ → List ℕ → ℕ
 placeFor filled out = cond (leb longestReply (length out - filled)) filled 0
+
+-- a line is put there, and n bytes are filled then
+abbrev pub Behind : List ℕ → ℕ → List ℕ → List ℕ → ℕ → Type 0
+Behind line filled entry exit n = Put line entry (placeFor filled entry) exit n

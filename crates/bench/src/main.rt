@@ -1,6 +1,7 @@
 // The bench: a reply to each line of standard input, as the specification's section 'The bench' has it. What a line
 // does is `bench_session`; here are only reading and writing, many lines to a call of the system.
 mod pieces;
+mod words;
 
 ghost use lib.ListN.{length};
 ghost use Prim.Native.Nat.{_≤_};
@@ -13,7 +14,12 @@ const LIST: usize = group_bytes::VIEW * ROOM;
 
 const QUEUES: usize = group_bytes::HEAD + group_bytes::TABLE * ROOM;
 
+// With an argument it only says what it is for.
 fn main() {
+    if os::arg_count() > 1 {
+        crate::words::help();
+        return;
+    }
     let mut list = [0u8; LIST];
     let mut all = [0u8; group_bytes::BOOKS];
     let mut queues = [0u8; QUEUES];
@@ -22,8 +28,8 @@ fn main() {
     run(&mut list, &mut all, &mut queues, &mut input, &mut out);
 }
 
-// Round after round until the input ends. A proved loop has to end, so it counts down from a number that no run uses
-// up.
+// Round after round until the input ends, or something could not be read or written. A proved loop has to end, so it
+// counts down from a number that no run uses up.
 fn run(list: &mut [u8], all: &mut [u8], queues: &mut [u8], input: &mut [u8], out: &mut [u8])
     requires { ⌜ longestReply ≤ length (now out) ⌝ }
 {
@@ -31,12 +37,21 @@ fn run(list: &mut [u8], all: &mut [u8], queues: &mut [u8], input: &mut [u8], out
     let mut held: usize = 0;
     let mut turns = u64::MAX;
     while turns > 0 {
-        let n = crate::pieces::fill(input, held);
+        let got = crate::pieces::fill(input, held);
+        if got.failed {
+            crate::words::unread();
+            return;
+        }
+        let n = got.count;
         if n == held {
             finish(list, all, queues, running, &input[..n], out);
             return;
         }
         let t = answer_all(list, all, queues, running, &input[..n], out);
+        if t.failed {
+            crate::words::unwritten();
+            return;
+        }
         running = t.running;
         held = crate::pieces::keep(input, t.at, n);
         turns -= 1;
@@ -59,14 +74,17 @@ fn finish(
     }
     let a = bench_session::answer(list, all, queues, running, line);
     let reply = a.reply;
-    let filled = crate::pieces::say(out, 0, reply);
-    crate::pieces::send(out, filled);
+    let said = crate::pieces::say(out, 0, reply);
+    if !crate::pieces::send(out, said.filled) {
+        crate::words::unwritten();
+    }
 }
 
-// Where the lines that were answered end, and whether a group is running.
+// Where the lines that were answered end, whether a group is running, and whether a write failed.
 struct Turn {
     running: bool,
     at: usize,
+    failed: bool,
 }
 
 // A reply to every line of the input that has its end.
@@ -92,12 +110,21 @@ fn answer_all(
         let a = bench_session::answer(list, all, queues, now_running, &input[at..end]);
         now_running = a.running;
         let reply = a.reply;
-        filled = crate::pieces::say(out, filled, reply);
+        let said = crate::pieces::say(out, filled, reply);
+        if said.failed {
+            return Turn {
+                running: now_running,
+                at,
+                failed: true,
+            };
+        }
+        filled = said.filled;
         at = crate::pieces::line_after(input, end);
     }
-    crate::pieces::send(out, filled);
+    let sent = crate::pieces::send(out, filled);
     Turn {
         running: now_running,
         at,
+        failed: !sent,
     }
 }

@@ -5,20 +5,29 @@ use libc::STDOUT_FILENO;
 ghost use Prim.Native.Nat.{_+_, _≤_, min};
 ghost use lib.ListN.{length};
 ghost use mathlib.Core.Path.{_≡_};
-ghost use Rattle.bench_lines.specs.TextParts.{Put};
 ghost use Rattle.bench_lines.specs.ReplyLines.{replyLine, longestReply};
-ghost use Rattle.bench.specs.PieceParts.{Filled, Kept, placeFor};
+ghost use Rattle.bench.specs.PieceParts.{Filled, Kept, Behind};
 
 // A line longer than the longest that is read is unreadable whatever follows: so many bytes of an unfinished one tell.
 const KEPT: usize = bench_lines::lines::LONGEST_LINE + 1;
 
-// One read behind the bytes that are held; how many bytes of the buffer count then.
-pub fn fill(input: &mut [u8], held: usize) -> usize
+// How many bytes of the buffer count after a read, and whether it failed.
+pub struct Got {
+    pub count: usize,
+    pub failed: bool,
+}
+
+// One read behind the bytes that are held.
+pub fn fill(input: &mut [u8], held: usize) -> Got
     requires { ⌜ held ≤ length (now input) ⌝ }
-    ensures { λ r. ⌜ Filled held (now (input .entry)) (now (input .exit)) r ⌝ }
+    ensures { λ r. ⌜ Filled held (now (input .entry)) (now (input .exit)) (r .count) ⌝ }
 {
     let got = libc::read(STDIN_FILENO, &mut input[held..]);
-    held + io::count(got, &input[held..])
+    let count = held + io::count(got, &input[held..]);
+    Got {
+        count,
+        failed: got < 0,
+    }
 }
 
 // Where the line after the one that ends at a place starts.
@@ -47,23 +56,35 @@ pub fn keep(input: &mut [u8], at: usize, n: usize) -> usize
     i
 }
 
-// The first bytes of the buffer are written.
-pub fn send(out: &[u8], filled: usize)
+// The first bytes of the buffer are written, or not all of them, which is false.
+pub fn send(out: &[u8], filled: usize) -> bool
     requires { ⌜ filled ≤ length (now out) ⌝ }
 {
-    io::write_all(STDOUT_FILENO, &out[..filled]);
+    io::write_all(STDOUT_FILENO, &out[..filled])
+}
+
+// How many bytes of the buffer are filled, and whether a write before that failed.
+pub struct Said {
+    pub filled: usize,
+    pub failed: bool,
 }
 
 // A reply's line goes behind the bytes that are filled; those are written first where there is no room for every reply.
-pub fn say(out: &mut [u8], filled: usize, r: Reply) -> usize
+pub fn say(out: &mut [u8], filled: usize, r: Reply) -> Said
     requires { ⌜ (filled ≤ length (now out)) × (longestReply ≤ length (now out)) ⌝ }
-    ensures { λ n. ⌜ Put (replyLine r) (now (out .entry)) (placeFor filled (now (out .entry))) (now (out .exit)) n ⌝ }
+    ensures { λ s. ⌜ Behind (replyLine r) filled (now (out .entry)) (now (out .exit)) (s .filled) ⌝ }
 {
     if out.len() - filled < bench_lines::replies::LONGEST_REPLY {
-        send(out, filled);
+        let sent = send(out, filled);
         let w = bench_lines::replies::write(out, r);
-        return w.length;
+        return Said {
+            filled: w.length,
+            failed: !sent,
+        };
     }
     let w = bench_lines::replies::write(&mut out[filled..], r);
-    filled + w.length
+    Said {
+        filled: filled + w.length,
+        failed: false,
+    }
 }

@@ -28,8 +28,8 @@ part-count-end c = search needs
 count-requires : tie.Need-count-requires
 count-requires c κs = search needs
 
-add-result : tie.Need-add-result
-add-result c = search needs
+add-count : tie.Need-add-count
+add-count c = search needs
 
 same-length : tie.Need-same-length
 same-length c = search needs
@@ -49,6 +49,6 @@ fill-spec =
     part-count-start
     part-count-end
     count-requires
-    add-result
+    add-count
     same-length
     returns)

@@ -42,8 +42,8 @@ part-write-end c = search needs
 write-requires-2 : tie.Need-write-requires-2
 write-requires-2 c κs = search needs
 
-add-result : tie.Need-add-result
-add-result c =
+add-t8 : tie.Need-add-t8
+add-t8 c =
     let z : Sized (c .before .before .before .before .before .before .before .args .r .event) = record { member = omega arith; identifier = omega arith; set = omega arith; sender = omega arith; entry = omega arith } in
     let l : length (replyLine (c .before .before .before .before .before .before .before .args .r)) ≤ longestReply = reply-fits (c .before .before .before .before .before .before .before .args .r) z in
     let p = wrote-put _ _ _ _ (omega (arith, ap length (part-all (c .before .before .before .before .before .before .before .args .out .now) (c .before .before .before .before .before .before .before .args .filled)), length-drop (c .before .before .before .before .before .before .before .args .filled) (c .before .before .before .before .before .before .before .args .out .now))) (c .before .before .before .write2 .ensures) in
@@ -71,6 +71,6 @@ say-spec =
     part-write-start
     part-write-end
     write-requires-2
-    add-result
+    add-t8
     same-length-2
     returns-2)
