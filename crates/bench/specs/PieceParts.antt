@@ -1,6 +1,6 @@
 -- Input as it comes and output as it goes: what the bench's own functions give and leave.
 use mathlib.Core.Path.{_≡_}
-use mathlib.Core.Bool.{cond}
+use mathlib.Core.Bool.{Bool, true, cond}
 use mathlib.Core.List.{List}
 use Prim.Native.Nat.{ℕ, _+_, _-_, _≤_, min}
 use lib.Dec.{leb}
@@ -10,11 +10,13 @@ use Rattle.bench_lines.specs.TextParts.{Put}
 use Rattle.bench_lines.specs.Lines.{longestLine}
 use Rattle.bench_lines.specs.ReplyLines.{longestReply}
 
--- what is read is not known beforehand: the bytes that were held stay, and those that count then are in the buffer
-pub record Filled (held : ℕ) (entry exit : List ℕ) (n : ℕ) : Type 0 where
+-- what is read is not known beforehand: the bytes that were held stay, those that count then are in the buffer, and a
+-- read that failed adds none
+pub record Filled (held : ℕ) (entry exit : List ℕ) (n : ℕ) (failed : Bool) : Type 0 where
   pub more : held ≤ n
   pub within : n ≤ length exit
   pub same : take held exit ≡ take held entry
+  pub none : failed ≡ true → n ≡ held
 
 -- how many bytes from a place to n are kept: one more than the longest line has, at most
 abbrev pub keptCount : ℕ → ℕ → ℕ

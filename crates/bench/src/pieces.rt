@@ -20,13 +20,18 @@ pub struct Got {
 // One read behind the bytes that are held.
 pub fn fill(input: &mut [u8], held: usize) -> Got
     requires { ⌜ held ≤ length (now input) ⌝ }
-    ensures { λ r. ⌜ Filled held (now (input .entry)) (now (input .exit)) (r .count) ⌝ }
+    ensures { λ r. ⌜ Filled held (now (input .entry)) (now (input .exit)) (r .count) (r .failed) ⌝ }
 {
     let got = libc::read(STDIN_FILENO, &mut input[held..]);
-    let count = held + io::count(got, &input[held..]);
+    if got < 0 {
+        return Got {
+            count: held,
+            failed: true,
+        };
+    }
     Got {
-        count,
-        failed: got < 0,
+        count: held + io::count(got, &input[held..]),
+        failed: false,
     }
 }
 

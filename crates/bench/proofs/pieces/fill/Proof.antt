@@ -1,4 +1,6 @@
 -- A read changes nothing before the part that it is lent.
+use mathlib.Core.Path.{_≡_, refl, sym}
+use mathlib.Core.Bool.{true, false, true≢false}
 use Rattle.bench.proofs.PieceLaws.{part-before}
 use borrow.Author.Needs.{needs}
 use Rattle.bench.proofs.pieces.fill.Statement.{statement}
@@ -16,6 +18,12 @@ part-read-end c = search needs
 read-requires : tie.Need-read-requires
 read-requires c κs = search needs
 
+same-length : tie.Need-same-length
+same-length c = search needs
+
+returns : tie.Need-returns
+returns c = record { more = search needs; within = search needs; same = part-before (c .before .before .before .before .before .before .args .input .now) (c .before .before .before .read .last .1 .0) (c .before .before .before .before .before .before .args .held) (c .before .before .before .before .before .before .pre); none = λ _. refl }
+
 sub-count : tie.Need-sub-count
 sub-count c = search needs
 
@@ -28,14 +36,14 @@ part-count-end c = search needs
 count-requires : tie.Need-count-requires
 count-requires c κs = search needs
 
-add-count : tie.Need-add-count
-add-count c = search needs
+add-t13 : tie.Need-add-t13
+add-t13 c = search needs
 
-same-length : tie.Need-same-length
-same-length c = search needs
+same-length-2 : tie.Need-same-length-2
+same-length-2 c = search needs
 
-returns : tie.Need-returns
-returns c = record { more = search needs; within = search needs; same = part-before (c .before .before .before .before .before .before .before .before .args .input .now) (c .before .before .before .before .before .read .last .1 .0) (c .before .before .before .before .before .before .before .before .args .held) (c .before .before .before .before .before .before .before .before .pre) }
+returns-2 : tie.Need-returns-2
+returns-2 c = record { more = search needs; within = search needs; same = part-before (c .before .before .before .before .before .before .before .before .before .args .input .now) (c .before .before .before .before .before .before .read .last .1 .0) (c .before .before .before .before .before .before .before .before .before .args .held) (c .before .before .before .before .before .before .before .before .before .pre); none = λ e. absurd (true≢false (sym e)) }
 
 pub fill-spec : {M : Type 1} → statement M
 fill-spec =
@@ -45,10 +53,12 @@ fill-spec =
     part-read-start
     part-read-end
     read-requires
+    same-length
+    returns
     sub-count
     part-count-start
     part-count-end
     count-requires
-    add-count
-    same-length
-    returns)
+    add-t13
+    same-length-2
+    returns-2)
