@@ -25,11 +25,11 @@ No step is put to a group whose list put or create changed, before the next acce
     python3 tests/reference/group_script.py check SCRIPT    whether they stand beside it, in the file stdout
 """
 
-import os
 import sys
 
 from reference import MOST_MEMBERS, MOST_VIEWS, OK, Group, empty_or_beyond, start
 from refusals import RECORDS_UNSOUND
+from stored_script import answered, each_line
 
 LONGEST = MOST_VIEWS + 1
 STEP = 13
@@ -173,31 +173,17 @@ class Table:
 
 def answers(script):
     table = Table()
-    replies = []
-    for number, text in enumerate(script.splitlines(), 1):
-        try:
-            reply = (text,) if text.startswith("#") else table.answer(text.split(" "))
-        except (Unreadable, ValueError):
-            sys.exit(f"line {number} is unreadable: {text}")
-        replies.append(" ".join(str(part) for part in reply))
-    return "".join(reply + "\n" for reply in replies)
 
+    def answer(text):
+        reply = (text,) if text.startswith("#") else table.answer(text.split(" "))
+        return " ".join(str(part) for part in reply)
 
-def read_file(path):
-    with open(path) as f:
-        return f.read()
+    return each_line(script, answer, (Unreadable, ValueError))
 
 
 def main(words):
-    if len(words) == 1:
-        sys.stdout.write(answers(read_file(words[0])))
-    elif len(words) == 2 and words[0] == "check":
-        stdout = os.path.join(os.path.dirname(words[1]), "stdout")
-        if read_file(stdout) != answers(read_file(words[1])):
-            return f"{stdout} is not what the reference answers"
-    else:
-        return __doc__
-    return 0
+    done = answered(words, answers)
+    return __doc__ if done is None else done
 
 
 if __name__ == "__main__":

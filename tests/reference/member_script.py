@@ -15,11 +15,11 @@ of 5,234 bytes of value 0 at first. K and J are books; numbers are decimal.
     # words           a comment, answered by itself
 """
 
-import os
 import sys
 
 from member_layout import SIZE, Reading, to_bytes
 from member_reference import RECORDS_UNSOUND, OK, Member, Refused, line, refuse_if
+from stored_script import answered, each_line
 
 BOOKS = 4
 MOST_LENT = 5240
@@ -132,32 +132,14 @@ class Desk:
 
 
 def answers(script):
-    desk = Desk()
-    replies = []
-    for number, text in enumerate(script.splitlines(), 1):
-        try:
-            replies.append(desk.answer(text))
-        except (Unreadable, ValueError):
-            sys.exit(f"line {number} is unreadable: {text}")
-    return "".join(reply + "\n" for reply in replies)
-
-
-def read_file(path):
-    with open(path) as f:
-        return f.read()
+    return each_line(script, Desk().answer, (Unreadable, ValueError))
 
 
 def main(words):
-    if len(words) == 1:
-        sys.stdout.write(answers(read_file(words[0])))
-    elif len(words) == 2 and words[0] == "check":
-        stdout = os.path.join(os.path.dirname(words[1]), "stdout")
-        if read_file(stdout) != answers(read_file(words[1])):
-            return f"{stdout} is not what the reference answers"
-    elif len(words) == 3 and words[0] == "random":
+    if len(words) == 3 and words[0] == "random":
         from member_hostile import script
 
         sys.stdout.write(script(int(words[1]), int(words[2])))
-    else:
-        return __doc__
-    return 0
+        return 0
+    done = answered(words, answers)
+    return __doc__ if done is None else done
