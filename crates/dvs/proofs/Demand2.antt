@@ -7,6 +7,7 @@ use native.Mathlib.Omega.{arith}
 use borrow.Author.Tests.{eq-eqb, eqb-true, le-leb, leb-true, eqb-false}
 use lib.Dec.{eqb, leb}
 use lib.ListN.{length, getD, take, drop}
+use lib.Seq.{take-at}
 use Rattle.views.specs.declared.View.{View}
 use Rattle.views.specs.declared.refusal.Verdict.{Verdict}
 use Rattle.views.specs.declared.refusal.Verdict.the-variants.{Accepted, Refused}
@@ -42,10 +43,6 @@ unfolding andThen
 then-says Accepted w e = (refl, e)
 then-says (Refused r) w e = let z : _≡_ {A = ℕ} 0 1 = cc in absurd (omega arith)
 
-take-front : (a b : List ℕ) → take (length a) (a ++ b) ≡ a
-take-front [] b = refl
-take-front (x ∷ a) b = ap (λ (l : List ℕ). x ∷ l) (take-front a b)
-
 -- ---- read, then written
 
 read-then-written : (s m m' o o' l l' : List ℕ) (x : ℕ) → AreBytes s → Reads s m m' 0 → length s ≤ length o → length l ≡ lengthSize → Writes m' o o' l l' x
@@ -77,7 +74,7 @@ written-then-read m o o' l l' k k' x bytes plain w size r =
     let (_, v3) = need-accepted (isKnown (getD m recordKind 0)) _ (writeVerdict f (length o)) v2 in
     let (v4, _) = then-says (frameVerdict f) _ v3 in
     let buffer : o' ≡ frameBytes f ++ drop (length (frameBytes f)) o = w .buffer ∙ rw ok in
-    let front : take (length (frameBytes f)) o' ≡ frameBytes f = ap (take (length (frameBytes f))) buffer ∙ take-front (frameBytes f) _ in
+    let front : take (length (frameBytes f)) o' ≡ frameBytes f = ap (take (length (frameBytes f))) buffer ∙ take-at (frameBytes f) _ (length (frameBytes f)) refl in
     let read = written-reads f (record-fits m bytes) v4 in
     let v : reading (take (length (frameBytes f)) o') k ≡ Accepted = rw (front, eq-eqb _ _ size, read) refl in
     (r .number ∙ rw v refl, r .message ∙ rw (v, front, read) plain)
