@@ -1,5 +1,5 @@
--- From what the member's pass, the reader and the writer gave to what the calls give here.
-use mathlib.Core.Path.{_≡_, refl, sym, ap, _∙_}
+-- From what the member's pass and the message's record gave to what the calls give here.
+use mathlib.Core.Path.{_≡_, refl, ap, _∙_}
 use mathlib.Core.List.{List}
 use Prim.Native.Nat.{ℕ}
 use mathlib.Core.Bool.{true, false}
@@ -9,7 +9,6 @@ use Rattle.views.specs.declared.refusal.Refusal.the-variants.{RecordsUnsound, U
 use Rattle.views.specs.declared.refusal.Verdict.{Verdict}
 use Rattle.views.specs.declared.refusal.Verdict.the-variants.{Accepted, Refused}
 use Rattle.views.specs.Refusals.{codeOf, require, left}
-use Rattle.wire.specs.declared.Reading.{Reading}
 use Rattle.wire.specs.declared.Written.{Written}
 use Rattle.wire.specs.Format.{isKnown}
 use Rattle.wire.specs.Reader.{readOf}
@@ -62,19 +61,12 @@ reads-unsized s m x h k =
     let number : x ≡ codeOf (reading s m) = rw v k in
     record { number = number; message = rw v }
 
-pub reads-refused : (s m : List ℕ) (x : ℕ) (r : Reading) (why : Refusal) → length m ≡ recordSize → r ≡ readOf s → r .verdict ≡ Refused why → x ≡ codeOf (Refused why)
-    → Reads s m m x
-unfolding left
-reads-refused s m x r why n e w k =
-    let v : reading s m ≡ Refused why = sized-met m recordSize (readOf s .verdict) n ∙ ap (λ (y : Reading). y .verdict) (sym e) ∙ w in
-    record { number = rw v k; message = rw v }
-
-pub reads-accepted : (s m m' : List ℕ) (r : Reading) → length m ≡ recordSize → r ≡ readOf s → r .verdict ≡ Accepted → m' ≡ recordBytes (r .frame) → Reads s m m' 0
-unfolding left
-reads-accepted s m m' r n e w k =
-    let v : reading s m ≡ Accepted = sized-met m recordSize (readOf s .verdict) n ∙ ap (λ (y : Reading). y .verdict) (sym e) ∙ w in
-    let message : m' ≡ recordBytes (readOf s .frame) = rw e at k in
-    record { number = rw v; message = rw v message }
+pub reads-call : (s m m' : List ℕ) (v : Verdict) (x : ℕ) → length m ≡ recordSize
+    → (v ≡ readOf s .verdict) × (m' ≡ left (readOf s .verdict) (recordBytes (readOf s .frame)) m) → x ≡ codeOf v → Reads s m m' x
+reads-call s m m' v x n h k =
+    let e = sized-met m recordSize (readOf s .verdict) n in
+    let number : x ≡ codeOf (readOf s .verdict) = k ∙ ap (λ (w : Verdict). codeOf w) (h .0) in
+    record { number = rw e number; message = rw e (h .1) }
 
 -- what the writer gave, by its verdict
 written-said : (v : Verdict) (n x : ℕ) (l l' : List ℕ) → (x ≡ codeOf (writtenOf v n .verdict)) × (l' ≡ left (writtenOf v n .verdict) (lengthBytes (writtenOf v n .length)) l)

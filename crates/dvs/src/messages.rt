@@ -42,15 +42,10 @@ pub extern "C" fn dvs_read(bytes: &[u8], message: &mut [u8]) -> u32
     if message.len() != wire::record::RECORD {
         return c_answers::refused(Refusal::RecordsUnsound);
     }
-    let r = wire::reader::read(bytes);
-    let v = r.verdict;
+    let v = wire::record::read(bytes, message);
     match v {
         Verdict::Refused(why) => c_answers::refused(why),
-        Verdict::Accepted => {
-            let f = r.frame;
-            wire::record::put_frame(message, f);
-            0
-        }
+        Verdict::Accepted => 0,
     }
 }
 
@@ -69,8 +64,7 @@ pub extern "C" fn dvs_write(message: &[u8], buffer: &mut [u8], length: &mut [u8]
     if !format::known(message[wire::record::KIND]) {
         return c_answers::refused(Refusal::UnknownKind);
     }
-    let f = wire::record::load_frame(message);
-    let r = wire::writer::write(buffer, f);
+    let r = wire::record::write(message, buffer);
     let v = r.verdict;
     c_answers::measure(length, v, r.length)
 }

@@ -67,6 +67,19 @@ get-put-below b at k x j m h = get-same (put b at k x) b j j m (λ i l. put-belo
 pub get-put-past : (b : List ℕ) (at k x j m : ℕ) → at + k ≤ j → get (put b at k x) j m ≡ get b j m
 get-put-past b at k x j m h = get-same (put b at k x) b j j m (λ i l. put-past b at k x (j + i) (omega arith))
 
+-- the number of eight bytes, by the numbers of each four
+pub halves : (b : List ℕ) (at : ℕ) → get b at 8 ≡ get b at 4 * 4294967296 + get b (at + 4) 4
+unfolding get
+halves b at =
+    let place : (i j : ℕ) → i ≡ j → getD b i 0 ≡ getD b j 0 = λ i j e. ap (λ (k : ℕ). getD b k 0) e in
+    omega (
+      arith,
+      place (at + 4 + 0) (at + 4) (omega arith),
+      place (at + 4 + 1) (at + 5) (omega arith),
+      place (at + 4 + 2) (at + 6) (omega arith),
+      place (at + 4 + 3) (at + 7) (omega arith),
+    )
+
 -- ---- numbers and lists of bytes
 
 -- a number's bytes read back, wherever they stand and whatever stands behind them

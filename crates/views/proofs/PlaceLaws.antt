@@ -56,6 +56,10 @@ places-fit l = refl
 pub length-places : (l : List View) → length (places l) ≡ maxViews
 length-places l = ap length (places-fit l) ∙ length-fit maxViews l
 
+-- the unused places stand behind a list that fits its places
+pub places-short : (l : List View) → length l ≤ maxViews → places l ≡ l ++ replicate (maxViews - length l) noView
+places-short l h = places-fit l ∙ fit-short maxViews l h
+
 -- a list that fits its places is read back
 pub list-placed : (l : List View) → length l ≤ maxViews → listOf (placed l) ≡ l
 list-placed l h = ap (λ (p : List View). take (length l) p) (places-fit l) ∙ take-fit maxViews l h

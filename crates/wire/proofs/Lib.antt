@@ -1,6 +1,7 @@
 pub mod VerdictLaws
 pub mod FormatLaws
 pub mod ReaderLaws
+pub mod InBytesLaws
 pub mod SeamLaws
 pub mod WriterLaws
 pub mod TripViews
@@ -8,6 +9,8 @@ pub mod TripMessages
 pub mod TripWritten
 pub mod TripRead
 pub mod RoundTrip
+pub mod FrontLaws
 pub mod RecordLaws
+pub mod RecordAskedLaws
 pub mod RecordTrip
 pub mod Demand2

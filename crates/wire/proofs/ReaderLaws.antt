@@ -5,7 +5,7 @@ use Prim.Native.Nat.{ℕ, zero, suc, _+_, _*_, _<_, _≤_}
 use native.Mathlib.Nat.{add-zero}
 use native.Mathlib.Omega.{arith}
 use borrow.Author.Tests.{leb-true, le-leb, lt-leb}
-use lib.ListN.{length, set}
+use lib.ListN.{length, set, take}
 use Rattle.numbers.specs.Number.{get}
 use Rattle.views.specs.declared.View.{View}
 use Rattle.views.specs.declared.list.Views.{Views}
@@ -16,7 +16,6 @@ use Rattle.views.specs.Limits.{maxViews}
 use Rattle.views.specs.Lists.{listOf, places, placed}
 use Rattle.wire.specs.declared.Message.{Message}
 use Rattle.wire.specs.declared.Reading.{Reading}
-use Rattle.wire.specs.Format.{contentOf}
 use Rattle.wire.specs.Reader.{kindIn, viewIn, viewsIn, viewCount, numbersPlace, numberCount, endOf, numberIn, messageOf, scanOf, wholeOf, refused, readFront, readOf}
 use Rattle.wire.proofs.VerdictLaws.{need-met, need-unmet, need-accepted, given-accepted, given-refused}
 use Rattle.views.proofs.PlaceLaws.{places-snoc, list-placed}
@@ -36,6 +35,12 @@ viewsIn-snoc b at (suc n) =
     let e : suc n + 1 ≡ suc (n + 1) = omega arith in
     let f : at + 5 * suc n ≡ at + 5 + 5 * n = omega arith in
     rw (e, f) (ap (λ (l : List View). viewIn b at ∷ l) (viewsIn-snoc b (at + 5) n))
+
+pub viewsIn-take : (b : List ℕ) (at n m : ℕ) → n ≤ m → take n (viewsIn b at m) ≡ viewsIn b at n
+unfolding viewsIn
+viewsIn-take b at zero m h = refl
+viewsIn-take b at (suc n) zero h = absurd (omega arith)
+viewsIn-take b at (suc n) (suc m) h = ap (λ (l : List View). viewIn b at ∷ l) (viewsIn-take b (at + 5) n m (omega arith))
 
 pub load-turn : (b : List ℕ) (at i : ℕ) → i < maxViews
     → set (places (viewsIn b at i)) i (viewIn b (at + 5 * i)) ≡ places (viewsIn b at (i + 1))
@@ -76,12 +81,18 @@ shaped b e =
       whole = leb-true _ _ (s7 .0);
     }
 
--- ---- the message at the front
+-- ---- the number that a message carries
 
--- what is asked of the whole message, of the list and the number that were loaded
-pub whole-loaded : (b : List ℕ) (l : Views) (x : ℕ) → viewCount b ≤ maxViews → l ≡ placed (viewsIn b 6 (viewCount b)) → x ≡ numberIn b
-    → contentOf (kindIn b) (listOf l) x ≡ wholeOf b
-whole-loaded b l x h p q = rw (p, q, list-viewsIn b 6 (viewCount b) h)
+-- no number is 0
+pub no-number : (b : List ℕ) → numberCount b ≡ 0 → numberIn b ≡ 0
+unfolding numberIn get
+no-number b e = rw e
+
+pub a-number : (b : List ℕ) → numberCount b ≡ 1 → numberIn b ≡ get b (numbersPlace b + 1) 8
+unfolding numberIn
+a-number b e = rw e
+
+-- ---- the message at the front
 
 pub front-refused : (b : List ℕ) (r : Refusal) → scanOf b ≡ Accepted → wholeOf b ≡ Refused r → readFront b ≡ refused r
 unfolding readFront

@@ -1,26 +1,34 @@
--- A record stored part by part, and loaded part by part.
-use mathlib.Core.Path.{_≡_, refl, sym, ap, _∙_}
+-- A record stored part by part.
+use mathlib.Core.Path.{_≡_, refl, sym, ap, ap₂, _∙_}
+use mathlib.Core.Logic.{⊎-elim}
+use mathlib.Core.Bool.{true, false}
 use mathlib.Core.List.{List, [], _∷_, _++_, append-assoc, append-nil}
-use Prim.Native.Nat.{ℕ, _≤_, _<_}
+use Prim.Native.Nat.{ℕ, zero, suc, _+_, _-_, _*_, _≤_, _<_}
 use native.Mathlib.Omega.{arith}
-use borrow.Author.Tests.{eq-eqb, ne-eqb, lt-ltb, le-ltb}
-use lib.ListN.{length, getD, set, take, drop, length-append}
-use lib.Seq.{take-all, drop-length}
+use borrow.Author.Tests.{leb-true, eqb-true, eqb-false, eq-eqb, ne-eqb, lt-ltb, le-ltb}
+use lib.Dec.{eqb, leb}
+use lib.ListN.{length, set, take, drop, replicate, length-append, length-drop, drop-of-length-le, replicate-append-replicate}
+use lib.Seq.{length-take-le, take-at, paste, length-paste, take-paste}
 use Rattle.numbers.specs.Number.{get, put, digits}
 use Rattle.numbers.proofs.NumberLaws.{length-digits}
 use Rattle.views.specs.declared.View.{View}
-use Rattle.views.specs.declared.list.Views.{Views}
-use Rattle.views.specs.Limits.{maxViews}
-use Rattle.views.specs.Lists.{places, placed}
-use Rattle.views.proofs.PlaceLaws.{length-places, list-placed}
-use Rattle.wire.specs.declared.Message.{Message}
+use Rattle.views.specs.declared.refusal.Verdict.the-variants.{Accepted}
+use Rattle.views.specs.Limits.{maxViews, maxOrdered}
+use Rattle.views.specs.Sets.{both}
+use Rattle.views.specs.Lists.{noView, places}
+use Rattle.views.proofs.SetLaws.{known, both-true}
+use Rattle.views.proofs.PlaceLaws.{places-short}
 use Rattle.wire.specs.declared.Frame.{Frame}
-use Rattle.wire.specs.Format.{kindOf, viewsBytes}
-use Rattle.wire.specs.Reader.{viewsIn, messageOf}
+use Rattle.wire.specs.Format.{kindOf, viewBytes, viewsBytes, toldFits}
+use Rattle.wire.specs.Reader.{kindIn, viewCount, viewsIn, numberIn, readOf}
+use Rattle.wire.specs.Widths.{AreBytes}
 use Rattle.wire.specs.Writer.{numberOf, overwritten}
-use Rattle.wire.proofs.SeamLaws.{byte-seam, number-seam, part-seam, length-viewsBytes}
+use Rattle.wire.specs.Records.{recordSize, headBytes, recordBytes, counted}
+use Rattle.wire.proofs.SeamLaws.{byte-seam, number-seam, length-viewsBytes, viewsBytes-append}
 use Rattle.wire.proofs.ReaderLaws.{length-viewsIn}
-use Rattle.wire.specs.Records.{recordSize, headBytes, recordBytes, counted, frameOf}
+use Rattle.wire.proofs.TripViews.{views-again}
+use Rattle.wire.proofs.TripRead.{scanned, message-read}
+use Rattle.wire.proofs.FrontLaws.{scan-whole, content-whole, read-whole}
 
 -- ---- stored
 
@@ -51,27 +59,53 @@ length-record f z =
     length-append head (viewsBytes (f .views .at))
     ∙ omega (arith, length-head (kindOf (f .message)) (f .view .0) (numberOf (f .message)) (f .views .count), length-viewsBytes (f .views .at))
 
--- c after what stands before the views, d after the views
-pub record-stored : (f : Frame) (kind x : ℕ) (b c d : List ℕ) → length b ≡ recordSize → length (f .views .at) ≡ maxViews
-    → kind ≡ kindOf (f .message) → x ≡ numberOf (f .message)
-    → c ≡ overwritten (headBytes kind (f .view .0) x (f .views .count)) b
-    → d ≡ take 14 c ++ (viewsBytes (take maxViews (f .views .at)) ++ drop 174 c)
-    → d ≡ recordBytes f
-unfolding recordBytes
-record-stored f kind x b c d n z ek ex p q =
-    let at = f .views .at in
-    let head = headBytes kind (f .view .0) x (f .views .count) in
-    let all : take maxViews at ≡ at = take-all maxViews at (omega arith) in
-    let lv : length (viewsBytes at) ≡ 160 = omega (arith, length-viewsBytes at) in
-    let lh = length-head kind (f .view .0) x (f .views .count) in
-    let lw : length (head ++ viewsBytes at) ≡ length b = length-append head (viewsBytes at) ∙ omega arith in
-    rw (← ek, ← ex)
-    (q ∙ ap (λ (l : List View). take 14 c ++ (viewsBytes l ++ drop 174 c)) all
-    ∙ ap (λ (y : List ℕ). take 14 y ++ (viewsBytes at ++ drop 174 y)) p
-    ∙ part-seam head (viewsBytes at) b 14 160 lh lv
-    ∙ rw (lw, drop-length b) (append-nil (head ++ viewsBytes at)))
+-- views in all their places: 0 stands behind them
+no-views-bytes : (k : ℕ) → viewsBytes (replicate k noView) ≡ replicate (5 * k) 0
+unfolding viewsBytes viewBytes digits
+no-views-bytes zero = refl
+no-views-bytes (suc k) =
+    let e : 5 * suc k ≡ 5 + 5 * k = omega arith in
+    rw (no-views-bytes k, e) (replicate-append-replicate {A = ℕ} 5 (5 * k) 0)
 
--- ---- loaded
+places-bytes : (l : List View) → length l ≤ maxViews → viewsBytes (places l) ≡ viewsBytes l ++ replicate (5 * (maxViews - length l)) 0
+places-bytes l h =
+    ap viewsBytes (places-short l h) ∙ viewsBytes-append l (replicate (maxViews - length l) noView)
+    ∙ ap (λ (r : List ℕ). viewsBytes l ++ r) (no-views-bytes (maxViews - length l))
+
+-- c after the views are copied, d after the rest, which lies from k on, is cleared
+pub views-put : (b from : List ℕ) (at n k z : ℕ) (c d : List ℕ) → length b ≡ recordSize → n ≤ maxViews → at + 5 * n ≤ length from → AreBytes from
+    → k ≡ 14 + 5 * n → z ≡ 174 - k → c ≡ paste b 14 (drop at from) (5 * n)
+    → d ≡ take k c ++ (replicate (length (take z (drop k c))) 0 ++ drop z (drop k c))
+    → d ≡ take 14 b ++ viewsBytes (places (viewsIn from at n))
+views-put b from at n k z c d size few h y ek ez ec ed =
+    let l = viewsIn from at n in
+    let ll : length l ≡ n = length-viewsIn from at n in
+    let s : 5 * n ≤ length (drop at from) = rw (length-drop at from) (omega arith) in
+    let lc : length c ≡ recordSize = ap length ec ∙ length-paste b 14 (drop at from) (5 * n) (omega arith) s ∙ size in
+    let head : take k c ≡ take 14 b ++ viewsBytes l =
+    ap₂ (λ (i : ℕ) (r : List ℕ). take i r) ek ec ∙ take-paste b 14 (drop at from) (5 * n) (omega arith) s ∙ rw (views-again from at n h y)
+    in
+    let ld : length (drop k c) ≡ z = length-drop k c ∙ omega arith in
+    let rest : length (take z (drop k c)) ≡ 5 * (maxViews - length l) = length-take-le z (drop k c) (omega arith) ∙ omega arith in
+    let none : drop z (drop k c) ≡ [] = drop-of-length-le (drop k c) {i = z} (omega arith) in
+    ed ∙ rw (head, rest, none, append-nil {A = ℕ} (replicate (5 * (maxViews - length l)) 0), places-bytes l (omega arith))
+    (append-assoc (take 14 b) (viewsBytes l) (replicate (5 * (maxViews - length l)) 0))
+
+-- the record of the message that the bytes b are: c after what stands before the views, d after the views
+pub record-stored : (b : List ℕ) → AreBytes b → readOf b .verdict ≡ Accepted → (g x : ℕ) (out c d : List ℕ)
+    → g ≡ get b 1 4 → x ≡ numberIn b → c ≡ overwritten (headBytes (kindIn b) g x (viewCount b)) out
+    → d ≡ take 14 c ++ viewsBytes (places (viewsIn b 6 (viewCount b)))
+    → d ≡ recordBytes (readOf b .frame)
+unfolding recordBytes
+record-stored b y v g x out c d eg ex ec ed =
+    let a = message-read b y (scanned b (scan-whole b v)) (content-whole b v) in
+    let head = headBytes (kindIn b) g x (viewCount b) in
+    let front : take 14 c ≡ head =
+    ap (take 14) ec ∙ take-at head (drop (length head) out) 14 (length-head (kindIn b) g x (viewCount b))
+    in
+    ed ∙ rw (read-whole b v, front, a .kind-again, a .number-again, eg, ex, length-viewsIn b 6 (viewCount b))
+
+-- ---- a told's count
 
 pub counted-large : (kind x : ℕ) → kind ≡ 4 → 256 ≤ x → 0 ≡ counted kind x
 unfolding counted
@@ -85,13 +119,14 @@ pub counted-other : (kind x : ℕ) → (kind ≡ 4 → ⊥) → x ≡ counted ki
 unfolding counted
 counted-other kind x e = rw (ne-eqb kind 4 e)
 
--- as many views as there are places fill them
-places-whole : (l : List View) → length l ≡ maxViews → places l ≡ l
-places-whole l n = sym (take-all (length l) (places l) (omega (arith, length-places l))) ∙ list-placed l (omega arith)
-
-pub frame-loaded : (r : List ℕ) (g x y n : ℕ) (m : Message) (list : Views)
-    → g ≡ get r 1 4 → x ≡ get r 5 8 → y ≡ counted (getD r 0 0) x → m ≡ messageOf (getD r 0 0) y → n ≡ get r 13 1 → list ≡ placed (viewsIn r 14 maxViews)
-    → record { view = record { 0 = g }; message = m; views = record { count = n; at = list .at } } ≡ frameOf r
-unfolding frameOf
-frame-loaded r g x y n m list eg ex ey em en el =
-    rw (el, em, ey, ex, eg, en, places-whole (viewsIn r 14 maxViews) (length-viewsIn r 14 maxViews))
+-- a told's count in its range stays as it is
+pub counted-kept : (kind x : ℕ) → toldFits kind x ≡ true → counted kind x ≡ x
+unfolding toldFits
+counted-kept kind x h =
+    ⊎-elim
+    (λ (e : eqb kind 4 ≡ true).
+    let w : both (leb 1 x) (leb x maxOrdered) ≡ true = rw e at h in
+    let (_, few) = both-true (leb 1 x) (leb x maxOrdered) w in
+    sym (counted-small kind x (eqb-true kind 4 e) (omega (arith, leb-true x maxOrdered few))))
+    (λ (e : eqb kind 4 ≡ false). sym (counted-other kind x (eqb-false kind 4 e)))
+    (known (eqb kind 4))

@@ -1,21 +1,17 @@
 -- Records and frames: the frame of a record's bytes is the frame they were stored from, and the record of a message, written and read again, is that record.
 use mathlib.Core.Path.{_≡_, refl, sym, ap, subst, _∙_}
-use mathlib.Core.Logic.{⊎-elim}
 use mathlib.Core.Bool.{Bool, true, false, cond}
 use mathlib.Core.List.{List, [], _∷_, _++_, append-assoc, append-nil}
 use Prim.Native.Nat.{ℕ, zero, suc, _^_, _<_}
 use native.Mathlib.Omega.{arith}
-use borrow.Author.Tests.{leb-true, eqb-true, eqb-false}
-use lib.Dec.{eqb, ltb, leb}
+use lib.Dec.{eqb, ltb}
 use lib.ListN.{length, getD, take, replicate, length-append, length-take}
 use Rattle.numbers.specs.Number.{get, digits}
 use Rattle.numbers.proofs.NumberLaws.{length-digits, get-digits}
 use Rattle.views.specs.declared.View.{View}
 use Rattle.views.specs.declared.refusal.Verdict.the-variants.{Accepted}
-use Rattle.views.specs.Limits.{maxViews, maxOrdered}
-use Rattle.views.specs.Sets.{both}
+use Rattle.views.specs.Limits.{maxViews}
 use Rattle.views.specs.Lists.{noView, listOf, places}
-use Rattle.views.proofs.SetLaws.{known, both-true}
 use Rattle.views.proofs.PlaceLaws.{length-places}
 use Rattle.wire.specs.declared.Message.{Message}
 use Rattle.wire.specs.declared.Message.the-variants.{Client, Info, Registered, Told}
@@ -31,7 +27,7 @@ use Rattle.wire.proofs.TripMessages.{told-met, number-fits, message-bac
 use Rattle.wire.proofs.RoundTrip.{Fits, canonical, WrittenAs, canonical-same-bytes, written-reads, read-is-written, read-takes-all, read-whole-is-written}
 use Rattle.wire.specs.Records.{recordKind, recordIdentifier, recordNumber, recordCount, recordViews, headBytes, recordBytes, counted, frameOf}
 use Rattle.wire.specs.Promises.{RecordOf}
-use Rattle.wire.proofs.RecordLaws.{length-head, counted-small, counted-other}
+use Rattle.wire.proofs.RecordLaws.{length-head, counted-kept}
 
 -- ---- the places of views
 
@@ -59,18 +55,6 @@ unfolding places
 places-fit l h = take-fit maxViews (l ++ replicate maxViews noView) (append-fit l (replicate maxViews noView) h (zeros-fit maxViews))
 
 -- ---- the number
-
--- a told's count in its range stays as it is
-counted-kept : (kind x : ℕ) → toldFits kind x ≡ true → counted kind x ≡ x
-unfolding toldFits
-counted-kept kind x h =
-    ⊎-elim
-    (λ (e : eqb kind 4 ≡ true).
-    let w : both (leb 1 x) (leb x maxOrdered) ≡ true = rw e at h in
-    let (_, few) = both-true (leb 1 x) (leb x maxOrdered) w in
-    sym (counted-small kind x (eqb-true kind 4 e) (omega (arith, leb-true x maxOrdered few))))
-    (λ (e : eqb kind 4 ≡ false). sym (counted-other kind x (eqb-false kind 4 e)))
-    (known (eqb kind 4))
 
 number-bound : (m : Message) → ((x : ℕ) → m ≡ Client x → x < 256 ^ 8) → toldFits (kindOf m) (numberOf m) ≡ true → numberOf m < 256 ^ 8
 number-bound (Client x) h t = h x refl

@@ -25,9 +25,9 @@ pub use Rattle.wire.specs.Widths.{Fits}
 pub use Rattle.wire.specs.Promises.{canonical, asWritten, WrittenAs}
 use Rattle.wire.proofs.TripViews.{AreBytes, get-fits, views-fit}
 use Rattle.wire.proofs.TripWritten.{Holds, bytes-hold, held-reads}
-use Rattle.wire.proofs.TripRead.{Scanned, scanned, given-met, given-then, message-read, list-read, bytes-again, verdict-again}
+use Rattle.wire.proofs.TripRead.{Scanned, scanned, message-read, list-read, bytes-again, verdict-again}
 use Rattle.wire.proofs.TripMessages.{told-met, number-fits, sections-short}
-use Rattle.wire.proofs.VerdictLaws.{need-accepted}
+use Rattle.wire.proofs.VerdictLaws.{need-accepted, given-met, given-then}
 use Rattle.views.proofs.PlaceLaws.{length-places, list-placed}
 use Rattle.wire.proofs.FormatLaws.{views-few}
 use Rattle.wire.proofs.WriterLaws.{length-bytes}

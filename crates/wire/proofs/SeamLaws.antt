@@ -4,8 +4,8 @@ use mathlib.Core.List.{List, [], _∷_, _++_, append-assoc, append-nil}
 use Prim.Native.Nat.{ℕ, suc, _+_, _*_, _<_, _≤_}
 use native.Mathlib.Numerals.{add-one}
 use native.Mathlib.Omega.{arith}
-use lib.ListN.{length, getD, set, take, drop, length-append, take-append-drop}
-use lib.Seq.{append-snoc, drop-cons, drop-drop, drop-append-add, length-take-le, set-append-seam, take-append-seam, take-suc}
+use lib.ListN.{length, getD, set, take, drop, replicate, length-append, length-drop, length-replicate, drop-of-length-le, replicate-append-replicate, take-append-drop}
+use lib.Seq.{append-snoc, drop-cons, drop-drop, drop-append-add, length-take-le, set-append-seam, set-at, take-append-seam, take-suc, paste, paste-suc, getD-drop}
 use Rattle.numbers.specs.Number.{put, digits}
 use Rattle.numbers.proofs.NumberLaws.{length-digits, put-seam}
 use Rattle.views.specs.declared.View.{View}
@@ -50,10 +50,14 @@ unfolding viewsBytes
 length-viewsBytes [] = refl
 length-viewsBytes (v ∷ l) = length-append (viewBytes v) (viewsBytes l) ∙ omega (arith, length-viewBytes v, length-viewsBytes l)
 
-pub viewsBytes-snoc : (l : List View) (v : View) → viewsBytes (l ++ v ∷ []) ≡ viewsBytes l ++ viewBytes v
+pub viewsBytes-append : (l m : List View) → viewsBytes (l ++ m) ≡ viewsBytes l ++ viewsBytes m
 unfolding viewsBytes
-viewsBytes-snoc [] v = append-nil (viewBytes v)
-viewsBytes-snoc (w ∷ l) v = ap (λ (r : List ℕ). viewBytes w ++ r) (viewsBytes-snoc l v) ∙ sym (append-assoc (viewBytes w) (viewsBytes l) (viewBytes v))
+viewsBytes-append [] m = refl
+viewsBytes-append (v ∷ l) m = ap (λ (r : List ℕ). viewBytes v ++ r) (viewsBytes-append l m) ∙ sym (append-assoc (viewBytes v) (viewsBytes l) (viewsBytes m))
+
+viewsBytes-snoc : (l : List View) (v : View) → viewsBytes (l ++ v ∷ []) ≡ viewsBytes l ++ viewBytes v
+unfolding viewsBytes
+viewsBytes-snoc l v = viewsBytes-append l (v ∷ []) ∙ ap (λ (r : List ℕ). viewsBytes l ++ r) (append-nil (viewBytes v))
 
 pub view-seam : (d b : List ℕ) (v : View) (at : ℕ) → length d ≡ at → at + 5 ≤ length b
     → set (put (overwritten d b) at 4 (idOf v)) (at + 4) (v .set) ≡ overwritten (d ++ viewBytes v) b
@@ -95,3 +99,22 @@ pub store-end : (b : List ℕ) (from i : ℕ) (l : List View) → from ≤ lengt
     → stored b from l i ≡ take from b ++ (viewsBytes (take i l) ++ drop (from + 5 * i) b)
 store-end b from i l h k =
     part-whole (viewsBytes (take i l)) b from (5 * i) h (length-viewsBytes (take i l) ∙ ap (λ (n : ℕ). 5 * n) (length-take-le i l k))
+
+-- ---- bytes copied one at a time from another range
+
+pub copy-turn : (b t : List ℕ) (to at i : ℕ) → to + i < length b → at + i < length t
+    → set (paste b to (drop at t) i) (to + i) (getD t (at + i) 0) ≡ paste b to (drop at t) (i + 1)
+copy-turn b t to at i h l =
+    let s : i < length (drop at t) = rw (length-drop at t) (omega arith) in
+    rw (← getD-drop at t i 0, add-one i) (paste-suc b to (drop at t) i 0 h s)
+
+-- ---- bytes cleared one at a time: i bytes are 0, the rest is as it was
+
+pub clear-turn : (b : List ℕ) (i : ℕ) → i < length b → set (replicate i 0 ++ drop i b) i 0 ≡ replicate (i + 1) 0 ++ drop (i + 1) b
+clear-turn b i h =
+    rw (drop-cons b i 0 h, set-at (replicate i 0) _ (drop (suc i) b) 0 i (length-replicate i 0), ← replicate-append-replicate {A = ℕ} i 1 0, append-assoc (replicate i 0) (replicate 1 0) (drop (i + 1) b), add-one i) refl
+
+pub cleared : (b : List ℕ) (i : ℕ) → length b ≤ i → i ≤ length b → replicate i 0 ++ drop i b ≡ replicate (length b) 0
+cleared b i h k =
+    let e : i ≡ length b = omega arith in
+    rw (drop-of-length-le b h, append-nil {A = ℕ} (replicate i 0), e) refl

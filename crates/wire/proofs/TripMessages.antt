@@ -1,5 +1,5 @@
 -- The four messages: the kind and the number of each say which it is, and what an accepted verdict tells of a message.
-use mathlib.Core.Path.{_≡_, refl, sym}
+use mathlib.Core.Path.{_≡_, refl, sym, subst}
 use mathlib.Core.Bool.{Bool, true, false, cond}
 use mathlib.Core.List.{List}
 use Prim.Native.Nat.{ℕ, zero, suc, _+_, _*_, _%_, _^_, _≤_, _<_}
@@ -7,6 +7,7 @@ use native.Mathlib.Omega.{arith}
 use lib.Dec.{eqb, leb}
 use lib.ListN.{length}
 use borrow.Author.Tests.{leb-true, eqb-true}
+use Rattle.numbers.specs.Number.{get}
 use Rattle.views.specs.declared.View.{View}
 use Rattle.views.specs.declared.refusal.Refusal.the-variants.{EmptySet, NotRising, ToldOutOfRange}
 use Rattle.views.specs.declared.refusal.Verdict.the-variants.{Accepted}
@@ -16,7 +17,7 @@ use Rattle.wire.specs.declared.Message.{Message}
 use Rattle.wire.specs.declared.Message.the-variants.{Client, Info, Registered, Told}
 use Rattle.wire.specs.Format.{clientKind, infoKind, registeredKind, kindOf, numbersOf, isKnown, viewsAllowed, numbersAllowed, toldFits, contentOf}
 use Rattle.wire.specs.Reader.{messageOf}
-use Rattle.wire.specs.Writer.{numberOf}
+use Rattle.wire.specs.Writer.{numberOf, LiesAt}
 use Rattle.wire.proofs.VerdictLaws.{need-accepted}
 
 -- ---- verdicts taken apart
@@ -111,6 +112,23 @@ message-again kind count x registered n t z =
 message-again kind count x told n t z =
     let h = told-range x t in
     record { kind-again = refl; count-again = sym (eqb-true count 1 n); number-again = omega arith }
+
+pub told-byte : (kind x : ℕ) → toldFits kind x ≡ true → kind ≡ 4 → x < 256
+told-byte kind x t e = omega (arith, told-range x (subst (λ (k : ℕ). toldFits k x ≡ true) e t))
+
+-- ---- where the number lies
+
+none-lies : (b : List ℕ) (at : ℕ) → get b at 0 ≡ 0
+unfolding get
+none-lies b at = refl
+
+-- the message of the number that is read at a place has it there: a told's is one byte
+pub number-lies : (b : List ℕ) (at kind : ℕ) → Kind kind → (kind ≡ 4 → get b at 8 < 256) → LiesAt (messageOf kind (get b at 8)) b at
+unfolding messageOf
+number-lies b at kind client t = refl
+number-lies b at kind info t = none-lies b at
+number-lies b at kind registered t = none-lies b at
+number-lies b at kind told t = let h = t refl in omega arith
 
 -- ---- how long messages are
 

@@ -1,5 +1,5 @@
 -- What is read is written: the bytes that the reader accepts are those that the writer makes of what was read.
-use mathlib.Core.Path.{_≡_, refl, sym, ap, ap₂, _∙_}
+use mathlib.Core.Path.{_≡_, sym, ap, ap₂, _∙_}
 use mathlib.Core.Bool.{true}
 use mathlib.Core.List.{List, _∷_, _++_}
 use Prim.Native.Nat.{ℕ, suc, _+_, _*_, _≤_, _<_}
@@ -10,8 +10,7 @@ use lib.Seq.{drop-cons, drop-drop, take-add}
 use borrow.Author.Tests.{leb-true}
 use Rattle.numbers.specs.Number.{get, digits}
 use Rattle.numbers.proofs.NumberLaws.{digits-get}
-use Rattle.views.specs.declared.refusal.Verdict.{Verdict}
-use Rattle.views.specs.declared.refusal.Verdict.the-variants.{Accepted, Refused}
+use Rattle.views.specs.declared.refusal.Verdict.the-variants.{Accepted}
 use Rattle.views.specs.Refusals.{require}
 use Rattle.views.specs.Lists.{listOf, placed}
 use Rattle.wire.specs.declared.Reading.{Reading}
@@ -20,23 +19,13 @@ use Rattle.wire.specs.Reader.{kindIn, viewCount, numberCount, endOf, vie
 use Rattle.wire.specs.Writer.{frameBytes, frameVerdict}
 use Rattle.wire.proofs.TripViews.{AreBytes, views-again}
 use Rattle.wire.proofs.TripMessages.{told-met, Kind, kind-of-known, Again, message-again}
-use Rattle.wire.proofs.VerdictLaws.{need-accepted}
+use Rattle.wire.proofs.VerdictLaws.{need-accepted, given-met, given-then}
 use Rattle.views.proofs.PlaceLaws.{list-placed}
 use Rattle.wire.proofs.FormatLaws.{views-few}
-use Rattle.wire.proofs.ReaderLaws.{length-viewsIn}
+use Rattle.wire.proofs.ReaderLaws.{length-viewsIn, no-number}
 use Rattle.wire.proofs.WriterLaws.{numbers-digits}
 
 -- ---- an accepted reading taken apart
-
-pub given-met : (v : Verdict) (r : Reading) → given v r .verdict ≡ Accepted → v ≡ Accepted
-unfolding given
-given-met Accepted r e = refl
-given-met (Refused x) r e = e
-
-pub given-then : (v : Verdict) (r : Reading) → given v r .verdict ≡ Accepted → given v r ≡ r
-unfolding given
-given-then Accepted r e = refl
-given-then (Refused x) r e = cc
 
 -- the shape and the content of a message that was read were accepted
 pub front-met : (b : List ℕ) → readFront b .verdict ≡ Accepted → (scanOf b ≡ Accepted) × (wholeOf b ≡ Accepted)
@@ -97,11 +86,6 @@ parts b n c h =
     ap₂ (λ (u w : List ℕ). u ++ w) k0 sections ∙ part-then b 0 5 (1 + 5 * n + (1 + 8 * c)) ∙ ap (λ (i : ℕ). take i b) all
 
 -- ---- the frame that is read
-
--- no number is 0
-no-number : (b : List ℕ) → numberCount b ≡ 0 → numberIn b ≡ 0
-unfolding numberIn get
-no-number b e = rw e
 
 -- what accepted bytes hold is accepted by the writer, and its bytes are they
 module _ (b : List ℕ) (y : AreBytes b) (s : Scanned b) (w : wholeOf b ≡ Accepted) where

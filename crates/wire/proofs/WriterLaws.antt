@@ -5,10 +5,11 @@ use Prim.Native.Nat.{ℕ, _+_, _*_, _<_, _≤_}
 use native.Mathlib.Omega.{arith}
 use borrow.Author.Tests.{le-leb, lt-leb}
 use lib.ListN.{length, set, take, drop, length-append, take-append-drop}
-use lib.Seq.{length-take-le}
-use Rattle.numbers.specs.Number.{put, digits}
-use Rattle.numbers.proofs.NumberLaws.{length-digits}
+use lib.Seq.{length-take-le, paste}
+use Rattle.numbers.specs.Number.{get, put, digits}
+use Rattle.numbers.proofs.NumberLaws.{length-digits, digits-get, put-split}
 use Rattle.views.specs.declared.View.{View}
+use Rattle.views.specs.declared.ViewId.{ViewId}
 use Rattle.views.specs.declared.refusal.Refusal.{Refusal}
 use Rattle.views.specs.declared.refusal.Refusal.the-variants.{BufferTooShort}
 use Rattle.views.specs.declared.refusal.Verdict.the-variants.{Accepted, Refused}
@@ -19,9 +20,13 @@ use Rattle.wire.specs.declared.Message.{Message}
 use Rattle.wire.specs.declared.Message.the-variants.{Client, Info, Registered, Told}
 use Rattle.wire.specs.declared.Frame.{Frame}
 use Rattle.wire.specs.Format.{kindOf, numbersOf, viewsBytes, numbersBytes, bytesOf}
-use Rattle.wire.specs.Writer.{numberOf, frameBytes, frameVerdict, writeVerdict, writtenOf, overwritten, Wrote}
+use Rattle.wire.specs.Reader.{viewsIn}
+use Rattle.wire.specs.Widths.{AreBytes}
+use Rattle.wire.specs.Writer.{numberOf, frameBytes, frameVerdict, frameFrom, writeVerdict, writtenOf, overwritten, Wrote}
 use Rattle.wire.proofs.VerdictLaws.{need-met, need-unmet, need-accepted, then-accepted, then-refused}
 use Rattle.wire.proofs.FormatLaws.{views-few}
+use Rattle.wire.proofs.ReaderLaws.{length-viewsIn, list-viewsIn}
+use Rattle.wire.proofs.TripViews.{views-again}
 use Rattle.wire.proofs.SeamLaws.{byte-seam, number-seam, part-seam, part-whole, length-viewsBytes}
 
 -- ---- the parts of a frame
@@ -92,6 +97,17 @@ numbers-stored m at k x b c p q h e =
     (e ∙ two ∙ ap (λ (y : List ℕ). overwritten y b) (append-assoc d (k ∷ []) (digits (8 * k) x))
     ∙ part-whole (k ∷ digits (8 * k) x) b at (1 + 8 * k) (omega arith) (omega (arith, length-digits (8 * k) x)))
 
+-- no number takes no bytes, and a message carries one at most
+pub no-number-stored : (b : List ℕ) (at k x : ℕ) → k ≡ 0 → b ≡ put b at (8 * k) x
+unfolding put
+no-number-stored b at k x e = rw e
+
+pub numbers-one : (m : Message) → length (numbersOf m) ≤ 1
+numbers-one (Client x) = omega arith
+numbers-one Info = omega arith
+numbers-one Registered = omega arith
+numbers-one (Told k) = omega arith
+
 -- the three parts stored one behind the other: b1 after the front, b2 after the views
 pub frame-stored : (g n : ℕ) (m : Message) (l : List View) (b b1 b2 b3 : List ℕ) → length l ≡ n
     → b1 ≡ overwritten (frontBytes (kindOf m) g n) b
@@ -111,12 +127,47 @@ frame-stored g n m l b b1 b2 b3 e p q r =
     ∙ part-seam (f ++ viewsBytes l) w b (6 + 5 * n) (1 + 8 * length (numbersOf m)) lt (omega (arith, length-numbers m))
     ∙ ap (λ (x : List ℕ). overwritten x b) (bytes-parts g n m l e)
 
+-- a message whose n views lie in other bytes
+module _ (view : ViewId) (m : Message) (from : List ℕ) (at n : ℕ) (few : n ≤ maxViews) where
+  pub from-bytes : frameBytes (frameFrom view m from at n) ≡ bytesOf (view .0) m (viewsIn from at n)
+  from-bytes = ap (λ (l : List View). bytesOf (view .0) m l) (list-viewsIn from at n few)
+
+  pub from-length : length (frameBytes (frameFrom view m from at n)) ≡ 7 + 5 * n + 8 * length (numbersOf m)
+  from-length =
+      ap length from-bytes ∙ length-bytes (view .0) m (viewsIn from at n)
+      ∙ ap (λ (k : ℕ). 7 + 5 * k + 8 * length (numbersOf m)) (length-viewsIn from at n)
+
+-- views copied as they stand are the bytes of the views that are read there
+pub views-copied : (b from : List ℕ) (to at n : ℕ) → at + 5 * n ≤ length from → AreBytes from
+    → paste b to (drop at from) (5 * n) ≡ take to b ++ (viewsBytes (viewsIn from at n) ++ drop (to + 5 * n) b)
+views-copied b from to at n h y =
+    rw (views-again from at n h y) (append-assoc (take to b) (take (5 * n) (drop at from)) (drop (to + 5 * n) b))
+
+-- a number copied as it stands is the number that is read there, put
+pub number-copied : (b from : List ℕ) (to at k x : ℕ) → k ≡ 1 → to + 8 ≤ length b → at + 8 ≤ length from → AreBytes from → get from at (8 * k) ≡ x
+    → paste b to (drop at from) 8 ≡ put b to (8 * k) x
+number-copied b from to at k x one h l y e =
+    let there : get from at 8 ≡ x = rw one at e in
+    let same : digits 8 x ≡ take 8 (drop at from) = ap (digits 8) (sym there) ∙ digits-get from at 8 l (λ j m. y (at + j)) in
+    rw (one, put-split b to 8 x h, same) (append-assoc (take to b) (take 8 (drop at from)) (drop (to + 8) b))
+
+pub from-stored : (g n : ℕ) (m : Message) (from : List ℕ) (at : ℕ) (b b1 b2 b3 : List ℕ) → at + 5 * n ≤ length from → AreBytes from
+    → b1 ≡ overwritten (frontBytes (kindOf m) g n) b
+    → b2 ≡ paste b1 6 (drop at from) (5 * n)
+    → b3 ≡ take (6 + 5 * n) b2 ++ ((length (numbersOf m) ∷ numbersBytes (numbersOf m)) ++ drop (6 + 5 * n + (1 + 8 * length (numbersOf m))) b2)
+    → b3 ≡ overwritten (bytesOf g m (viewsIn from at n)) b
+from-stored g n m from at b b1 b2 b3 h y p q r =
+    frame-stored g n m (viewsIn from at n) b b1 b2 b3 (length-viewsIn from at n) p (q ∙ views-copied b1 from 6 at n h y) r
+
 -- ---- what each verdict says
 
 -- a frame that can be written has no more views than places
 pub frame-few : (f : Frame) → frameVerdict f ≡ Accepted → f .views .count ≤ maxViews
 unfolding frameVerdict
 frame-few f e = views-few _ _ (need-accepted _ _ _ e .0)
+
+pub from-few : (view : ViewId) (m : Message) (from : List ℕ) (at n : ℕ) → frameVerdict (frameFrom view m from at n) ≡ Accepted → n ≤ maxViews
+from-few view m from at n e = omega (arith, frame-few (frameFrom view m from at n) e, length-viewsIn from at n)
 
 pub wrote-refused : (f : Frame) (b : List ℕ) (r : Refusal) → frameVerdict f ≡ Refused r → Wrote f b b (record { verdict = Refused r; length = 0 })
 unfolding writeVerdict writtenOf left

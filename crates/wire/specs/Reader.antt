@@ -18,6 +18,7 @@ use Rattle.wire.specs.declared.Message.{Message}
 use Rattle.wire.specs.declared.Message.the-variants.{Client, Info, Registered, Told}
 use Rattle.wire.specs.declared.Frame.{Frame}
 use Rattle.wire.specs.declared.Reading.{Reading}
+use Rattle.wire.specs.declared.Front.{Front}
 use Rattle.wire.specs.Format.{clientKind, infoKind, registeredKind}
 use Rattle.wire.specs.Format.{isKnown, viewsAllowed, numbersAllowed, contentOf}
 
@@ -115,6 +116,10 @@ given (Refused x) r = refused x
 -- the message at the front of the bytes, and how many bytes it took
 unfoldable pub readFront : List ℕ → Reading
 readFront b = given (scanOf b) (given (wholeOf b) (record { verdict = Accepted; taken = endOf b; frame = frameIn b }))
+
+-- the verdict on the message at the front, and how many bytes it takes
+abbrev pub frontOf : List ℕ → Front
+frontOf b = record { verdict = readFront b .verdict; taken = readFront b .taken }
 
 -- the bytes as one message
 unfoldable pub readOf : List ℕ → Reading

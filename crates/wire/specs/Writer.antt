@@ -9,15 +9,17 @@ use Rattle.views.specs.declared.refusal.Refusal.the-variants.{SectionCount, Buf
 use Rattle.views.specs.declared.refusal.Verdict.{Verdict}
 use Rattle.views.specs.declared.refusal.Verdict.the-variants.{Accepted, Refused}
 use Rattle.views.specs.Refusals.{require, andThen, left}
-use Rattle.views.specs.Lists.{listOf, idOf}
+use Rattle.views.specs.Lists.{listOf, placed, idOf}
 use Rattle.wire.specs.declared.Message.{Message}
 use Rattle.wire.specs.declared.Message.the-variants.{Client, Info, Registered, Told}
 use Rattle.wire.specs.declared.Frame.{Frame}
 use Rattle.wire.specs.declared.Written.{Written}
-use Rattle.wire.specs.Format.{kindOf, viewsAllowed, contentOf, bytesOf, viewsBytes}
-use Rattle.numbers.specs.Number.{put}
+use Rattle.wire.specs.Format.{kindOf, numbersOf, viewsAllowed, contentOf, bytesOf, viewsBytes}
+use Rattle.wire.specs.Reader.{viewsIn}
+use Rattle.numbers.specs.Number.{get, put}
 use Rattle.views.specs.declared.View.{View}
-use Rattle.views.specs.Sizes.{identifierSize, viewSize}
+use Rattle.views.specs.declared.ViewId.{ViewId}
+use Rattle.views.specs.Sizes.{identifierSize, viewSize, numberSize}
 
 -- the number that a message carries, 0 for none
 abbrev pub numberOf : Message → ℕ
@@ -54,6 +56,14 @@ overwritten bytes buffer = bytes ++ drop (length bytes) buffer
 pub record Wrote (f : Frame) (entry exit : List ℕ) (r : Written) : Type 0 where
   pub reply : r ≡ writtenOf (writeVerdict f (length entry)) (length (frameBytes f))
   pub buffer : exit ≡ left (writeVerdict f (length entry)) (overwritten (frameBytes f) entry) entry
+
+-- the frame of a message whose n views lie in bytes, from a place on
+abbrev pub frameFrom : ViewId → Message → List ℕ → ℕ → ℕ → Frame
+frameFrom view m b at n = record { view = view; message = m; views = placed (viewsIn b at n) }
+
+-- the number that a message carries lies in bytes at a place; where it carries none, nothing is asked
+abbrev pub LiesAt : Message → List ℕ → ℕ → Type 0
+LiesAt m b at = get b at (numberSize * length (numbersOf m)) ≡ numberOf m
 
 -- a view stored at a place: its identifier, then its set
 abbrev pub storeView : List ℕ → ℕ → View → List ℕ

@@ -1,5 +1,6 @@
 // Messages as bytes: a kind, the identifier of the view sent in, a section of views and a section of numbers.
 pub mod format;
+pub mod in_bytes;
 pub mod reader;
 pub mod record;
 pub mod writer;
@@ -28,6 +29,12 @@ pub struct Reading {
     pub verdict: Verdict,
     pub taken: usize,
     pub frame: Frame,
+}
+
+// The verdict on the message at the front of bytes, and how many bytes it takes, 0 where it is refused.
+pub struct Front {
+    pub verdict: Verdict,
+    pub taken: usize,
 }
 
 // What writing gives: how many bytes were written, or the refusal alone.

@@ -1,8 +1,10 @@
 // The reader, over any bytes of any length.
 use crate::Frame;
+use crate::Front;
 use crate::Message;
 use crate::Reading;
 use crate::format;
+use crate::in_bytes;
 use views::View;
 use views::ViewId;
 use views::limits;
@@ -16,7 +18,8 @@ ghost use lib.ListN.{length};
 ghost use Rattle.views.specs.Sizes.{viewSize};
 ghost use Rattle.views.specs.Limits.{maxViews};
 ghost use Rattle.views.specs.Lists.{placed};
-ghost use Rattle.wire.specs.Reader.{scanOf, viewIn, viewsIn, refused, readFront, readOf};
+ghost use Rattle.wire.specs.Reader.{kindIn, viewIn, viewsIn, numberIn, messageOf, frameIn, scanOf, wholeOf};
+ghost use Rattle.wire.specs.Reader.{refused, readFront, frontOf, readOf};
 
 // The bytes have the shape of a message: 32 to 34 as the bytes come.
 pub fn scan(b: &[u8]) -> Verdict
@@ -104,41 +107,131 @@ pub fn refuse(r: Refusal) -> Reading
     }
 }
 
-// The message at the front of the bytes, and how many bytes it took.
-pub fn read_front(b: &[u8]) -> Reading
-    ensures { λ r. ⌜ r ≡ readFront (now (b .entry)) ⌝ }
+// 35 to 37 of bytes that have the shape of a message. A told carries no views, so its count stands at one place.
+fn whole(b: &[u8]) -> Verdict
+    requires { ⌜ scanOf (now b) ≡ Verdict.Accepted ⌝ }
+    ensures { λ r. ⌜ r ≡ wholeOf (now (b .entry)) ⌝ }
+{
+    let n = b[format::COUNT_AT] as usize;
+    if in_bytes::some_empty(b, format::VIEWS_AT, n) {
+        return Verdict::Refused(Refusal::EmptySet);
+    }
+    if !in_bytes::rising(b, format::VIEWS_AT, n) {
+        return Verdict::Refused(Refusal::NotRising);
+    }
+    if b[0] != format::TOLD {
+        return Verdict::Accepted;
+    }
+    if !in_bytes::told_fits(b, format::SHORTEST) {
+        return Verdict::Refused(Refusal::ToldOutOfRange);
+    }
+    Verdict::Accepted
+}
+
+// The verdict on the message at the front of the bytes, and how many bytes it takes. Nothing is built.
+pub fn front(b: &[u8]) -> Front
+    ensures { λ r. ⌜ r ≡ frontOf (now (b .entry)) ⌝ }
 {
     let shape = scan(b);
     match shape {
-        Verdict::Refused(r) => refuse(r),
-        Verdict::Accepted => read_scanned(b),
+        Verdict::Refused(r) => Front {
+            verdict: Verdict::Refused(r),
+            taken: 0,
+        },
+        Verdict::Accepted => front_scanned(b),
     }
 }
 
 // The same where the bytes have the shape of a message.
-fn read_scanned(b: &[u8]) -> Reading
+fn front_scanned(b: &[u8]) -> Front
     requires { ⌜ scanOf (now b) ≡ Verdict.Accepted ⌝ }
+    ensures { λ r. ⌜ r ≡ frontOf (now (b .entry)) ⌝ }
+{
+    let content = whole(b);
+    match content {
+        Verdict::Refused(r) => Front {
+            verdict: Verdict::Refused(r),
+            taken: 0,
+        },
+        Verdict::Accepted => {
+            let at = format::VIEWS_AT + sizes::VIEW * (b[format::COUNT_AT] as usize);
+            Front {
+                verdict: Verdict::Accepted,
+                taken: at + 1 + sizes::NUMBER * (b[at] as usize),
+            }
+        }
+    }
+}
+
+// The verdict on the bytes as one message: none may be left over.
+pub fn verdict(b: &[u8]) -> Verdict
+    ensures { λ r. ⌜ r ≡ readOf (now (b .entry)) .verdict ⌝ }
+{
+    let f = front(b);
+    let v = f.verdict;
+    match v {
+        Verdict::Refused(r) => Verdict::Refused(r),
+        Verdict::Accepted => {
+            if f.taken < b.len() {
+                Verdict::Refused(Refusal::BytesLeftOver)
+            } else {
+                Verdict::Accepted
+            }
+        }
+    }
+}
+
+// The number that the message carries, 0 for none.
+pub fn load_number(b: &[u8]) -> u64
+    requires { ⌜ scanOf (now b) ≡ Verdict.Accepted ⌝ }
+    ensures { λ r. ⌜ r ≡ numberIn (now (b .entry)) ⌝ }
+{
+    let at = format::VIEWS_AT + sizes::VIEW * (b[format::COUNT_AT] as usize);
+    if b[at] == 0 {
+        return 0;
+    }
+    numbers::get_number(b, at + 1, sizes::NUMBER)
+}
+
+// The message that bytes hold, without its views.
+pub fn load_message(b: &[u8]) -> Message
+    requires { ⌜ scanOf (now b) ≡ Verdict.Accepted ⌝ }
+    ensures { λ r. ⌜ r ≡ messageOf (kindIn (now (b .entry))) (numberIn (now (b .entry))) ⌝ }
+{
+    format::message(b[0], load_number(b))
+}
+
+// The frame that bytes hold.
+fn load_frame(b: &[u8]) -> Frame
+    requires { ⌜ scanOf (now b) ≡ Verdict.Accepted ⌝ }
+    ensures { λ r. ⌜ r ≡ frameIn (now (b .entry)) ⌝ }
+{
+    let g = numbers::get_number(b, format::IDENTIFIER_AT, sizes::IDENTIFIER);
+    let message = load_message(b);
+    let views = load_views(b, format::VIEWS_AT, b[format::COUNT_AT] as usize);
+    Frame {
+        view: ViewId((g % 4294967296) as u32),
+        message,
+        views,
+    }
+}
+
+// The message at the front of the bytes, and how many bytes it took.
+pub fn read_front(b: &[u8]) -> Reading
     ensures { λ r. ⌜ r ≡ readFront (now (b .entry)) ⌝ }
 {
-    let kind = b[0];
-    let n = b[format::COUNT_AT] as usize;
-    let at = format::VIEWS_AT + sizes::VIEW * n;
-    let m = b[at] as usize;
-    let g = numbers::get_number(b, format::IDENTIFIER_AT, sizes::IDENTIFIER);
-    let list = load_views(b, format::VIEWS_AT, n);
-    let x = numbers::get_number(b, at + 1, sizes::NUMBER * m);
-    let whole = format::content(kind, list, x);
-    match whole {
+    let f = front(b);
+    let v = f.verdict;
+    match v {
         Verdict::Refused(r) => refuse(r),
-        Verdict::Accepted => Reading {
-            verdict: Verdict::Accepted,
-            taken: at + 1 + sizes::NUMBER * m,
-            frame: Frame {
-                view: ViewId((g % 4294967296) as u32),
-                message: format::message(kind, x),
-                views: list,
-            },
-        },
+        Verdict::Accepted => {
+            let frame = load_frame(b);
+            Reading {
+                verdict: Verdict::Accepted,
+                taken: f.taken,
+                frame,
+            }
+        }
     }
 }
 
@@ -146,15 +239,15 @@ fn read_scanned(b: &[u8]) -> Reading
 pub fn read(b: &[u8]) -> Reading
     ensures { λ r. ⌜ r ≡ readOf (now (b .entry)) ⌝ }
 {
-    let front = read_front(b);
-    let verdict = front.verdict;
-    match verdict {
+    let v = verdict(b);
+    match v {
         Verdict::Refused(r) => refuse(r),
         Verdict::Accepted => {
-            if front.taken < b.len() {
-                refuse(Refusal::BytesLeftOver)
-            } else {
-                front
+            let frame = load_frame(b);
+            Reading {
+                verdict: Verdict::Accepted,
+                taken: b.len(),
+                frame,
             }
         }
     }

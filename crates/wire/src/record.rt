@@ -1,13 +1,27 @@
 // A message's record, in lent bytes: the C interface gives out and takes messages in it.
-use crate::Frame;
+use crate::Written;
 use crate::format;
+use crate::in_bytes;
+use crate::reader;
+use crate::writer;
 use views::ViewId;
 use views::limits;
+use views::refusal::Refusal;
+use views::refusal::Verdict;
 use views::sizes;
 ghost use mathlib.Core.Path.{_≡_};
-ghost use lib.ListN.{length};
-ghost use Rattle.wire.specs.Writer.{overwritten};
-ghost use Rattle.wire.specs.Records.{recordSize, headBytes, recordBytes, counted, frameOf};
+ghost use mathlib.Core.Bool.{true};
+ghost use mathlib.Core.List.{_++_};
+ghost use Prim.Native.Nat.{_+_, _*_, _≤_};
+ghost use lib.ListN.{length, getD, take};
+ghost use Rattle.views.specs.Limits.{maxViews};
+ghost use Rattle.views.specs.Sizes.{viewSize};
+ghost use Rattle.views.specs.Lists.{places};
+ghost use Rattle.views.specs.Refusals.{left};
+ghost use Rattle.wire.specs.Format.{isKnown, viewsBytes};
+ghost use Rattle.wire.specs.Reader.{viewsIn, readOf};
+ghost use Rattle.wire.specs.Writer.{overwritten, frameVerdict, Wrote};
+ghost use Rattle.wire.specs.Records.{recordKind, recordViews, recordSize, headBytes, recordBytes, frameOf};
 
 // Where the parts of a message's record stand: its kind, the identifier of the view sent in, its number, the count of
 // its views, and the views.
@@ -25,54 +39,113 @@ pub const VIEWS: usize = COUNT + 1;
 pub const RECORD: usize = VIEWS + sizes::VIEW * limits::VIEWS;
 
 // The kind, the identifier of the view sent in, the number and the count of views.
-fn put_head(out: &mut [u8], kind: u8, view: ViewId, x: u64, n: usize)
+fn put_head(out: &mut [u8], kind: u8, g: u64, x: u64, n: usize)
     requires { ⌜ length (now out) ≡ recordSize ⌝ }
-    ensures { λ _. ⌜ now (out .exit) ≡ overwritten (headBytes kind (view .0) x n) (now (out .entry)) ⌝ }
+    ensures { λ _. ⌜ now (out .exit) ≡ overwritten (headBytes kind g x n) (now (out .entry)) ⌝ }
 {
     out[KIND] = kind;
-    numbers::put_number(out, VIEW, sizes::IDENTIFIER, view.0 as u64);
+    numbers::put_number(out, VIEW, sizes::IDENTIFIER, g);
     numbers::put_number(out, NUMBER, sizes::NUMBER, x);
     numbers::put_number(out, COUNT, 1, n as u64);
 }
 
-// The record of a frame: what stands before the views, then all 32 places of views.
-pub fn put_frame(out: &mut [u8], f: Frame)
-    requires { ⌜ length (now out) ≡ recordSize ⌝ }
-    ensures { λ _. ⌜ now (out .exit) ≡ recordBytes f ⌝ }
+// All 32 places of views: n views, which lie in other bytes, as they stand, and 0 behind them.
+fn put_views(out: &mut [u8], from: &[u8], at: usize, n: usize)
+    requires { ⌜ (length (now out) ≡ recordSize) × (n ≤ maxViews) × (at + viewSize * n ≤ length (now from)) ⌝ }
+    ensures { λ _. ⌜ now (out .exit)
+        ≡ take recordViews (now (out .entry)) ++ viewsBytes (places (viewsIn (now (from .entry)) at n)) ⌝ }
 {
-    let m = f.message;
-    let view = f.view;
-    let list = f.views;
-    put_head(out, format::kind(m), view, format::number(m), list.count);
-    crate::writer::store_views(out, VIEWS, list, limits::VIEWS);
+    let end = VIEWS + sizes::VIEW * n;
+    writer::copy(out, VIEWS, from, at, sizes::VIEW * n);
+    writer::clear(&mut out[end..RECORD]);
 }
 
-// A told's count too large for a byte stands as 0, which is as much out of range.
-fn count(kind: u8, x: u64) -> u64
-    ensures { λ r. ⌜ r ≡ counted kind x ⌝ }
+// The record of the message that the bytes are.
+fn store(out: &mut [u8], bytes: &[u8])
+    requires { ⌜ (length (now out) ≡ recordSize) × (readOf (now bytes) .verdict ≡ Verdict.Accepted) ⌝ }
+    ensures { λ _. ⌜ now (out .exit) ≡ recordBytes (readOf (now (bytes .entry)) .frame) ⌝ }
 {
-    if kind == format::TOLD {
-        if 256 <= x {
-            return 0;
+    let g = numbers::get_number(bytes, format::IDENTIFIER_AT, sizes::IDENTIFIER);
+    let x = reader::load_number(bytes);
+    let n = bytes[format::COUNT_AT] as usize;
+    put_head(out, bytes[0], g, x, n);
+    put_views(out, bytes, format::VIEWS_AT, n);
+}
+
+// One message, which the bytes must be as a whole, is read into the record.
+pub fn read(bytes: &[u8], out: &mut [u8]) -> Verdict
+    requires { ⌜ length (now out) ≡ recordSize ⌝ }
+    ensures { λ r. ⌜ (r ≡ readOf (now (bytes .entry)) .verdict) × (now (out .exit)
+        ≡ left (readOf (now (bytes .entry)) .verdict) (recordBytes (readOf (now (bytes .entry)) .frame))
+        (now (out .entry))) ⌝ }
+{
+    let v = reader::verdict(bytes);
+    match v {
+        Verdict::Refused(r) => Verdict::Refused(r),
+        Verdict::Accepted => {
+            store(out, bytes);
+            Verdict::Accepted
         }
     }
-    x
 }
 
-// The frame of a record of a known kind.
-pub fn load_frame(message: &[u8]) -> Frame
-    requires { ⌜ length (now message) ≡ recordSize ⌝ }
-    ensures { λ r. ⌜ r ≡ frameOf (now (message .entry)) ⌝ }
+// The message of a record of a known kind can be written: 34 to 37, asked of the record where it lies.
+fn check(message: &[u8]) -> Verdict
+    requires { ⌜ (length (now message) ≡ recordSize) × (isKnown (getD (now message) recordKind 0) ≡ true) ⌝ }
+    ensures { λ r. ⌜ r ≡ frameVerdict (frameOf (now (message .entry))) ⌝ }
 {
     let kind = message[KIND];
-    let g = numbers::get_number(message, VIEW, sizes::IDENTIFIER);
-    let x = count(kind, numbers::get_number(message, NUMBER, sizes::NUMBER));
-    let n = numbers::get_number(message, COUNT, 1);
-    let mut list = crate::reader::load_views(message, VIEWS, limits::VIEWS);
-    list.count = n as usize;
-    Frame {
-        view: ViewId((g % 4294967296) as u32),
-        message: format::message(kind, x),
-        views: list,
+    let n = message[COUNT] as usize;
+    if !format::views_allowed(kind, n) {
+        return Verdict::Refused(Refusal::SectionCount);
     }
+    if in_bytes::some_empty(message, VIEWS, n) {
+        return Verdict::Refused(Refusal::EmptySet);
+    }
+    if !in_bytes::rising(message, VIEWS, n) {
+        return Verdict::Refused(Refusal::NotRising);
+    }
+    if kind != format::TOLD {
+        return Verdict::Accepted;
+    }
+    if !in_bytes::told_fits(message, NUMBER) {
+        return Verdict::Refused(Refusal::ToldOutOfRange);
+    }
+    Verdict::Accepted
+}
+
+// The message of a record of a known kind is written to the front of the buffer.
+pub fn write(message: &[u8], out: &mut [u8]) -> Written
+    requires { ⌜ (length (now message) ≡ recordSize) × (isKnown (getD (now message) recordKind 0) ≡ true) ⌝ }
+    ensures { λ r. ⌜ Wrote (frameOf (now (message .entry))) (now (out .entry)) (now (out .exit)) r ⌝ }
+{
+    let v = check(message);
+    match v {
+        Verdict::Refused(r) => Written {
+            verdict: Verdict::Refused(r),
+            length: 0,
+        },
+        Verdict::Accepted => write_checked(message, out),
+    }
+}
+
+// The same where it can be written.
+fn write_checked(message: &[u8], out: &mut [u8]) -> Written
+    requires { ⌜ (length (now message) ≡ recordSize) × (isKnown (getD (now message) recordKind 0) ≡ true)
+        × (frameVerdict (frameOf (now message)) ≡ Verdict.Accepted) ⌝ }
+    ensures { λ r. ⌜ Wrote (frameOf (now (message .entry))) (now (out .entry)) (now (out .exit)) r ⌝ }
+{
+    let g = numbers::get_number(message, VIEW, sizes::IDENTIFIER);
+    let x = numbers::get_number(message, NUMBER, sizes::NUMBER);
+    let m = format::message(message[KIND], x);
+    let view = ViewId((g % 4294967296) as u32);
+    writer::write_from(
+        out,
+        view,
+        m,
+        message,
+        NUMBER,
+        VIEWS,
+        message[COUNT] as usize,
+    )
 }

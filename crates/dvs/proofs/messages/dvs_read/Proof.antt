@@ -1,6 +1,9 @@
--- `dvs::messages::dvs_read` meets its contract: 4 for a record of another length, else what the reader gave.
-use Rattle.dvs.proofs.MessageLaws.{reads-unsized, reads-refused, reads-accepted}
+-- `dvs::messages::dvs_read` meets its contract: 4 for a record of another length, else what reading into it gave.
+use mathlib.Core.Path.{sym, ap, _∙_}
 use borrow.Author.Needs.{needs}
+use Rattle.views.specs.declared.refusal.Verdict.{Verdict}
+use Rattle.views.specs.Refusals.{codeOf}
+use Rattle.dvs.proofs.MessageLaws.{reads-unsized, reads-call}
 use Rattle.dvs.proofs.messages.dvs_read.Statement.{statement}
 use Rattle.dvs.proofs.messages.dvs_read.Tie as tie
 
@@ -22,21 +25,17 @@ refused-requires-2 c κs = search needs
 enum-told : tie.Need-enum-told
 enum-told c = search needs
 
-put-frame-requires : tie.Need-put-frame-requires
-put-frame-requires c κs = search needs
-
-returns-2 : tie.Need-returns-2
-returns-2 c =
-    let early = c .before .before .before .before in
-    reads-refused _ _ _ _ _ (early .before .if1 .left) (early .read .ensures) (c .before .before .v .given .1) (c .refused2 .ensures)
-
 same-length : tie.Need-same-length
 same-length c = search needs
 
+returns-2 : tie.Need-returns-2
+returns-2 c = reads-call _ _ _ _ _ (c .before .before .before .before .before .before .before .before .if1 .left) (c .before .before .before .before .before .before .read .ensures) (c .refused2 .ensures ∙ sym (ap (λ (w : Verdict). codeOf w) (c .before .before .v .given .1)))
+
+same-length-2 : tie.Need-same-length-2
+same-length-2 c = search needs
+
 returns-3 : tie.Need-returns-3
-returns-3 c =
-    let early = c .before .before .before .before .before in
-    reads-accepted _ _ _ _ (early .before .before .before .if1 .left) (early .before .before .read .ensures) (early .enum-told .given .1) (c .before .before .put-frame .ensures)
+returns-3 c = reads-call _ _ _ _ _ (c .before .before .before .before .before .before .if1 .left) (c .before .before .before .before .read .ensures) (sym (ap (λ (w : Verdict). codeOf w) (c .enum-told .given .1)))
 
 pub dvs-read-spec : {M : Type 1} → statement M
 dvs-read-spec =
@@ -48,7 +47,7 @@ dvs-read-spec =
     enum-known-v
     refused-requires-2
     enum-told
-    put-frame-requires
-    returns-2
     same-length
+    returns-2
+    same-length-2
     returns-3)

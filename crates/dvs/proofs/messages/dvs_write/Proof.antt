@@ -32,11 +32,8 @@ returns-3 c =
     let early = c .before .before .before .before in
     writes-unknown _ _ _ (early .before .if1 .left) (early .if2 .left) _ (sym (c .before .before .known .ensures) ∙ not-true _ (c .before .if3 .taken)) (c .refused3 .ensures)
 
-load-frame-requires : tie.Need-load-frame-requires
-load-frame-requires c κs = search needs
-
 write-requires : tie.Need-write-requires
-write-requires c κs = search needs
+write-requires c κs = (c .before .before .before .before .before .if1 .left, sym (c .before .before .known .ensures) ∙ not-false _ (c .before .if3 .left))
 
 measure-requires : tie.Need-measure-requires
 measure-requires c κs = search needs
@@ -50,7 +47,7 @@ same-length-2 c = search needs
 returns-4 : tie.Need-returns-4
 returns-4 c =
     let early = c .before .before .before .before .before .before in
-    writes-call _ _ _ (early .before .before .before .before .before .before .before .if1 .left) (early .before .before .before .before .before .before .if2 .left) _ _ _ _ (sym (early .before .before .before .before .known .ensures) ∙ not-false _ (early .before .before .before .if3 .left)) (rw (early .before .before .load-frame .ensures) at (early .write .ensures)) (c .before .before .measure .ensures)
+    writes-call _ _ _ (early .before .before .before .before .before .before .if1 .left) (early .before .before .before .before .before .if2 .left) _ _ _ _ (sym (early .before .before .before .known .ensures) ∙ not-false _ (early .before .before .if3 .left)) (early .write .ensures) (c .before .before .measure .ensures)
 
 pub dvs-write-spec : {M : Type 1} → statement M
 dvs-write-spec =
@@ -64,7 +61,6 @@ dvs-write-spec =
     known-requires
     refused-requires-3
     returns-3
-    load-frame-requires
     write-requires
     measure-requires
     same-length

@@ -1,16 +1,15 @@
--- The front is read, and its verdict and what it took decide the three cases.
+-- `reader::read` meets its contract: the verdict, and then the frame.
 use mathlib.Core.Path.{sym, _∙_}
-use native.Mathlib.Omega.{arith}
 use borrow.Author.Needs.{needs}
-use Rattle.wire.proofs.ReaderLaws.{read-refused, read-over, read-all}
+use Rattle.wire.proofs.FrontLaws.{refused-whole, scan-whole, read-whole}
 use Rattle.wire.proofs.reader.read.Statement.{statement}
 use Rattle.wire.proofs.reader.read.Tie as tie
 
-read-front-requires : tie.Need-read-front-requires
-read-front-requires c κs = search needs
+verdict-requires : tie.Need-verdict-requires
+verdict-requires c κs = search needs
 
-enum-known-verdict : tie.Need-enum-known-verdict
-enum-known-verdict c = search needs
+enum-known-v : tie.Need-enum-known-v
+enum-known-v c = search needs
 
 refuse-requires : tie.Need-refuse-requires
 refuse-requires c κs = search needs
@@ -18,36 +17,23 @@ refuse-requires c κs = search needs
 enum-told : tie.Need-enum-told
 enum-told c = search needs
 
-refuse-requires-2 : tie.Need-refuse-requires-2
-refuse-requires-2 c κs = search needs
+load-frame-requires : tie.Need-load-frame-requires
+load-frame-requires c κs = scan-whole (c .before .before .before .before .args .b .now) (sym (c .before .before .verdict .ensures) ∙ c .enum-told .given .1)
 
 returns : tie.Need-returns
-returns c =
-    let a = c .before .before .before .before .before .before .args in
-    let front = c .before .before .before .before .read-front in
-    c .refuse .ensures ∙ sym (read-refused (a .b .now) (front .result) _ (front .ensures) (c .before .before .verdict .given .1))
+returns c = c .refuse .ensures ∙ sym (refused-whole (c .before .before .before .before .before .before .args .b .now) _ (sym (c .before .before .before .before .verdict .ensures) ∙ c .before .before .v .given .1))
 
 returns-2 : tie.Need-returns-2
-returns-2 c =
-    let a = c .before .before .before .before .before .before .before .args in
-    let front = c .before .before .before .before .before .read-front in
-    c .refuse2 .ensures ∙ sym (read-over (a .b .now) (front .result) (front .ensures) (c .before .before .before .enum-told .given .1) (omega arith))
-
-returns-3 : tie.Need-returns-3
-returns-3 c =
-    let a = c .before .before .before .before .before .before .args in
-    let front = c .before .before .before .before .read-front in
-    sym (read-all (a .b .now) (front .result) (front .ensures) (c .before .before .enum-told .given .1) (omega arith))
+returns-2 c = rw (c .load-frame .ensures) (sym (read-whole (c .before .before .before .before .before .args .b .now) (sym (c .before .before .before .verdict .ensures) ∙ c .before .enum-told .given .1)))
 
 pub read-spec : {M : Type 1} → statement M
 read-spec =
     tie.close
     (tie.spec
-    read-front-requires
-    enum-known-verdict
+    verdict-requires
+    enum-known-v
     refuse-requires
     enum-told
-    refuse-requires-2
+    load-frame-requires
     returns
-    returns-2
-    returns-3)
+    returns-2)

@@ -9,9 +9,6 @@ use Rattle.wire.proofs.record.put_head.Tie as tie
 slice-write-out : tie.Need-slice-write-out
 slice-write-out c = search needs
 
-cast-put-number : tie.Need-cast-put-number
-cast-put-number c = search needs
-
 put-number-requires : tie.Need-put-number-requires
 put-number-requires c κs = simp length-set (omega arith)
 
@@ -32,7 +29,6 @@ put-head-spec =
     tie.close
     (tie.spec
     slice-write-out
-    cast-put-number
     put-number-requires
     put-number-requires-2
     put-number-requires-3
