@@ -4,11 +4,11 @@ use mathlib.Core.Bool.{true, false, cond}
 use mathlib.Core.List.{List, [], _∷_}
 use Prim.Native.Nat.{ℕ, _+_, _<_, _≤_, min}
 use native.Mathlib.Omega.{arith}
-use borrow.Author.Tests.{leb-true, ne-eqb, le-leb, lt-ltb, le-ltb}
+use borrow.Author.Tests.{leb-true, eq-eqb, ne-eqb, le-leb, lt-ltb, le-ltb}
 use lib.Dec.{eqb, leb}
 use lib.ListN.{length, getD}
 use Rattle.views.specs.declared.View.{View}
-use Rattle.views.specs.Limits.{maxViews}
+use Rattle.views.specs.Limits.{maxViews, maxOrdered}
 use Rattle.views.specs.Sets.{both}
 use Rattle.views.specs.Lists.{isRising}
 use Rattle.views.proofs.SetLaws.{both-true}
@@ -27,7 +27,7 @@ use Rattle.rules.proofs.Truth.{both-unit, stopped}
 -- ---- over plain numbers and lists
 
 -- from no member
-foreign : (n q : ℕ) (m : Message) → n ≤ q → entrySound n (entry q m) ≡ false
+pub foreign : (n q : ℕ) (m : Message) → n ≤ q → entrySound n (entry q m) ≡ false
 unfolding entrySound
 foreign n q m h = stopped _ 3 (le-ltb q n h)
 
@@ -75,6 +75,13 @@ module _ (b : List ℕ) (at n : ℕ) (fits : slotFits b at ≡ true) where
   pub entry-short : getD b at 0 < n → (kindIn b at ≡ 2 → ⊥) → toldFits (kindIn b at) (numberIn b at) ≡ entrySound n (entryIn b at)
   unfolding messageIn
   entry-short h i = short-tests n (getD b at 0) (kindIn b at) (numberIn b at) (infoIn b at) h kind i
+
+  -- a told's number, with the kind known
+  pub entry-told : getD b at 0 < n → kindIn b at ≡ 4 → both (leb 1 (numberIn b at)) (leb (numberIn b at) maxOrdered) ≡ entrySound n (entryIn b at)
+  unfolding toldFits
+  entry-told f i =
+      let no-info : kindIn b at ≡ 2 → ⊥ = λ e. omega arith in
+      rw (eq-eqb (kindIn b at) 4 i) at (entry-short f no-info)
 
   -- only a told's number is asked
   pub entry-other : getD b at 0 < n → (kindIn b at ≡ 2 → ⊥) → (kindIn b at ≡ 4 → ⊥) → true ≡ entrySound n (entryIn b at)

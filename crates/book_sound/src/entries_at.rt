@@ -1,5 +1,4 @@
 // Queue entries and inward items where they lie in bytes, tested in place. Only what is used is looked at.
-use views::sizes;
 use wire::format;
 ghost use mathlib.Core.Bool.{true};
 ghost use mathlib.Core.Path.{_≡_};
@@ -25,8 +24,7 @@ pub fn entry_sound(b: &[u8], at: usize, n: u8) -> bool
     if kind != format::TOLD {
         return true;
     }
-    let x = numbers::get_number(b, at + slots::NUMBER, sizes::NUMBER);
-    format::told_fits(kind, x)
+    wire::in_bytes::told_fits(b, at + slots::NUMBER)
 }
 
 // The slots of a queue have entries of known kind, with their views in their places.

@@ -99,7 +99,7 @@ fn views_sound(b: &[u8], n: u8) -> bool
     if !seat_fits(b, book_bytes::CLIENT, n) {
         return false;
     }
-    crate::views_at::rise_above(b, book_bytes::OPENS + 1, opens, settled.id)
+    wire::in_bytes::rise_above(b, book_bytes::OPENS + 1, opens, settled.id)
 }
 
 // The record of a book of n members, with so many items in its two inward lists.

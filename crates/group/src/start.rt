@@ -25,7 +25,7 @@ fn lay_list(list: &mut [u8], first: u8)
     requires { ⌜ viewSize ≤ length (now list) ⌝ }
     ensures { λ _. ⌜ now (list .exit) ≡ storeView (replicate (length (now (list .entry))) 0) 0 (firstView first) ⌝ }
 {
-    book_bytes::fresh::clear(list);
+    wire::writer::clear(list);
     let view = View {
         id: ViewId(0),
         set: first,
@@ -38,7 +38,7 @@ fn lay_queues(queues: &mut [u8])
     requires { ⌜ 1 ≤ length (now queues) ⌝ }
     ensures { λ _. ⌜ now (queues .exit) ≡ set (replicate (length (now (queues .entry))) 0) madeAt 1 ⌝ }
 {
-    book_bytes::fresh::clear(queues);
+    wire::writer::clear(queues);
     queues[group_bytes::MADE] = 1;
 }
 
@@ -47,7 +47,7 @@ fn lay_books(all: &mut [u8], members: u8, first: u8)
     requires { ⌜ (length (now all) ≡ booksSize) × (members ≤ maxMembers) ⌝ }
     ensures { λ _. ⌜ now (all .exit) ≡ startBooks members first members (now (all .entry)) ⌝ }
 {
-    book_bytes::fresh::clear(all);
+    wire::writer::clear(all);
     let mut p = 0;
     while p < members {
         let a = book_bytes::SIZE * (p as usize);

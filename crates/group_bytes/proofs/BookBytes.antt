@@ -12,7 +12,7 @@ use Rattle.wire.proofs.TripViews.{AreBytes}
 use Rattle.slots.proofs.Outside.{Changed}
 use Rattle.slots.proofs.BytesKept.{append-bytes, take-bytes, drop-bytes}
 use Rattle.book_bytes.specs.Places.{membersAt, bookSize}
-use Rattle.book_bytes.proofs.RecordLaws.{bytes-are}
+use Rattle.book_bytes.proofs.RecordReads.{bytes-are}
 use Rattle.group_bytes.specs.Places.{booksSize, bookAt, bookBytes, withBook}
 
 -- ---- one book

@@ -1,46 +1,100 @@
--- The place of a view in the list, by turns.
-use mathlib.Core.Path.{_≡_, ap, _∙_}
-use mathlib.Core.List.{List}
-use Prim.Native.Nat.{ℕ, suc, _+_, _-_, _*_, _<_}
+-- The place of a view in a list that rises, sought from behind.
+use mathlib.Core.Path.{_≡_, refl, sym, ap, _∙_}
+use mathlib.Core.Logic.{⊎-elim}
+use mathlib.Core.Bool.{true, false}
+use mathlib.Core.List.{List, [], _∷_}
+use Prim.Native.Nat.{ℕ, zero, suc, _+_, _*_, _<_, _≤_}
 use native.Mathlib.Omega.{arith}
-use borrow.Author.Tests.{eq-eqb, ne-eqb}
+use borrow.Author.Tests.{ltb-true, ltb-false, eqb-true, eqb-false, eq-eqb, ne-eqb}
+use lib.Dec.{eqb, ltb}
+use lib.ListN.{length, getD}
 use Rattle.numbers.specs.Number.{get}
-use Rattle.wire.specs.Reader.{viewsIn}
+use Rattle.views.specs.declared.View.{View}
+use Rattle.views.specs.Lists.{idOf, isRising, risesAbove, noView}
+use Rattle.views.proofs.SetLaws.{known}
+use Rattle.views.proofs.Members.{In, top, pop}
+use Rattle.views.proofs.ListLaws.{rises-front, rises-all, rising-tail}
+use Rattle.wire.specs.Reader.{viewIn, viewsIn}
+use Rattle.wire.proofs.ReaderLaws.{length-viewsIn}
 use Rattle.group_bytes.specs.Groups.{placeOf}
+use Rattle.group_bytes.proofs.PlaceLaws.{place-id, place-most}
 
-place-here : (b : List ℕ) (g at k : ℕ) → get b at 4 ≡ g → placeOf g (viewsIn b at (suc k)) ≡ 0
-unfolding viewsIn placeOf
-place-here b g at k e = rw (eq-eqb _ _ e)
+pub in-at : (l : List View) (i : ℕ) → i < length l → In (getD l i noView) l
+in-at [] i h = absurd (omega arith)
+in-at (v ∷ l) zero h = top
+in-at (v ∷ l) (suc i) h = pop (in-at l i (omega arith))
 
-place-later : (b : List ℕ) (g at k : ℕ) → (get b at 4 ≡ g → ⊥) → placeOf g (viewsIn b at (suc k)) ≡ suc (placeOf g (viewsIn b (at + 5) k))
-unfolding viewsIn placeOf
-place-later b g at k e = rw (ne-eqb _ _ e)
+-- in a rising list the view at i has the place i
+pub place-at : (l : List View) → isRising l ≡ true → (i : ℕ) → i < length l → placeOf (idOf (getD l i noView)) l ≡ i
+unfolding placeOf isRising
+place-at [] r i h = absurd (omega arith)
+place-at (v ∷ l) r zero h = rw (eq-eqb (idOf v) (idOf v) refl)
+place-at (v ∷ l) r (suc i) h =
+    let w = getD l i noView in
+    let above : idOf v < idOf w = rises-all (idOf v) l r w (in-at l i (omega arith)) in
+    let e : eqb (idOf v) (idOf w) ≡ false = ne-eqb _ _ (λ (k : idOf v ≡ idOf w). omega arith) in
+    rw e (ap suc (place-at l (rising-tail v l r) i (omega arith)))
 
--- after i views the place is i, and then that among the others
-abbrev pub placeFrom : List ℕ → ℕ → ℕ → ℕ → ℕ
-placeFrom b g n i = i + placeOf g (viewsIn b (5 * i) (n - i))
+-- and an identifier of i or more
+above-place : (g : ℕ) (l : List View) → risesAbove g l ≡ true → (i : ℕ) → i < length l → g + i < idOf (getD l i noView)
+above-place g [] r i h = absurd (omega arith)
+above-place g (v ∷ l) r zero h = omega (arith, rises-front g v l r .0)
+above-place g (v ∷ l) r (suc i) h =
+    let f = rises-front g v l r in
+    omega (arith, f .0, above-place (idOf v) l (f .1) i (omega arith))
 
-pub place-first : (b : List ℕ) (g n : ℕ) → placeOf g (viewsIn b 0 n) ≡ placeFrom b g n 0
-place-first b g n = let k : n - 0 ≡ n = omega arith in rw k (omega arith)
+place-low : (l : List View) → isRising l ≡ true → (i : ℕ) → i < length l → i ≤ idOf (getD l i noView)
+unfolding isRising
+place-low [] r i h = absurd (omega arith)
+place-low (v ∷ l) r zero h = omega arith
+place-low (v ∷ l) r (suc i) h = omega (arith, above-place (idOf v) l r i (omega arith))
 
-pub place-turn : (b : List ℕ) (g n i : ℕ) → i < n → (get b (5 * i) 4 ≡ g → ⊥) → placeFrom b g n i ≡ placeFrom b g n (i + 1)
-place-turn b g n i h e =
-    let k : n - i ≡ suc (n - (i + 1)) = omega arith in
-    let a : 5 * i + 5 ≡ 5 * (i + 1) = omega arith in
-    let m : placeOf g (viewsIn b (5 * i) (n - i)) ≡ suc (placeOf g (viewsIn b (5 * (i + 1)) (n - (i + 1)))) =
-    ap (λ (z : ℕ). placeOf g (viewsIn b (5 * i) z)) k ∙ place-later b g (5 * i) (n - (i + 1)) e ∙ ap (λ (z : ℕ). suc (placeOf g (viewsIn b z (n - (i + 1))))) a
-    in
-    omega (arith, m)
+-- ---- the list in bytes
 
-pub place-stop : (b : List ℕ) (g n i : ℕ) → i < n → get b (5 * i) 4 ≡ g → i ≡ placeFrom b g n i
-place-stop b g n i h e =
-    let k : n - i ≡ suc (n - (i + 1)) = omega arith in
-    let m : placeOf g (viewsIn b (5 * i) (n - i)) ≡ 0 = ap (λ (z : ℕ). placeOf g (viewsIn b (5 * i) z)) k ∙ place-here b g (5 * i) (n - (i + 1)) e in
-    omega (arith, m)
+pub views-at : (b : List ℕ) (at n i : ℕ) → i < n → getD (viewsIn b at n) i noView ≡ viewIn b (at + 5 * i)
+unfolding viewsIn
+views-at b at zero i h = absurd (omega (arith, h))
+views-at b at (suc n) zero h = let e : at ≡ at + 5 * 0 = omega arith in ap (λ (m : ℕ). viewIn b m) e
+views-at b at (suc n) (suc i) h =
+    let e : at + 5 + 5 * i ≡ at + 5 * suc i = omega arith in
+    views-at b (at + 5) n i (omega (arith, h)) ∙ ap (λ (m : ℕ). viewIn b m) e
 
-pub place-end : (b : List ℕ) (g n i : ℕ) → i ≡ n → n ≡ placeFrom b g n i
-unfolding viewsIn placeOf
-place-end b g n i e =
-    let k : n - i ≡ 0 = omega arith in
-    let m : placeOf g (viewsIn b (5 * i) (n - i)) ≡ 0 = ap (λ (z : ℕ). placeOf g (viewsIn b (5 * i) z)) k in
-    omega (arith, m)
+-- the identifier at a place of the list, which begins at 0
+id-at : (b : List ℕ) (n i : ℕ) → i < n → idOf (getD (viewsIn b 0 n) i noView) ≡ get b (5 * i) 4
+id-at b n i h = let e : 0 + 5 * i ≡ 5 * i = omega arith in ap idOf (views-at b 0 n i h) ∙ ap (λ (z : ℕ). get b z 4) e
+
+-- none of the n views from place i on has the identifier g
+abbrev pub NoneFrom : List ℕ → ℕ → ℕ → ℕ → Type 0
+NoneFrom b g n i = (k : ℕ) → i ≤ k → k < n → get b (5 * k) 4 ≡ g → ⊥
+
+-- one place before them has it neither
+pub none-more : (b : List ℕ) (g n i j : ℕ) → i ≡ suc j → NoneFrom b g n i → (get b (5 * j) 4 ≡ g → ⊥) → NoneFrom b g n j
+none-more b g n i j e f h = λ k l m s.
+    ⊎-elim (λ (t : eqb k j ≡ true). h (ap (λ (z : ℕ). get b (5 * z) 4) (sym (eqb-true k j t)) ∙ s))
+    (λ (t : eqb k j ≡ false). f k (omega (arith, eqb-false k j t)) m s)
+    (known (eqb k j))
+
+module _ (b : List ℕ) (n : ℕ) (r : isRising (viewsIn b 0 n) ≡ true) where
+  long : length (viewsIn b 0 n) ≡ n
+  long = length-viewsIn b 0 n
+
+  -- those past place g have higher ones
+  pub none-past : (g i : ℕ) → g < i → NoneFrom b g n i
+  none-past g i h = λ k l m s. omega (arith, place-low (viewsIn b 0 n) r k (omega (arith, long)), id-at b n k m)
+
+  pub place-found-at : (g i : ℕ) → i < n → get b (5 * i) 4 ≡ g → i ≡ placeOf g (viewsIn b 0 n)
+  place-found-at g i h e =
+      sym (place-at (viewsIn b 0 n) r i (omega (arith, long))) ∙ ap (λ (x : ℕ). placeOf x (viewsIn b 0 n)) (id-at b n i h ∙ e)
+
+pub place-of-none : (b : List ℕ) (n g i : ℕ) → i ≡ 0 → NoneFrom b g n i → n ≡ placeOf g (viewsIn b 0 n)
+place-of-none b n g i z f =
+    let l = viewsIn b 0 n in
+    let p = placeOf g l in
+    let long : length l ≡ n = length-viewsIn b 0 n in
+    let most : p ≤ length l = place-most g l in
+    ⊎-elim
+    (λ (t : ltb p n ≡ true).
+    let h : p < n = ltb-true p n t in
+    absurd (f p (omega arith) h (sym (id-at b n p h) ∙ place-id g l (omega (arith, long)))))
+    (λ (t : ltb p n ≡ false). omega (arith, long, most, ltb-false p n t))
+    (known (ltb p n))

@@ -5,10 +5,12 @@ use views::ViewId;
 use views::limits;
 use views::sizes;
 ghost use Prim.Native.Nat.{_*_, _+_, _≤_};
+ghost use mathlib.Core.Bool.{true};
 ghost use mathlib.Core.Path.{_≡_};
 ghost use lib.ListN.{length};
 ghost use Rattle.views.specs.Sizes.{viewSize};
 ghost use Rattle.views.specs.Limits.{maxViews, maxMembers};
+ghost use Rattle.views.specs.Lists.{isRising};
 ghost use Rattle.wire.specs.Reader.{viewsIn};
 ghost use Rattle.group_bytes.specs.Groups.{placeOf};
 ghost use Rattle.group_bytes.specs.Places.{orderAt, waitingAt};
@@ -31,17 +33,19 @@ pub const WAITING: usize = 1 + slots::SLOT * limits::WAITING as usize;
 
 pub const TABLE: usize = ORDER + WAITING * limits::MEMBERS as usize;
 
-// The place of the first of n views with the identifier, n if there is none.
+// The place of the view with the identifier among n views that rise, n if there is none. The view with identifier g
+// stands at place g or before it, since identifiers are natural numbers: it is sought downwards from there.
 pub fn place(list: &[u8], n: u8, id: ViewId) -> u8
-    requires { ⌜ viewSize * n ≤ length (now list) ⌝ }
+    requires { ⌜ (viewSize * n ≤ length (now list)) × (isRising (viewsIn (now list) 0 n) ≡ true) ⌝ }
     ensures { λ r. ⌜ r ≡ placeOf (id .0) (viewsIn (now (list .entry)) 0 n) ⌝ }
 {
-    let mut i = 0;
-    while i < n {
-        if numbers::get_number(list, VIEW * (i as usize), sizes::IDENTIFIER) == id.0 as u64 {
-            return i;
+    let g = id.0 as usize;
+    let mut i = if g < n as usize { g + 1 } else { n as usize };
+    while 0 < i {
+        i -= 1;
+        if numbers::get_number(list, VIEW * i, sizes::IDENTIFIER) == id.0 as u64 {
+            return i as u8;
         }
-        i += 1;
     }
     n
 }

@@ -27,6 +27,7 @@ use Rattle.group_bytes.specs.Places.{roomOf}
 use Rattle.group_bytes.specs.Groups.{Ranges, madeOf}
 use Rattle.group_bytes.specs.Moves.{createRanges, joinRanges, passRanges, orderRanges, deliverRanges}
 use Rattle.group_bytes.specs.Steps.{pickRanges, moved, stepResult, stepRanges}
+use Rattle.group_bytes.proofs.PlaceTurns.{views-at}
 use Rattle.group_listed.specs.Parts.{viewOr}
 
 -- ---- what a step changes of the list
@@ -69,14 +70,6 @@ module _ (r : Ranges) (c : Step) where
   step-changed = left-changed (verdictOf (stepResult r c))
 
 -- ---- the records
-
-pub views-at : (b : List ℕ) (at n i : ℕ) → i < n → getD (viewsIn b at n) i noView ≡ viewIn b (at + 5 * i)
-unfolding viewsIn
-views-at b at zero i h = absurd (omega (arith, h))
-views-at b at (suc n) zero h = let e : at ≡ at + 5 * 0 = omega arith in ap (λ (m : ℕ). viewIn b m) e
-views-at b at (suc n) (suc i) h =
-    let e : at + 5 + 5 * i ≡ at + 5 * suc i = omega arith in
-    views-at b (at + 5) n i (omega (arith, h)) ∙ ap (λ (m : ℕ). viewIn b m) e
 
 pub views-whole : (ys : List View) → EachFits ys → viewsIn (viewsBytes ys) 0 (length ys) ≡ ys
 views-whole ys f = ap (λ (b : List ℕ). viewsIn b 0 (length ys)) (sym (append-nil (viewsBytes ys))) ∙ views-back [] ys [] f

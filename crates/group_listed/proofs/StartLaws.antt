@@ -44,7 +44,7 @@ use Rattle.group_listed.specs.Parts.{bytesIn, rangesIn, fromOf, BegunBy}
 use Rattle.group_listed.specs.SliceParts.{laid}
 use Rattle.group_listed.proofs.SliceLaws.{laid-length, laid-here, laid-behind}
 use Rattle.group_listed.proofs.BytesLaws.{short-bytes, long-length}
-use Rattle.group_listed.proofs.ListLaws.{views-at}
+use Rattle.group_bytes.proofs.PlaceTurns.{views-at}
 
 -- ---- the bytes of a start
 

@@ -1,4 +1,4 @@
-pub mod PlaceLaws
+pub mod ListedLaws
 pub mod Walks
 pub mod Infos
 pub mod Tests

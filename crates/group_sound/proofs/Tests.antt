@@ -12,22 +12,26 @@ use Rattle.views.specs.declared.View.{View}
 use Rattle.views.specs.Limits.{maxMembers, maxViews, maxOpen}
 use Rattle.views.specs.Sizes.{viewSize}
 use Rattle.views.specs.Sets.{both}
-use Rattle.views.specs.Lists.{idOf, listOf}
+use Rattle.views.specs.Lists.{idOf, isRising, risesAbove, listOf}
+use Rattle.views.proofs.SetLaws.{both-true}
+use Rattle.views.proofs.ListLaws.{rises-front}
 use Rattle.wire.specs.Reader.{viewIn, viewsIn}
 use Rattle.rules.specs.Member.{all}
-use Rattle.rules.specs.Sound.{conditions, listed, listedIf}
+use Rattle.rules.specs.Sound.{conditions, setFits, opensRise, listed, listedIf}
+use Rattle.rules.specs.Alone.{bookSound}
 use Rattle.rules.proofs.TestLaws.{within-says, conditions-say, listed-in}
 use Rattle.book_bytes.specs.declared.Seat.{Seat}
 use Rattle.book_bytes.specs.declared.Record.{Record}
 use Rattle.book_bytes.specs.Places.{bookSize, settledAt, carrierAt, clientAt, opensAt}
 use Rattle.book_bytes.specs.Records.{seated, seatIn, recordIn}
-use Rattle.book_bytes.specs.Books.{layoutFits, bytesSound}
+use Rattle.book_bytes.specs.Books.{outgoingIn, bookIn, layoutFits, bytesSound}
+use Rattle.book_bytes.proofs.LayoutLaws.{layout-says}
 use Rattle.rules.proofs.Truth.{both-unit}
 use Rattle.book_sound.proofs.Tests.{opens-in}
 use Rattle.group_bytes.specs.Places.{roomOf, booksSize, bookBytes, orderAt, queuesSize}
 use Rattle.group_bytes.specs.Groups.{Ranges, membersOf, madeOf, viewsMade, placeOf}
-use Rattle.group_sound.specs.Parts.{sizesFit, numbersFit, recordListed, orderedIn, memberSound}
-use Rattle.group_sound.proofs.PlaceLaws.{place-within}
+use Rattle.group_sound.specs.Parts.{sizesFit, numbersFit, listSound, viewsKnown, recordListed, orderedIn, memberSound}
+use Rattle.group_bytes.proofs.PlaceLaws.{place-in}
 
 sizes-order : (z a b c d : Bool) → conditions (z ∷ both a b ∷ c ∷ d ∷ []) ≡ both z (both a (both b (both c d)))
 unfolding conditions
@@ -63,13 +67,21 @@ unfolding recordListed all
 record-are views h =
     record-order (listed views (h .settled)) (all (listed views) (listOf (h .opens))) (listedIf views (seated (h .carrier))) (listedIf views (seated (h .client)))
 
-pub record-in : (views : List View) (b : List ℕ) → getD b opensAt 0 ≤ maxOpen → (settled : View) → settled ≡ viewIn b settledAt
-    → recordListed views (recordIn b) ≡ both (listed views settled) (both (all (listed views) (viewsIn b (opensAt + 1) (getD b opensAt 0)))
+-- in bytes, where the open views rise
+pub record-in : (views : List View) (b : List ℕ) → getD b opensAt 0 ≤ maxOpen → isRising (viewsIn b (opensAt + 1) (getD b opensAt 0)) ≡ true
+    → recordListed views (recordIn b) ≡ both (listed views (viewIn b settledAt)) (both (viewsKnown views (viewsIn b (opensAt + 1) (getD b opensAt 0)))
     (both (listedIf views (seated (seatIn b carrierAt))) (listedIf views (seated (seatIn b clientAt)))))
 unfolding recordIn
-record-in views b few settled e = rw (e, ← opens-in b few) (record-are views (recordIn b))
+record-in views b few rise = rw (rise, ← opens-in b few) (record-are views (recordIn b))
 
 -- ---- what tests that were met say
+
+-- every set of the list fits, and the identifiers rise
+pub list-fits : (n : ℕ) (views : List View) → listSound n views ≡ true → all (setFits n) views ≡ true
+list-fits n views h = both-true (all (setFits n) views) (isRising views) h .0
+
+pub list-rises : (n : ℕ) (views : List View) → listSound n views ≡ true → isRising views ≡ true
+list-rises n views h = both-true (all (setFits n) views) (isRising views) h .1
 
 -- the three ranges have room for what the numbers say
 module _ (r : Ranges) (sizes : sizesFit (length (r .list)) (length (r .books)) (length (r .queues)) ≡ true) where
@@ -106,13 +118,34 @@ pub fits-layout : (b : List ℕ) → bytesSound b ≡ true → layoutFits b ≡ 
 unfolding bytesSound
 fits-layout b h = let (x, _) = conditions-say _ h in x
 
+-- and its open views and those of its infos rise
+rises-rising : (g : ℕ) (l : List View) → risesAbove g l ≡ true → isRising l ≡ true
+unfolding isRising
+rises-rising g [] h = refl
+rises-rising g (v ∷ l) h = rises-front g v l h .1
+
+module _ (b : List ℕ) (h : bytesSound b ≡ true) where
+  pub opens-rise : isRising (viewsIn b (opensAt + 1) (getD b opensAt 0)) ≡ true
+  unfolding bytesSound bookSound bookIn
+  opens-rise =
+      let (_, (whole, _)) = conditions-say _ h in
+      let (_, (_, (_, (_, (_, (_, (_, (_, (rise, _))))))))) = conditions-say _ whole in
+      rw (← opens-in b (layout-says b (fits-layout b h) .opens)) (rises-rising _ _ rise)
+
+  pub infos-rise : all opensRise (outgoingIn b) ≡ true
+  unfolding bytesSound bookSound bookIn
+  infos-rise =
+      let (_, (whole, _)) = conditions-say _ h in
+      let (_, (_, (_, (_, (_, (_, (_, (_, (_, (rise, _)))))))))) = conditions-say _ whole in
+      rise
+
 -- ---- the order of a listed view
 
 there-listed : (views : List View) (t : Bool) (v : View) → t ≡ true → listedIf views (cond t (some v) none) ≡ true → listed views v ≡ true
 there-listed views t v e h = rw e at h
 
 pub ordered-place : (views : List View) (s : Seat) → s .there ≡ true → listedIf views (seated s) ≡ true → placeOf (idOf (s .view)) views < length views
-ordered-place views s e h = place-within views (s .view) (listed-in views (s .view) (there-listed views (s .there) (s .view) e h))
+ordered-place views s e h = place-in (s .view) views (listed-in views (s .view) (there-listed views (s .there) (s .view) e h))
 
 pub ordered-there : (views : List View) (q : List ℕ) (s : Seat) → s .there ≡ true → getD q (orderAt (placeOf (idOf (s .view)) views)) 0 ≡ orderedIn views q (seated s)
 unfolding orderedIn

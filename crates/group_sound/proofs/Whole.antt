@@ -32,7 +32,8 @@ use Rattle.group_bytes.specs.Places.{roomOf, bookBytes, orderAt, waitingAt}
 use Rattle.group_bytes.specs.Groups.{Ranges, membersOf, madeOf, viewsMade, placeOf, waitingIn, orderIn, bookOf, groupIn, rangesFit, rangesSound}
 use Rattle.group_bytes.proofs.RangesLaws.{Queued, Ranged, ranges-says, ranges-from}
 use Rattle.group_sound.specs.Parts.{sizesFit, numbersFit, recordListed, orderedIn, bookKnown, memberSound, queueSound, waitingSound, tableSound, recordsSound, partsSound}
-use Rattle.group_sound.proofs.PlaceLaws.{in-at, place-within, place-at}
+use Rattle.group_bytes.proofs.PlaceLaws.{place-in}
+use Rattle.group_bytes.proofs.PlaceTurns.{in-at, place-at}
 use Rattle.group_sound.proofs.GroupParts.{entries-listed, queue-in, queue-out, book-in, outgoing-in, book-listed, book-out}
 
 module _ (r : Ranges) where
@@ -55,7 +56,7 @@ module _ (r : Ranges) where
   book-of p h = rw (lt-ltb p n h)
 
   place-made : (v : View) → In v views → placeOf (idOf v) views < madeOf r
-  place-made v i = omega (arith, place-within views v i, made)
+  place-made v i = omega (arith, place-in v views i, made)
 
   order-of : (v : View) → In v views → orderIn r (idOf v) ≡ queueIn (r .queues) (orderAt (placeOf (idOf v) views)) (orderAt (placeOf (idOf v) views) + 1)
   unfolding orderIn

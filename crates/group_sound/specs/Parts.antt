@@ -11,8 +11,9 @@ use Rattle.views.specs.Limits.{maxMembers, maxViews, maxWaiting, maxOrdered}
 use Rattle.views.specs.Sizes.{viewSize}
 use Rattle.views.specs.Sets.{both}
 use Rattle.views.specs.Lists.{idOf, isRising, listOf}
+use Rattle.rules.specs.Data.{Entry}
 use Rattle.rules.specs.Member.{every, all}
-use Rattle.rules.specs.Sound.{within, conditions, setFits, listed, listedIf, infoListed}
+use Rattle.rules.specs.Sound.{within, conditions, setFits, opensRise, listed, listedIf, infoListed}
 use Rattle.slots.specs.Slots.{slotSize, entryIn, queueIn, slotFits, slotsFit}
 use Rattle.book_bytes.specs.declared.Record.{Record}
 use Rattle.book_bytes.specs.Places.{membersAt, selfAt}
@@ -34,6 +35,18 @@ sizesFit list books queues = conditions (
 -- the number of members and of views made, in a list with this room
 unfoldable pub numbersFit : ℕ → ℕ → ℕ → Bool
 numbersFit n made room = conditions (within 1 n maxMembers ∷ within 1 made room ∷ [])
+
+-- the list of views made: every set fits n members, and the identifiers rise
+abbrev pub listSound : ℕ → List View → Bool
+listSound n views = both (all (setFits n) views) (isRising views)
+
+-- views that rise, each of them listed
+abbrev pub viewsKnown : List View → List View → Bool
+viewsKnown views l = both (isRising l) (all (listed views) l)
+
+-- the views of an entry, if it is an info, are so
+abbrev pub infoKnown : List View → Entry → Bool
+infoKnown views e = both (opensRise e) (infoListed views e)
 
 -- the views of a book's record are listed
 unfoldable pub recordListed : List View → Record → Bool
@@ -94,7 +107,7 @@ tableSound views n q i = both (queueSound views n q maxOrdered (orderAt i)) (wai
 -- the list, the books and the queues
 unfoldable pub recordsSound : List View → ℕ → List ℕ → List ℕ → Bool
 recordsSound views n books q = conditions (
-    both (all (setFits n) views) (isRising views)
+    listSound n views
     ∷ every n (λ p. memberSound views q n p (bookBytes books p))
     ∷ every (length views) (tableSound views n q)
     ∷ [])

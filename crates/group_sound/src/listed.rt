@@ -1,44 +1,92 @@
-// Whether views are among those made, identifier and set. The views made are the first of the list.
+// Whether views are among those made, identifier and set. The views made are the first of the list, and they rise.
+use views::sizes;
 use wire::format;
 ghost use mathlib.Core.Bool.{true};
 ghost use mathlib.Core.Path.{_≡_};
-ghost use Prim.Native.Nat.{_+_, _*_, _≤_};
+ghost use Prim.Native.Nat.{_+_, _*_, _≤_, _<_};
 ghost use lib.ListN.{length, getD};
 ghost use Rattle.views.specs.Sizes.{viewSize};
 ghost use Rattle.views.specs.Limits.{maxOpen};
-ghost use Rattle.wire.specs.Reader.{viewsIn};
-ghost use Rattle.rules.specs.Sound.{listedIf, infoListed};
+ghost use Rattle.views.specs.Lists.{isRising};
+ghost use Rattle.wire.specs.Reader.{viewIn, viewsIn};
+ghost use Rattle.rules.specs.Sound.{listed, listedIf};
 ghost use Rattle.rules.specs.Member.{all};
 ghost use Rattle.slots.specs.Slots.{slotSize, entryIn, slotFits, entriesIn, slotsFit};
 ghost use Rattle.book_bytes.specs.Places.{seatSize, bookSize, opensAt};
 ghost use Rattle.book_bytes.specs.Records.{seated, seatIn, recordIn};
-ghost use Rattle.group_sound.specs.Parts.{recordListed};
+ghost use Rattle.group_sound.specs.Parts.{viewsKnown, infoKnown, recordListed};
 
-// The view at a place of a book, if there is one.
-fn seat_listed(list: &[u8], b: &[u8], made: u8, at: usize) -> bool
-    requires { ⌜ (viewSize * made ≤ length (now list)) × (at + seatSize ≤ length (now b)) ⌝ }
-    ensures { λ r. ⌜ r ≡ listedIf (viewsIn (now (list .entry)) 0 made) (seated (seatIn (now (b .entry)) at)) ⌝ }
+// The view at a place.
+fn view_listed(list: &[u8], b: &[u8], made: u8, at: usize) -> bool
+    requires { ⌜ (viewSize * made ≤ length (now list)) × (at + viewSize ≤ length (now b))
+        × (isRising (viewsIn (now list) 0 made) ≡ true) ⌝ }
+    ensures { λ r. ⌜ r ≡ listed (viewsIn (now (list .entry)) 0 made) (viewIn (now (b .entry)) at) ⌝ }
 {
-    if b[at] == 1 {
-        let v = wire::reader::load_view(b, at + 1);
-        return book_sound::views_at::view_listed(list, made as usize, v);
+    let v = wire::reader::load_view(b, at);
+    let i = group_bytes::place(list, made, v.id);
+    if made <= i {
+        return false;
+    }
+    list[sizes::VIEW * (i as usize) + sizes::IDENTIFIER] == v.set
+}
+
+// The views from a place on, one or more, rise and each is listed: as both lists rise, one walk along the list meets
+// them all.
+fn views_known(list: &[u8], b: &[u8], made: u8, from: usize, count: usize) -> bool
+    requires { ⌜ (viewSize * made ≤ length (now list)) × (from + viewSize * count ≤ length (now b))
+        × (isRising (viewsIn (now list) 0 made) ≡ true) × (0 < count) ⌝ }
+    ensures { λ r. ⌜ r ≡ viewsKnown (viewsIn (now (list .entry)) 0 made) (viewsIn (now (b .entry)) from count) ⌝ }
+{
+    let first = wire::reader::load_view(b, from);
+    let mut j = group_bytes::place(list, made, first.id) as usize;
+    let mut i = 0;
+    while i < count {
+        if made as usize <= j {
+            return false;
+        }
+        let v = wire::reader::load_view(b, from + sizes::VIEW * i);
+        let w = wire::reader::load_view(list, sizes::VIEW * j);
+        if v.id.0 <= w.id.0 {
+            if v.id.0 != w.id.0 {
+                return false;
+            }
+            if v.set != w.set {
+                return false;
+            }
+            i += 1;
+        }
+        j += 1;
     }
     true
 }
 
-// The views of a book's record: held, carrier view and client view.
+// The view at a place of a book, if there is one.
+fn seat_listed(list: &[u8], b: &[u8], made: u8, at: usize) -> bool
+    requires { ⌜ (viewSize * made ≤ length (now list)) × (at + seatSize ≤ length (now b))
+        × (isRising (viewsIn (now list) 0 made) ≡ true) ⌝ }
+    ensures { λ r. ⌜ r ≡ listedIf (viewsIn (now (list .entry)) 0 made) (seated (seatIn (now (b .entry)) at)) ⌝ }
+{
+    if b[at] == 1 {
+        return view_listed(list, b, made, at + 1);
+    }
+    true
+}
+
+// The views of a book's record, whose open views rise: held, carrier view and client view.
 pub fn record_listed(list: &[u8], b: &[u8], made: u8) -> bool
     requires { ⌜ (viewSize * made ≤ length (now list)) × (bookSize ≤ length (now b))
-        × (getD (now b) opensAt 0 ≤ maxOpen) ⌝ }
+        × (isRising (viewsIn (now list) 0 made) ≡ true) × (getD (now b) opensAt 0 ≤ maxOpen)
+        × (isRising (viewsIn (now b) (opensAt + 1) (getD (now b) opensAt 0)) ≡ true) ⌝ }
     ensures { λ r. ⌜ r ≡ recordListed (viewsIn (now (list .entry)) 0 made) (recordIn (now (b .entry))) ⌝ }
 {
-    let settled = wire::reader::load_view(b, book_bytes::SETTLED);
-    if !book_sound::views_at::view_listed(list, made as usize, settled) {
+    if !view_listed(list, b, made, book_bytes::SETTLED) {
         return false;
     }
     let opens = b[book_bytes::OPENS] as usize;
-    if !book_sound::views_at::all_listed(list, made as usize, b, book_bytes::OPENS + 1, opens) {
-        return false;
+    if 0 < opens {
+        if !views_known(list, b, made, book_bytes::OPENS + 1, opens) {
+            return false;
+        }
     }
     if !seat_listed(list, b, made, book_bytes::CARRIER) {
         return false;
@@ -47,16 +95,16 @@ pub fn record_listed(list: &[u8], b: &[u8], made: u8) -> bool
 }
 
 // The views of an entry, if it is an info.
-pub fn info_listed(list: &[u8], b: &[u8], made: u8, at: usize) -> bool
+pub fn info_known(list: &[u8], b: &[u8], made: u8, at: usize) -> bool
     requires { ⌜ (viewSize * made ≤ length (now list)) × (at + slotSize ≤ length (now b))
-        × (slotFits (now b) at ≡ true) ⌝ }
-    ensures { λ r. ⌜ r ≡ infoListed (viewsIn (now (list .entry)) 0 made) (entryIn (now (b .entry)) at) ⌝ }
+        × (isRising (viewsIn (now list) 0 made) ≡ true) × (slotFits (now b) at ≡ true) ⌝ }
+    ensures { λ r. ⌜ r ≡ infoKnown (viewsIn (now (list .entry)) 0 made) (entryIn (now (b .entry)) at) ⌝ }
 {
     if b[at + slots::KIND] == format::INFO {
-        return book_sound::views_at::all_listed(
+        return views_known(
             list,
-            made as usize,
             b,
+            made,
             at + slots::VIEWS,
             b[at + slots::COUNT] as usize,
         );
@@ -65,14 +113,14 @@ pub fn info_listed(list: &[u8], b: &[u8], made: u8, at: usize) -> bool
 }
 
 // The views of every info of a queue.
-pub fn infos_listed(list: &[u8], b: &[u8], made: u8, at: usize, count: usize) -> bool
+pub fn infos_known(list: &[u8], b: &[u8], made: u8, at: usize, count: usize) -> bool
     requires { ⌜ (viewSize * made ≤ length (now list)) × (at + slotSize * count ≤ length (now b))
-        × (slotsFit (now b) at count ≡ true) ⌝ }
-    ensures { λ r. ⌜ r ≡ all (infoListed (viewsIn (now (list .entry)) 0 made)) (entriesIn (now (b .entry)) at count) ⌝ }
+        × (isRising (viewsIn (now list) 0 made) ≡ true) × (slotsFit (now b) at count ≡ true) ⌝ }
+    ensures { λ r. ⌜ r ≡ all (infoKnown (viewsIn (now (list .entry)) 0 made)) (entriesIn (now (b .entry)) at count) ⌝ }
 {
     let mut i = 0;
     while i < count {
-        if !info_listed(list, b, made, at + slots::SLOT * i) {
+        if !info_known(list, b, made, at + slots::SLOT * i) {
             return false;
         }
         i += 1;

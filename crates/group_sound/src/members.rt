@@ -8,17 +8,19 @@ ghost use Prim.Native.Nat.{_*_, _≤_};
 ghost use lib.ListN.{length};
 ghost use Rattle.views.specs.Sizes.{viewSize};
 ghost use Rattle.views.specs.Limits.{maxMembers};
+ghost use Rattle.views.specs.Lists.{isRising};
 ghost use Rattle.wire.specs.Reader.{viewsIn};
 ghost use Rattle.rules.specs.Sound.{listedIf};
 ghost use Rattle.rules.specs.Member.{every};
 ghost use Rattle.book_bytes.specs.Records.{seated};
-ghost use Rattle.book_bytes.specs.Books.{layoutFits};
+ghost use Rattle.book_bytes.specs.Books.{bytesSound};
 ghost use Rattle.group_bytes.specs.Places.{orderAt, booksSize, bookBytes};
 ghost use Rattle.group_sound.specs.Parts.{orderedIn, bookKnown, memberSound};
 
 // How many messages are ordered in a listed view, or none.
 fn ordered(list: &[u8], queues: &[u8], made: u8, seat: Seat) -> u8
     requires { ⌜ (viewSize * made ≤ length (now list)) × (orderAt made ≤ length (now queues))
+        × (isRising (viewsIn (now list) 0 made) ≡ true)
         × (listedIf (viewsIn (now list) 0 made) (seated seat) ≡ true) ⌝ }
     ensures { λ r. ⌜ r ≡ orderedIn (viewsIn (now (list .entry)) 0 made) (now (queues .entry)) (seated seat) ⌝ }
 {
@@ -29,10 +31,10 @@ fn ordered(list: &[u8], queues: &[u8], made: u8, seat: Seat) -> u8
     0
 }
 
-// What the group asks of a book: its views are listed, and no more was taken than is ordered.
+// What the group asks of a sound book: its views are listed, and no more was taken than is ordered.
 fn book_known(list: &[u8], b: &[u8], queues: &[u8], made: u8) -> bool
-    requires { ⌜ (viewSize * made ≤ length (now list)) × (layoutFits (now b) ≡ true)
-        × (orderAt made ≤ length (now queues)) ⌝ }
+    requires { ⌜ (viewSize * made ≤ length (now list)) × (bytesSound (now b) ≡ true)
+        × (orderAt made ≤ length (now queues)) × (isRising (viewsIn (now list) 0 made) ≡ true) ⌝ }
     ensures { λ r. ⌜ r ≡ bookKnown (viewsIn (now (list .entry)) 0 made) (now (queues .entry)) (now (b .entry)) ⌝ }
 {
     if !crate::listed::record_listed(list, b, made) {
@@ -42,7 +44,7 @@ fn book_known(list: &[u8], b: &[u8], queues: &[u8], made: u8) -> bool
     if ordered(list, queues, made, carrier) < b[book_bytes::TAKEN] {
         return false;
     }
-    crate::listed::infos_listed(
+    crate::listed::infos_known(
         list,
         b,
         made,
@@ -53,7 +55,8 @@ fn book_known(list: &[u8], b: &[u8], queues: &[u8], made: u8) -> bool
 
 // The book of the member p.
 fn member_sound(list: &[u8], b: &[u8], queues: &[u8], made: u8, n: u8, p: Member) -> bool
-    requires { ⌜ (viewSize * made ≤ length (now list)) × (orderAt made ≤ length (now queues)) ⌝ }
+    requires { ⌜ (viewSize * made ≤ length (now list)) × (orderAt made ≤ length (now queues))
+        × (isRising (viewsIn (now list) 0 made) ≡ true) ⌝ }
     ensures { λ r. ⌜ r ≡ memberSound (viewsIn (now (list .entry)) 0 made) (now (queues .entry)) n (p .0)
         (now (b .entry)) ⌝ }
 {
@@ -72,7 +75,8 @@ fn member_sound(list: &[u8], b: &[u8], queues: &[u8], made: u8, n: u8, p: Member
 // The books of n members.
 pub fn members_sound(list: &[u8], books: &[u8], queues: &[u8], made: u8, n: u8) -> bool
     requires { ⌜ (viewSize * made ≤ length (now list)) × (length (now books) ≡ booksSize)
-        × (orderAt made ≤ length (now queues)) × (n ≤ maxMembers) ⌝ }
+        × (orderAt made ≤ length (now queues)) × (n ≤ maxMembers)
+        × (isRising (viewsIn (now list) 0 made) ≡ true) ⌝ }
     ensures { λ r. ⌜ r ≡ every n
         (λ p. memberSound (viewsIn (now (list .entry)) 0 made) (now (queues .entry)) n p
         (bookBytes (now (books .entry)) p)) ⌝ }

@@ -2,7 +2,7 @@
 use mathlib.Core.Path.{sym, _∙_}
 use Prim.Native.Nat.{_+_, _-_}
 use native.Mathlib.Omega.{arith}
-use Rattle.book_sound.proofs.Entries.{info-count, entry-foreign, entry-short, entry-other, entry-info}
+use Rattle.book_sound.proofs.Entries.{info-count, entry-foreign, entry-told, entry-other, entry-info}
 use borrow.Author.Needs.{needs}
 use Rattle.book_sound.proofs.entries_at.entry_sound.Statement.{statement}
 use Rattle.book_sound.proofs.entries_at.entry_sound.Tie as tie
@@ -42,20 +42,16 @@ returns-3 c =
     let a = c .before .before .before .before .before .before .args in
     entry-other (a .b .now) (a .at) (a .n) (c .before .before .before .before .before .before .pre .1) (c .before .before .before .if1 .left) (c .before .if2 .left) (c .if3 .taken)
 
-add-get-number : tie.Need-add-get-number
-add-get-number c = search needs
-
-get-number-requires : tie.Need-get-number-requires
-get-number-requires c κs = search needs
+add-told-fits : tie.Need-add-told-fits
+add-told-fits c = search needs
 
 told-fits-requires : tie.Need-told-fits-requires
 told-fits-requires c κs = search needs
 
 returns-4 : tie.Need-returns-4
 returns-4 c =
-    let a = c .before .before .before .before .before .before .before .before .args in
-    let early = c .before .before .before .before .before in
-    c .told-fits .ensures ∙ rw (c .before .get-number .ensures .0) (entry-short (a .b .now) (a .at) (a .n) (early .before .before .before .pre .1) (early .if1 .left) (c .before .before .before .if2 .left))
+    let a = c .before .before .before .before .before .before .before .args in
+    c .told-fits .ensures ∙ entry-told (a .b .now) (a .at) (a .n) (c .before .before .before .before .before .before .before .pre .1) (c .before .before .before .before .if1 .left) (c .before .if3 .left)
 
 pub entry-sound-spec : {M : Type 1} → statement M
 entry-sound-spec =
@@ -72,7 +68,6 @@ entry-sound-spec =
     sound-requires
     returns-2
     returns-3
-    add-get-number
-    get-number-requires
+    add-told-fits
     told-fits-requires
     returns-4)

@@ -7,7 +7,8 @@ use borrow.Author.Tests.{not-true, not-false}
 use Rattle.wire.specs.Reader.{viewsIn}
 use Rattle.rules.specs.Member.{all}
 use Rattle.rules.specs.Sound.{setFits}
-use Rattle.book_sound.proofs.ViewWalks.{rows-start, all-turn, all-end}
+use Rattle.wire.proofs.InBytesLaws.{rows-start}
+use Rattle.book_sound.proofs.ViewWalks.{all-turn, all-end}
 use Rattle.book_sound.proofs.views_at.all_fit.Statement.{statement}
 use Rattle.book_sound.proofs.views_at.all_fit.Tie as tie
 

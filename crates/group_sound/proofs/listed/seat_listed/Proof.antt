@@ -1,8 +1,5 @@
 -- `group_sound::listed::seat_listed` meets its contract: with a view that view is looked up, without one there is nothing to look up.
-use mathlib.Core.Path.{ap, _∙_}
 use borrow.Author.Tests.{eq-eqb, ne-eqb}
-use Rattle.wire.specs.Reader.{viewsIn}
-use Rattle.rules.specs.Sound.{listed}
 use borrow.Author.Needs.{needs}
 use Rattle.group_sound.proofs.listed.seat_listed.Statement.{statement}
 use Rattle.group_sound.proofs.listed.seat_listed.Tie as tie
@@ -10,19 +7,14 @@ use Rattle.group_sound.proofs.listed.seat_listed.Tie as tie
 shared-slice-read-if1 : tie.Need-shared-slice-read-if1
 shared-slice-read-if1 c = search needs
 
-add-load-view : tie.Need-add-load-view
-add-load-view c = search needs
-
-load-view-requires : tie.Need-load-view-requires
-load-view-requires c κs = search needs
+add-view-listed : tie.Need-add-view-listed
+add-view-listed c = search needs
 
 view-listed-requires : tie.Need-view-listed-requires
 view-listed-requires c κs = search needs
 
 returns : tie.Need-returns
-returns c =
-    let a = c .before .before .before .before .before .before .args in
-    rw (eq-eqb _ _ (c .before .before .if1 .taken)) (c .view-listed .ensures ∙ ap (listed (viewsIn (a .list .now) 0 (a .made))) (c .before .load-view .ensures))
+returns c = rw (eq-eqb _ _ (c .before .if1 .taken)) (c .view-listed .ensures)
 
 returns-2 : tie.Need-returns-2
 returns-2 c = rw (ne-eqb _ _ (c .if1 .left))
@@ -30,10 +22,4 @@ returns-2 c = rw (ne-eqb _ _ (c .if1 .left))
 pub seat-listed-spec : {M : Type 1} → statement M
 seat-listed-spec =
     tie.close
-    (tie.spec
-    shared-slice-read-if1
-    add-load-view
-    load-view-requires
-    view-listed-requires
-    returns
-    returns-2)
+    (tie.spec shared-slice-read-if1 add-view-listed view-listed-requires returns returns-2)

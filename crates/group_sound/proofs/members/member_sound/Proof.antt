@@ -34,7 +34,8 @@ returns-3 c = sym (stopped _ 2 (ne-eqb _ _ (c .if3 .taken)))
 book-known-requires : tie.Need-book-known-requires
 book-known-requires c κs =
     let early = c .before .before .before .before .before in
-    (early .before .before .before .before .before .pre .0, fits-layout (early .before .before .before .before .before .args .b .now) (sym (early .before .sound .ensures) ∙ not-false _ (early .if1 .left)), early .before .before .before .before .before .pre .1)
+    let e = early .before .before .before .before .before in
+    (e .pre .0, sym (early .before .sound .ensures) ∙ not-false _ (early .if1 .left), e .pre .1, e .pre .2)
 
 returns-4 : tie.Need-returns-4
 unfolding memberSound

@@ -42,7 +42,7 @@ part-member-sound-end c = omega (arith, c .before .before .before .before .befor
 member-sound-requires : tie.Need-member-sound-requires Inv-loop μ-loop
 member-sound-requires c κs =
     let early = c .before .before .before .before .before .before in
-    (early .pre .0, early .pre .2)
+    (early .pre .0, early .pre .2, early .pre .4)
 
 returns : tie.Need-returns Inv-loop μ-loop
 returns c = sym (every-stop (c .before .before .before .before .before .before .before .before .args .n) (λ (p : ℕ). memberSound (viewsIn (c .before .before .before .before .before .before .before .before .args .list .now) 0 (c .before .before .before .before .before .before .before .before .args .made)) (c .before .before .before .before .before .before .before .before .args .queues .now) (c .before .before .before .before .before .before .before .before .args .n) p (bookBytes (c .before .before .before .before .before .before .before .before .args .books .now) p)) (c .before .before .before .before .loop .p) (omega arith) (part-answer (viewsIn (c .before .before .before .before .before .before .before .before .args .list .now) 0 (c .before .before .before .before .before .before .before .before .args .made)) (c .before .before .before .before .before .before .before .before .args .queues .now) (c .before .before .before .before .before .before .before .before .args .books .now) (c .before .before .before .before .before .before .before .before .args .n) (c .before .before .before .before .loop .p) ∙ sym (c .before .member-sound .ensures) ∙ not-true _ (c .if1 .taken)))

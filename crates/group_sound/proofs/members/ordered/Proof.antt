@@ -21,7 +21,7 @@ add-result : tie.Need-add-result
 add-result c = search needs
 
 shared-slice-read-result : tie.Need-shared-slice-read-result
-shared-slice-read-result c = omega (arith, ordered-place (viewsIn (c .before .before .before .before .before .args .list .now) 0 (c .before .before .before .before .before .args .made)) (c .before .before .before .before .before .args .seat) (c .before .before .if1 .taken) (c .before .before .before .before .before .pre .2), length-viewsIn (c .before .before .before .before .before .args .list .now) 0 (c .before .before .before .before .before .args .made), c .before .place .ensures, c .before .before .before .before .before .pre .1)
+shared-slice-read-result c = omega (arith, ordered-place (viewsIn (c .before .before .before .before .before .args .list .now) 0 (c .before .before .before .before .before .args .made)) (c .before .before .before .before .before .args .seat) (c .before .before .if1 .taken) (c .before .before .before .before .before .pre .3), length-viewsIn (c .before .before .before .before .before .args .list .now) 0 (c .before .before .before .before .before .args .made), c .before .place .ensures, c .before .before .before .before .before .pre .1)
 
 returns : tie.Need-returns
 returns c =

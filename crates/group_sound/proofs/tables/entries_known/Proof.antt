@@ -26,7 +26,7 @@ add-entry-known : tie.Need-add-entry-known Inv-loop μ-loop
 add-entry-known c = omega (arith, c .before .before .before .before .pre .1)
 
 entry-known-requires : tie.Need-entry-known-requires Inv-loop μ-loop
-entry-known-requires c κs = (c .before .before .before .before .pre .0, omega (arith, c .before .before .before .before .pre .1))
+entry-known-requires c κs = (c .before .before .before .before .pre .0, omega (arith, c .before .before .before .before .pre .1), c .before .before .before .before .pre .2)
 
 returns : tie.Need-returns Inv-loop μ-loop
 returns c = sym (c .before .before .before .loop .inv .1 ∙ known-turn (viewsIn (c .before .before .before .before .before .before .args .list .now) 0 (c .before .before .before .before .before .before .args .made)) (c .before .before .before .before .before .before .args .n) (c .before .before .before .before .before .before .args .q .now) (c .before .before .before .before .before .before .args .at) (c .before .before .before .before .before .before .args .count) (c .before .before .before .loop .i) (omega arith) ∙ rw (sym (c .before .entry-known .ensures) ∙ not-true _ (c .if1 .taken)))

@@ -1,38 +1,65 @@
--- `group_sound::tables::entry_known` meets its contract: of a client message only the sender is asked, and of another kind all three tests.
-use mathlib.Core.Path.{sym}
+-- `group_sound::tables::entry_known` meets its contract: by the sender; of a client message that is all, of a told the count is left, of an info its
+-- views.
+use mathlib.Core.Path.{sym, _∙_}
 use Rattle.wire.specs.Reader.{viewsIn}
-use Rattle.group_sound.proofs.Infos.{client-known}
+use Rattle.group_sound.proofs.Infos.{client-known, foreign-known, told-known, other-known}
+use Rattle.group_sound.proofs.Tests.{list-fits, list-rises}
+use borrow.Author.Tests.{lt-ltb}
 use borrow.Author.Needs.{needs}
 use Rattle.group_sound.proofs.tables.entry_known.Statement.{statement}
 use Rattle.group_sound.proofs.tables.entry_known.Tie as tie
 
-add-if1 : tie.Need-add-if1
-add-if1 c = search needs
-
 shared-slice-read-if1 : tie.Need-shared-slice-read-if1
 shared-slice-read-if1 c = search needs
 
-shared-slice-read-result : tie.Need-shared-slice-read-result
-shared-slice-read-result c = search needs
-
 returns : tie.Need-returns
 returns c =
-    let a = c .before .before .before .before .before .args in
-    sym (client-known (viewsIn (a .list .now) 0 (a .made)) (a .n) (a .q .now) (a .at) (c .before .if1 .taken))
+    let a = c .before .before .before .before .args in
+    sym (foreign-known (viewsIn (a .list .now) 0 (a .made)) (a .n) (a .q .now) (a .at) (c .if1 .taken))
 
-slot-known-requires : tie.Need-slot-known-requires
-slot-known-requires c κs = search needs
+add-kind : tie.Need-add-kind
+add-kind c = search needs
+
+shared-slice-read-kind : tie.Need-shared-slice-read-kind
+shared-slice-read-kind c = search needs
 
 returns-2 : tie.Need-returns-2
-returns-2 c = search needs
+returns-2 c =
+    let a = c .before .before .before .before .before .before .args in
+    sym (client-known (viewsIn (a .list .now) 0 (a .made)) (a .n) (a .q .now) (a .at) (c .if2 .taken) ∙ lt-ltb _ _ (c .before .before .if1 .left))
+
+add-told-fits : tie.Need-add-told-fits
+add-told-fits c = search needs
+
+told-fits-requires : tie.Need-told-fits-requires
+told-fits-requires c κs = search needs
+
+returns-3 : tie.Need-returns-3
+returns-3 c =
+    let a = c .before .before .before .before .before .before .before .before .args in
+    c .told-fits .ensures ∙ told-known (viewsIn (a .list .now) 0 (a .made)) (a .n) (a .q .now) (a .at) (c .before .before .before .before .if1 .left) (c .before .if3 .taken)
+
+slot-known-requires : tie.Need-slot-known-requires
+slot-known-requires c κs =
+    let e = c .before .before .before .before .before .before .before in
+    (e .pre .0, e .pre .1, list-rises (e .args .n) (viewsIn (e .args .list .now) 0 (e .args .made)) (e .pre .2))
+
+returns-4 : tie.Need-returns-4
+returns-4 c =
+    let e = c .before .before .before .before .before .before .before .before in
+    c .slot-known .ensures ∙ other-known (viewsIn (e .args .list .now) 0 (e .args .made)) (e .args .n) (list-fits (e .args .n) (viewsIn (e .args .list .now) 0 (e .args .made)) (e .pre .2)) (e .args .q .now) (e .args .at) (c .before .before .before .before .if1 .left) (c .before .if3 .left)
 
 pub entry-known-spec : {M : Type 1} → statement M
 entry-known-spec =
     tie.close
     (tie.spec
-    add-if1
     shared-slice-read-if1
-    shared-slice-read-result
     returns
+    add-kind
+    shared-slice-read-kind
+    returns-2
+    add-told-fits
+    told-fits-requires
+    returns-3
     slot-known-requires
-    returns-2)
+    returns-4)

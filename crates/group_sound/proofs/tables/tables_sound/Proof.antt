@@ -20,7 +20,7 @@ loop-holds : tie.Need-loop-holds Inv-loop μ-loop
 loop-holds c = below-none (tableSound (viewsIn (c .before .before .args .list .now) 0 (c .before .before .args .made)) (c .before .before .args .n) (c .before .before .args .q .now))
 
 table-sound-requires : tie.Need-table-sound-requires Inv-loop μ-loop
-table-sound-requires c κs = (c .before .before .before .before .pre .0, omega (arith, c .before .before .before .before .pre .1), c .before .before .before .before .pre .2)
+table-sound-requires c κs = (c .before .before .before .before .pre .0, omega (arith, c .before .before .before .before .pre .1), c .before .before .before .before .pre .2, c .before .before .before .before .pre .3)
 
 returns : tie.Need-returns Inv-loop μ-loop
 returns c = sym (every-stop (c .before .before .before .before .before .before .args .made) (tableSound (viewsIn (c .before .before .before .before .before .before .args .list .now) 0 (c .before .before .before .before .before .before .args .made)) (c .before .before .before .before .before .before .args .n) (c .before .before .before .before .before .before .args .q .now)) (c .before .before .before .loop .i) (omega arith) (sym (c .before .table-sound .ensures) ∙ not-true _ (c .if1 .taken)))

@@ -40,7 +40,7 @@ add-queue-sound : tie.Need-add-queue-sound Inv-loop μ-loop
 add-queue-sound c = omega (arith, c .before .before .before .before .pre .1, c .before .before .before .before .pre .2)
 
 queue-sound-requires : tie.Need-queue-sound-requires Inv-loop μ-loop
-queue-sound-requires c κs = (c .before .before .before .before .pre .0, omega (arith, c .before .before .before .before .pre .1, c .before .before .before .before .pre .2))
+queue-sound-requires c κs = (c .before .before .before .before .pre .0, omega (arith, c .before .before .before .before .pre .1, c .before .before .before .before .pre .2), c .before .before .before .before .pre .3)
 
 returns : tie.Need-returns Inv-loop μ-loop
 unfolding waitingSound
