@@ -1,26 +1,23 @@
 -- A change behind the record, in a queue, leaves the record, the members and the marks as they were; a change in one queue leaves the others.
-use mathlib.Core.Path.{_≡_, sym, _∙_}
+use mathlib.Core.Path.{_≡_, _∙_}
 use mathlib.Core.Bool.{true}
 use mathlib.Core.Logic.{inl, inr}
 use mathlib.Core.List.{List}
-use Prim.Native.Nat.{ℕ, zero, suc, _+_, _-_, _*_, _≤_, _<_, min}
+use Prim.Native.Nat.{ℕ, zero, suc, _+_, _-_, _*_, _≤_, _<_}
 use native.Mathlib.Decide.{decLt, ℕ-discrete}
 use native.Mathlib.Omega.{arith}
-use lib.ListN.{getD, take, drop, length-drop}
-use lib.Seq.{getD-take, getD-drop, length-take-le}
-use Rattle.views.specs.Limits.{maxMembers, maxOpen, maxOutgoing, maxOrdered}
-use Rattle.views.specs.Lists.{placed}
-use Rattle.wire.specs.Reader.{viewsIn}
+use lib.ListN.{getD}
+use Rattle.views.specs.Limits.{maxOutgoing, maxOrdered}
 use Rattle.rules.specs.Data.{Entry, Item}
 use Rattle.rules.specs.Member.{outgoes}
 use Rattle.slots.specs.Slots.{itemSize, slotsFit}
 use Rattle.slots.proofs.Same.{byte-same}
-use Rattle.slots.proofs.Outside.{Changed, Apart, apart-same, view-apart, views-apart, entries-apart, slots-apart, items-apart}
-use Rattle.book_bytes.specs.Places.{membersAt, selfAt, settledAt, carrierAt, clientAt, registeredAt, handedAt, toldAt, reportedAt, takenAt, infosAt, registrationsAt, toldsAt, sideAt, opensAt, outgoingAt, inwardAt}
-use Rattle.book_bytes.specs.Records.{flagIn, seatIn, recordIn, meaning}
+use Rattle.slots.proofs.Outside.{Changed, Apart, apart-same, view-apart, entries-apart, slots-apart, items-apart}
+use Rattle.book_bytes.specs.Places.{membersAt, selfAt, settledAt, carrierAt, clientAt, registeredAt, handedAt, toldAt, reportedAt, takenAt, infosAt, registrationsAt, sideAt, opensAt, outgoingAt, inwardAt}
+use Rattle.book_bytes.specs.Records.{recordIn, meaning}
 use Rattle.book_bytes.specs.Books.{outgoingIn, inwardIn, bookIn}
 use Rattle.book_bytes.proofs.LayoutLaws.{Layout}
-use Rattle.book_bytes.proofs.RecordLaws.{bytes-are}
+use Rattle.book_bytes.proofs.RecordReads.{flag-apart, seat-apart, opens-apart, tolds-apart, record-read}
 
 -- a count and 16 slots
 abbrev pub outgoingSize : ℕ
@@ -45,46 +42,13 @@ module _ {b d : List ℕ} {at n : ℕ} (x : Changed b d at n) (behind : outgoing
   pub behind-side : getD d sideAt 0 ≡ getD b sideAt 0
   behind-side = before sideAt (omega arith)
 
-  seat-before : (from : ℕ) → from + 6 ≤ outgoingAt → seatIn d from ≡ seatIn b from
-  seat-before from h = rw (before from (omega arith), view-apart x (from + 1) (inl (omega arith)))
-
-  opens-before : placed (viewsIn d (opensAt + 1) (min (getD d opensAt 0) maxOpen)) ≡ placed (viewsIn b (opensAt + 1) (min (getD b opensAt 0) maxOpen))
-  opens-before = rw (before opensAt (omega arith), views-apart x (opensAt + 1) (min (getD b opensAt 0) maxOpen) (inl (omega arith)))
-
-  tolds-before : take maxMembers (drop toldsAt d) ≡ take maxMembers (drop toldsAt b)
-  tolds-before =
-      bytes-are d (take maxMembers (drop toldsAt b)) toldsAt maxMembers (omega (arith, x .long, l .size))
-      (length-take-le maxMembers (drop toldsAt b) (omega (arith, length-drop toldsAt b, l .size)))
-      (λ j h. before (toldsAt + j) (omega arith) ∙ sym (getD-take maxMembers (drop toldsAt b) j 0 h ∙ getD-drop toldsAt b j 0))
-
   pub behind-record : recordIn d ≡ recordIn b
   unfolding recordIn
   behind-record =
-      let settled = view-apart x settledAt (inl (omega arith)) in
-      let carrier = seat-before carrierAt (omega arith) in
-      let client = seat-before clientAt (omega arith) in
-      let registered : flagIn d registeredAt ≡ flagIn b registeredAt = rw (before registeredAt (omega arith)) in
-      let handed = before handedAt (omega arith) in
-      let told = before toldAt (omega arith) in
-      let reported = before reportedAt (omega arith) in
-      let taken = before takenAt (omega arith) in
-      let infos = before infosAt (omega arith) in
-      let registrations = before registrationsAt (omega arith) in
-      λ i. record {
-        settled = settled i;
-        opens = opens-before i;
-        carrier = carrier i;
-        client = client i;
-        registered = registered i;
-        handed = record { 0 = handed i };
-        told = record { 0 = told i };
-        reported = record { 0 = reported i };
-        taken = record { 0 = taken i };
-        infos = infos i;
-        registrations = registrations i;
-        tolds = tolds-before i;
-        side = behind-side i;
-      }
+      record-read d (recordIn b) (view-apart x settledAt (inl (omega arith))) (opens-apart x (inl (omega arith)))
+      (seat-apart x carrierAt (inl (omega arith))) (seat-apart x clientAt (inl (omega arith))) (flag-apart x registeredAt (inl (omega arith)))
+      (before handedAt (omega arith)) (before toldAt (omega arith)) (before reportedAt (omega arith)) (before takenAt (omega arith))
+      (before infosAt (omega arith)) (before registrationsAt (omega arith)) (tolds-apart x (omega (arith, l .size)) (inl (omega arith))) behind-side
 
   -- what the queues then are decides the book, and their counts and slots decide whether the layout fits
   pub behind-book : (out : List Entry) (own new : List (Item ℕ))

@@ -15,8 +15,10 @@ use Rattle.wire.specs.Reader.{viewIn, viewsIn}
 use Rattle.wire.specs.Writer.{storeView, storeViews}
 use Rattle.book_bytes.specs.declared.Seat.{Seat}
 use Rattle.book_bytes.specs.declared.Record.{Record}
+use Rattle.book_bytes.specs.declared.Current.{Current}
+use Rattle.book_bytes.specs.declared.Held.{Held}
 use Rattle.book_bytes.specs.Places.{settledAt, carrierAt, clientAt, registeredAt, handedAt, toldAt, reportedAt, takenAt, infosAt, registrationsAt, toldsAt, sideAt, opensAt, bookSize}
-use Rattle.book_bytes.specs.Records.{flagIn, seatIn, recordIn, storeSeat, storeSeats, storeCounts, storeNotes, storeOpens, storeRecord}
+use Rattle.book_bytes.specs.Records.{flagIn, seatIn, recordIn, currentIn, heldIn, storeSeat, storeSeats, storeCounts, storeNotes, storeOpens, storeHeld, storeRecord}
 
 -- ---- a record loaded
 
@@ -35,17 +37,10 @@ tolds-loaded b h =
       drop-cons b (toldsAt + 7) 0 (omega arith),
     )
 
--- each part is loaded from where the definition reads it; n is the count of open views, within its limit
-pub record-loaded : (b : List ℕ) (n : ℕ) (settled : View) (opens : Views) (carrier client : Seat) (tolds : List ℕ)
-    → n ≡ min (getD b opensAt 0) maxOpen
-    → settled ≡ viewIn b settledAt
-    → opens ≡ placed (viewsIn b (opensAt + 1) n)
-    → carrier ≡ seatIn b carrierAt
-    → client ≡ seatIn b clientAt
+-- each part is loaded from where the definition reads it
+pub current-loaded : (b : List ℕ) (carrier client : Seat) (tolds : List ℕ) → carrier ≡ seatIn b carrierAt → client ≡ seatIn b clientAt
     → tolds ≡ take maxMembers (drop toldsAt b)
     → record {
-      settled = settled;
-      opens = opens;
       carrier = carrier;
       client = client;
       registered = flagIn b registeredAt;
@@ -57,9 +52,34 @@ pub record-loaded : (b : List ℕ) (n : ℕ) (settled : View) (opens : Views) (c
       registrations = getD b registrationsAt 0;
       tolds = tolds;
       side = getD b sideAt 0;
-    } ≡ recordIn b
+    } ≡ currentIn b
 unfolding recordIn
-record-loaded b n settled opens carrier client tolds e p q r s t = rw (p, q, e, r, s, t)
+current-loaded b carrier client tolds p q r = rw (p, q, r)
+
+-- n is the count of open views, within its limit
+pub held-loaded : (b : List ℕ) (n : ℕ) (settled : View) (opens : Views) → n ≡ min (getD b opensAt 0) maxOpen → settled ≡ viewIn b settledAt
+    → opens ≡ placed (viewsIn b (opensAt + 1) n) → record { settled = settled; opens = opens } ≡ heldIn b
+unfolding recordIn
+held-loaded b n settled opens e p q = rw (p, q, e)
+
+-- the record is what is held, and the rest
+pub record-loaded : (b : List ℕ) (held : Held) (h : Current) → held ≡ heldIn b → h ≡ currentIn b
+    → record {
+      settled = held .settled;
+      opens = held .opens;
+      carrier = h .carrier;
+      client = h .client;
+      registered = h .registered;
+      handed = h .handed;
+      told = h .told;
+      reported = h .reported;
+      taken = h .taken;
+      infos = h .infos;
+      registrations = h .registrations;
+      tolds = h .tolds;
+      side = h .side;
+    } ≡ recordIn b
+record-loaded b held h p q = rw (p, q)
 
 -- ---- a record stored
 
@@ -75,14 +95,18 @@ pub tolds-turn : (b l : List ℕ) (at i : ℕ) → i < length l → at + length 
 tolds-turn b l at i h k = rw (add-one i) (paste-suc b at l i 0 (omega arith) h)
 
 -- the open views behind the byte of their count
-pub opens-joined : (b d : List ℕ) (h : Record) → length (listOf (h .opens)) ≡ h .opens .count → h .opens .count ≤ maxOpen
-    → d ≡ take (opensAt + 1) (set b opensAt (h .opens .count % 256))
-    ++ (viewsBytes (listOf (h .opens)) ++ drop (opensAt + 1 + 5 * h .opens .count) (set b opensAt (h .opens .count % 256)))
-    → d ≡ storeOpens b h
+pub opens-joined : (b d : List ℕ) (v : Views) → length (listOf v) ≡ v .count → v .count ≤ maxOpen
+    → d ≡ take (opensAt + 1) (set b opensAt (v .count % 256))
+    ++ (viewsBytes (listOf v) ++ drop (opensAt + 1 + 5 * v .count) (set b opensAt (v .count % 256)))
+    → d ≡ storeOpens b v
 unfolding storeOpens storeViews
-opens-joined b d h e l p = let m : h .opens .count % 256 ≡ h .opens .count = omega arith in p ∙ rw (m, e)
+opens-joined b d v e l p = let m : v .count % 256 ≡ v .count = omega arith in p ∙ rw (m, e)
 
-pub parts-joined : (b c d e f : List ℕ) (h : Record) → c ≡ storeSeats b h → d ≡ storeCounts c h → e ≡ storeNotes d h → f ≡ storeOpens e h
+pub held-joined : (b c d : List ℕ) (h : Held) → c ≡ storeView b settledAt (h .settled) → d ≡ storeOpens c (h .opens) → d ≡ storeHeld b h
+unfolding storeHeld
+held-joined b c d h p q = q ∙ ap (λ (x : List ℕ). storeOpens x (h .opens)) p
+
+pub parts-joined : (b c d e f : List ℕ) (h : Record) → c ≡ storeSeats b h → d ≡ storeCounts c h → e ≡ storeNotes d h → f ≡ storeOpens e (h .opens)
     → f ≡ storeRecord b h
 unfolding storeRecord
 parts-joined b c d e f h p q r s = rw (s, r, q, p)

@@ -2,7 +2,10 @@ pub mod CodeLaws
 pub mod LayoutLaws
 pub mod Fits
 pub mod Parts
+pub mod RecordReads
+pub mod Within
 pub mod RecordLaws
+pub mod Changes
 pub mod Behind
 pub mod QueueBooks
 pub mod InwardBooks

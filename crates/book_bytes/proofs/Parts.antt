@@ -3,15 +3,16 @@ use mathlib.Core.Path.{_≡_, refl, sym, ap, _∙_}
 use mathlib.Core.Bool.{Bool, true, false}
 use mathlib.Core.Logic.{inl}
 use mathlib.Core.List.{List}
-use Prim.Native.Nat.{ℕ, _+_, _-_, _*_, _^_, _≤_, _<_}
+use Prim.Native.Nat.{ℕ, _+_, _-_, _*_, _^_, _≤_, _<_, min}
 use native.Mathlib.Nat.{zero-add}
 use native.Mathlib.Omega.{arith}
 use lib.Dec.{eqb}
 use lib.ListN.{length, getD, set, length-set}
 use lib.Seq.{paste, getD-set-same}
 use Rattle.views.specs.declared.View.{View}
+use Rattle.views.specs.declared.list.Views.{Views}
 use Rattle.views.specs.Limits.{maxMembers, maxOpen}
-use Rattle.views.specs.Lists.{idOf, listOf}
+use Rattle.views.specs.Lists.{idOf, listOf, placed}
 use Rattle.wire.specs.Reader.{viewIn, viewsIn}
 use Rattle.slots.proofs.Outside.{Changed, changed-within, changed-then, view-apart, set-changed, storeView-changed, storeViews-changed, copy-changed, copy-same}
 use Rattle.slots.proofs.Stored.{view-stored, views-stored}
@@ -20,7 +21,7 @@ use Rattle.book_bytes.specs.declared.Seat.{Seat}
 use Rattle.book_bytes.specs.declared.Record.{Record}
 use Rattle.book_bytes.specs.Places.{settledAt, carrierAt, clientAt, registeredAt, handedAt, toldAt, reportedAt, takenAt, infosAt, registrationsAt, toldsAt, sideAt, opensAt, outgoingAt, bookSize}
 use Rattle.book_bytes.specs.Records.{flag, seatIn, storeSeat, storeSeats, storeCounts, storeNotes, storeOpens}
-use Rattle.book_bytes.proofs.Fits.{Fits, opens-list, opens-count}
+use Rattle.book_bytes.proofs.Fits.{OpensFit, Fits, opens-list, opens-count}
 
 -- ---- how many bytes each part has
 
@@ -253,38 +254,48 @@ module _ (b : List ℕ) (h : Record) (size : bookSize ≤ length b) (fits : Fits
     side = side-set;
   }
 
-  -- ---- open views
+-- ---- open views
 
+module _ (b : List ℕ) (v : Views) (size : bookSize ≤ length b) (fits : OpensFit v) where
   abbrev started : List ℕ
-  started = set b opensAt (h .opens .count)
+  started = set b opensAt (v .count)
 
   starts : Changed b started opensAt 1
-  starts = set-changed b opensAt (h .opens .count)
+  starts = set-changed b opensAt (v .count)
 
-  list-length : length (listOf (h .opens)) ≡ h .opens .count
-  list-length = ap length (opens-list (h .opens) (fits .opens)) ∙ sym (opens-count (h .opens) (fits .opens))
+  list-length : length (listOf v) ≡ v .count
+  list-length = ap length (opens-list v fits) ∙ sym (opens-count v fits)
 
-  few : length (listOf (h .opens)) ≤ maxOpen
-  few = omega (arith, list-length, opens-count (h .opens) (fits .opens), fits .opens .few)
+  few : length (listOf v) ≤ maxOpen
+  few = omega (arith, list-length, opens-count v fits, fits .few)
 
-  fills : Changed started (storeOpens b h) (opensAt + 1) (5 * length (listOf (h .opens)))
+  fills : Changed started (storeOpens b v) (opensAt + 1) (5 * length (listOf v))
   unfolding storeOpens
-  fills = storeViews-changed started (opensAt + 1) (listOf (h .opens)) (omega (arith, starts .long, few))
+  fills = storeViews-changed started (opensAt + 1) (listOf v) (omega (arith, starts .long, few))
 
-  pub opens-changed : Changed b (storeOpens b h) opensAt opensSize
+  pub opens-changed : Changed b (storeOpens b v) opensAt opensSize
   opens-changed =
       changed-then (changed-within opensAt opensSize (omega arith) (omega arith) starts)
       (changed-within opensAt opensSize (omega arith) (omega (arith, few)) fills)
 
-  views-back : viewsIn (storeOpens b h) (opensAt + 1) (length (listOf (h .opens))) ≡ listOf (h .opens)
+  views-back : viewsIn (storeOpens b v) (opensAt + 1) (length (listOf v)) ≡ listOf v
   unfolding storeOpens
   views-back =
-      views-stored started (opensAt + 1) (listOf (h .opens))
-      (λ (j : ℕ). rw (opens-list (h .opens) (fits .opens)) (fits .opens .each j .id))
+      views-stored started (opensAt + 1) (listOf v)
+      (λ (j : ℕ). rw (opens-list v fits) (fits .each j .id))
       (omega (arith, starts .long, few))
 
-  pub opens-stored : Opens (storeOpens b h) (listOf (h .opens))
+  pub opens-stored : Opens (storeOpens b v) (listOf v)
   opens-stored = record {
-    count = fills .below opensAt (omega arith) ∙ getD-set-same b opensAt (h .opens .count) 0 (omega arith) ∙ sym list-length;
+    count = fills .below opensAt (omega arith) ∙ getD-set-same b opensAt (v .count) 0 (omega arith) ∙ sym list-length;
     views = views-back;
   }
+
+-- open views in the bytes, read back in their places
+pub opens-read : (d : List ℕ) (v : Views) → OpensFit v → Opens d (listOf v)
+    → placed (viewsIn d (opensAt + 1) (min (getD d opensAt 0) maxOpen)) ≡ v
+opens-read d v fits o =
+    let few : length (listOf v) ≤ maxOpen = rw (opens-list v fits) (fits .few) in
+    let n : min (length (listOf v)) maxOpen ≡ length (listOf v) = omega (arith, few) in
+    ap (λ (k : ℕ). placed (viewsIn d (opensAt + 1) k)) (ap (λ (k : ℕ). min k maxOpen) (o .count) ∙ n)
+    ∙ ap placed (o .views ∙ opens-list v fits) ∙ sym (fits .places)

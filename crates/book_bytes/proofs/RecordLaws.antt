@@ -1,37 +1,22 @@
 -- A record stored in a book's bytes reads back, and the queues, the members and the layout stay as they were.
-use mathlib.Core.Path.{_≡_, sym, ap, _∙_}
+use mathlib.Core.Path.{_≡_}
 use mathlib.Core.Bool.{true}
-use mathlib.Core.Logic.{inr}
 use mathlib.Core.List.{List}
-use Prim.Native.Nat.{ℕ, _+_, _-_, _≤_, _<_, min}
+use Prim.Native.Nat.{ℕ, _-_, _≤_}
 use native.Mathlib.Omega.{arith}
-use lib.ListN.{length, getD, take, drop, length-drop}
-use lib.Seq.{ext-getD, getD-take, getD-drop, length-take-le}
-use Rattle.views.specs.Limits.{maxMembers, maxOpen}
-use Rattle.views.specs.Lists.{listOf, placed}
-use Rattle.wire.specs.Reader.{viewsIn}
-use Rattle.rules.specs.Data.{Entry, Item}
-use Rattle.slots.specs.Slots.{slotsFit}
-use Rattle.slots.proofs.Outside.{Changed, changed-within, changed-then, entries-apart, slots-apart, items-apart}
+use lib.ListN.{length, getD, take, drop}
+use Rattle.views.specs.Limits.{maxMembers}
+use Rattle.views.specs.Lists.{listOf}
+use Rattle.slots.proofs.Outside.{Changed, changed-within, changed-then}
 use Rattle.book_bytes.specs.declared.Record.{Record}
-use Rattle.book_bytes.specs.Places.{membersAt, selfAt, settledAt, carrierAt, clientAt, registeredAt, infosAt, toldsAt, sideAt, opensAt, outgoingAt, inwardAt, bookSize}
-use Rattle.book_bytes.specs.Records.{flagIn, recordIn, meaning, storeSeats, storeCounts, storeNotes, storeRecord}
+use Rattle.book_bytes.specs.Places.{membersAt, selfAt, settledAt, carrierAt, clientAt, registeredAt, infosAt, toldsAt, opensAt, bookSize}
+use Rattle.book_bytes.specs.Records.{recordIn, meaning, storeSeats, storeCounts, storeNotes, storeRecord}
 use Rattle.book_bytes.specs.Books.{outgoingIn, inwardIn, bookIn, layoutFits}
 use Rattle.book_bytes.proofs.LayoutLaws.{Layout, layout-says, layout-from}
 use Rattle.book_bytes.proofs.Fits.{Fits, opens-list}
-use Rattle.book_bytes.proofs.Parts.{seatsSize, countsSize, notesSize, opensSize, Seats, Counts, Notes, Opens, mark-reads, mark-small, seated-reads, seats-kept, counts-kept, notes-kept, seats-changed, seats-stored, counts-changed, counts-stored, notes-changed, notes-stored, opens-changed, opens-stored}
-
--- the record lies between the member's own number and the outgoing queue
-abbrev pub recordSize : ℕ
-recordSize = outgoingAt - settledAt
-
--- the bytes at a place are a list, read one by one
-pub bytes-are : (b l : List ℕ) (at n : ℕ) → at + n ≤ length b → length l ≡ n → ((j : ℕ) → j < n → getD b (at + j) 0 ≡ getD l j 0)
-    → take n (drop at b) ≡ l
-bytes-are b l at n h e s =
-    let size : length (take n (drop at b)) ≡ n = length-take-le n (drop at b) (omega (arith, length-drop at b)) in
-    ext-getD 0 (take n (drop at b)) l (size ∙ sym e)
-    (λ j k. getD-take n (drop at b) j 0 (omega arith) ∙ getD-drop at b j 0 ∙ s j (omega arith))
+use Rattle.book_bytes.proofs.Parts.{seatsSize, countsSize, notesSize, opensSize, Seats, Counts, Notes, Opens, mark-reads, mark-small, seated-reads, seats-kept, counts-kept, notes-kept, seats-changed, seats-stored, counts-changed, counts-stored, notes-changed, notes-stored, opens-changed, opens-stored, opens-read}
+use Rattle.book_bytes.proofs.RecordReads.{bytes-are, record-read}
+use Rattle.book_bytes.proofs.Within.{recordSize, within-members, within-self, within-book, within-layout}
 
 module _ (b : List ℕ) (h : Record) (size : length b ≡ bookSize) (fits : Fits h) where
   abbrev seats : List ℕ
@@ -65,7 +50,7 @@ module _ (b : List ℕ) (h : Record) (size : length b ≡ bookSize) (fits : Fits
 
   fourth : Changed notes (storeRecord b h) opensAt opensSize
   unfolding storeRecord
-  fourth = opens-changed notes h notes-room fits
+  fourth = opens-changed notes (h .opens) notes-room (fits .opens)
 
   pub record-changed : Changed b (storeRecord b h) settledAt recordSize
   record-changed =
@@ -89,53 +74,21 @@ module _ (b : List ℕ) (h : Record) (size : length b ≡ bookSize) (fits : Fits
 
   pub record-opens : Opens (storeRecord b h) (listOf (h .opens))
   unfolding storeRecord
-  record-opens = opens-stored notes h notes-room fits
+  record-opens = opens-stored notes (h .opens) notes-room (fits .opens)
 
   -- ---- the record reads back
-
-  few : length (listOf (h .opens)) ≤ maxOpen
-  few = rw (opens-list (h .opens) (fits .opens)) (fits .opens .few)
-
-  opens-back : placed (viewsIn (storeRecord b h) (opensAt + 1) (min (getD (storeRecord b h) opensAt 0) maxOpen)) ≡ h .opens
-  opens-back =
-      let l = listOf (h .opens) in
-      let n : min (length l) maxOpen ≡ length l = omega (arith, few) in
-      ap (λ (k : ℕ). placed (viewsIn (storeRecord b h) (opensAt + 1) k)) (ap (λ (k : ℕ). min k maxOpen) (record-opens .count) ∙ n)
-      ∙ ap placed (record-opens .views ∙ opens-list (h .opens) (fits .opens)) ∙ sym (fits .opens .places)
 
   tolds-back : take maxMembers (drop toldsAt (storeRecord b h)) ≡ h .tolds
   tolds-back = bytes-are (storeRecord b h) (h .tolds) toldsAt maxMembers (omega (arith, record-changed .long)) (fits .tolds) (record-notes .tolds)
 
   pub record-back : recordIn (storeRecord b h) ≡ h
-  unfolding recordIn
   record-back =
       let s = record-seats in
       let c = record-counts in
       let n = record-notes in
-      let carrier = seated-reads (storeRecord b h) carrierAt (h .carrier) (s .carrier) in
-      let client = seated-reads (storeRecord b h) clientAt (h .client) (s .client) in
-      let registered : flagIn (storeRecord b h) registeredAt ≡ h .registered = rw (c .registered) (mark-reads (h .registered)) in
-      λ i. record {
-        settled = s .settled i;
-        opens = opens-back i;
-        carrier = carrier i;
-        client = client i;
-        registered = registered i;
-        handed = record { 0 = c .handed i };
-        told = record { 0 = c .told i };
-        reported = record { 0 = c .reported i };
-        taken = record { 0 = c .taken i };
-        infos = n .infos i;
-        registrations = n .registrations i;
-        tolds = tolds-back i;
-        side = n .side i;
-      }
-
-  pub record-stored : (out : List Entry) (own new : List (Item ℕ)) → meaning (recordIn (storeRecord b h)) out own new ≡ meaning h out own new
-  record-stored out own new = ap (λ (r : Record). meaning r out own new) record-back
-
-  pub side-stored : getD (storeRecord b h) sideAt 0 ≡ h .side
-  side-stored = record-notes .side
+      record-read (storeRecord b h) h (s .settled) (opens-read (storeRecord b h) (h .opens) (fits .opens) record-opens)
+      (seated-reads (storeRecord b h) carrierAt (h .carrier) (s .carrier)) (seated-reads (storeRecord b h) clientAt (h .client) (s .client))
+      (rw (c .registered) (mark-reads (h .registered))) (c .handed) (c .told) (c .reported) (c .taken) (n .infos) (n .registrations) tolds-back (n .side)
 
   -- ---- what stays
 
@@ -143,47 +96,21 @@ module _ (b : List ℕ) (h : Record) (size : length b ≡ bookSize) (fits : Fits
   length-record = record-changed .long
 
   pub members-kept : getD (storeRecord b h) membersAt 0 ≡ getD b membersAt 0
-  members-kept = record-changed .below membersAt (omega arith)
+  members-kept = within-members record-changed
 
   pub self-kept : getD (storeRecord b h) selfAt 0 ≡ getD b selfAt 0
-  self-kept = record-changed .below selfAt (omega arith)
-
-  pub outgoing-count-kept : getD (storeRecord b h) outgoingAt 0 ≡ getD b outgoingAt 0
-  outgoing-count-kept = record-changed .past outgoingAt (omega arith)
-
-  pub outgoing-kept : outgoingIn (storeRecord b h) ≡ outgoingIn b
-  outgoing-kept = rw outgoing-count-kept (entries-apart record-changed (outgoingAt + 1) (getD b outgoingAt 0) (inr (omega arith)))
-
-  pub slots-kept : slotsFit (storeRecord b h) (outgoingAt + 1) (getD (storeRecord b h) outgoingAt 0) ≡ slotsFit b (outgoingAt + 1) (getD b outgoingAt 0)
-  slots-kept = rw outgoing-count-kept (slots-apart record-changed (outgoingAt + 1) (getD b outgoingAt 0) (inr (omega arith)))
-
-  pub inward-count-kept : (side : ℕ) → getD (storeRecord b h) (inwardAt side) 0 ≡ getD b (inwardAt side) 0
-  inward-count-kept side = record-changed .past (inwardAt side) (omega arith)
-
-  pub inward-kept : (side : ℕ) → inwardIn (storeRecord b h) side ≡ inwardIn b side
-  inward-kept side = rw (inward-count-kept side) (items-apart record-changed (inwardAt side + 1) (getD b (inwardAt side) 0) (inr (omega arith)))
+  self-kept = within-self record-changed
 
   -- ---- the book, and the layout
 
   pub book-stored : bookIn (storeRecord b h) ≡ meaning h (outgoingIn b) (inwardIn b (h .side)) (inwardIn b (1 - h .side))
-  unfolding bookIn
-  book-stored =
-      rw (side-stored, outgoing-kept, inward-kept (h .side), inward-kept (1 - h .side))
-      (record-stored (outgoingIn b) (inwardIn b (h .side)) (inwardIn b (1 - h .side)))
+  book-stored = within-book record-changed h record-back
 
   pub layout-stored : Layout b → h .side ≤ 1 → Layout (storeRecord b h)
-  layout-stored l s = record {
-    size = length-record ∙ size;
-    carrier = rw (record-seats .carrier .mark) (mark-small (h .carrier .there));
-    client = rw (record-seats .client .mark) (mark-small (h .client .there));
-    registered = rw (record-counts .registered) (mark-small (h .registered));
-    side = rw side-stored s;
-    opens = rw (record-opens .count) few;
-    outgoing = rw outgoing-count-kept (l .outgoing);
-    first = rw (inward-count-kept 0) (l .first);
-    second = rw (inward-count-kept 1) (l .second);
-    slots = slots-kept ∙ l .slots;
-  }
+  layout-stored l s =
+      within-layout record-changed l (rw (record-seats .carrier .mark) (mark-small (h .carrier .there)))
+      (rw (record-seats .client .mark) (mark-small (h .client .there))) (rw (record-counts .registered) (mark-small (h .registered)))
+      (rw (record-notes .side) s) (rw (record-opens .count, opens-list (h .opens) (fits .opens)) (fits .opens .few))
 
 pub layout-kept : (b : List ℕ) (h : Record) → layoutFits b ≡ true → Fits h → h .side ≤ 1 → layoutFits (storeRecord b h) ≡ true
 layout-kept b h e fits s = let l = layout-says b e in layout-from (storeRecord b h) (layout-stored b h (l .size) fits l s)

@@ -7,6 +7,7 @@ use lib.Dec.{eqb}
 use lib.ListN.{getD, set, take, drop}
 use lib.Seq.{paste}
 use Rattle.views.specs.declared.View.{View}
+use Rattle.views.specs.declared.list.Views.{Views}
 use Rattle.views.specs.Limits.{maxMembers, maxOpen}
 use Rattle.views.specs.Sets.{has}
 use Rattle.views.specs.Lists.{listOf, placed}
@@ -16,6 +17,8 @@ use Rattle.rules.specs.Data as R
 use Rattle.rules.specs.Data.{Entry, Item}
 use Rattle.book_bytes.specs.declared.Seat.{Seat}
 use Rattle.book_bytes.specs.declared.Record.{Record}
+use Rattle.book_bytes.specs.declared.Current.{Current}
+use Rattle.book_bytes.specs.declared.Held.{Held}
 use Rattle.book_bytes.specs.Places.{settledAt, carrierAt, clientAt, registeredAt, handedAt, toldAt, reportedAt}
 use Rattle.book_bytes.specs.Places.{takenAt, infosAt, registrationsAt, toldsAt, sideAt, opensAt}
 
@@ -72,6 +75,31 @@ recordIn b = record {
   side = getD b sideAt 0;
 }
 
+-- without the views held, and these alone
+abbrev pub currentOf : Record → Current
+currentOf h = record {
+  carrier = h .carrier;
+  client = h .client;
+  registered = h .registered;
+  handed = h .handed;
+  told = h .told;
+  reported = h .reported;
+  taken = h .taken;
+  infos = h .infos;
+  registrations = h .registrations;
+  tolds = h .tolds;
+  side = h .side;
+}
+
+abbrev pub heldOf : Record → Held
+heldOf h = record { settled = h .settled; opens = h .opens }
+
+abbrev pub currentIn : List ℕ → Current
+currentIn b = currentOf (recordIn b)
+
+abbrev pub heldIn : List ℕ → Held
+heldIn b = heldOf (recordIn b)
+
 -- ---- how it is stored in the bytes
 
 abbrev pub flag : Bool → ℕ
@@ -94,8 +122,12 @@ storeNotes b h =
     set (paste (set (set b infosAt (h .infos)) registrationsAt (h .registrations)) toldsAt (h .tolds) maxMembers)
     sideAt (h .side)
 
-unfoldable pub storeOpens : List ℕ → Record → List ℕ
-storeOpens b h = storeViews (set b opensAt (h .opens .count)) (opensAt + 1) (listOf (h .opens))
+unfoldable pub storeOpens : List ℕ → Views → List ℕ
+storeOpens b l = storeViews (set b opensAt (l .count)) (opensAt + 1) (listOf l)
+
+-- the views held alone
+unfoldable pub storeHeld : List ℕ → Held → List ℕ
+storeHeld b h = storeOpens (storeView b settledAt (h .settled)) (h .opens)
 
 unfoldable pub storeRecord : List ℕ → Record → List ℕ
-storeRecord b h = storeOpens (storeNotes (storeCounts (storeSeats b h) h) h) h
+storeRecord b h = storeOpens (storeNotes (storeCounts (storeSeats b h) h) h) (h .opens)

@@ -13,17 +13,6 @@ ghost use Prim.Native.Nat.{_≤_};
 ghost use Rattle.book_bytes.specs.Starts.{freshRecord, startBytes};
 ghost use Rattle.book_bytes.specs.Places.{membersAt, selfAt, bookSize};
 
-// Every byte is 0.
-pub fn clear(b: &mut [u8])
-    ensures { λ _. ⌜ now (b .exit) ≡ replicate (length (now (b .entry))) 0 ⌝ }
-{
-    let mut i = 0;
-    while i < b.len() {
-        b[i] = 0;
-        i += 1;
-    }
-}
-
 // The record of the member `own` of a group that has the first view alone.
 pub fn record(set: u8, own: Member) -> Record
     ensures { λ r. ⌜ r ≡ freshRecord set (own .0) ⌝ }
@@ -70,7 +59,7 @@ pub fn book(b: &mut [u8], members: u8, set: u8, own: Member)
     requires { ⌜ bookSize ≤ length (now b) ⌝ }
     ensures { λ _. ⌜ now (b .exit) ≡ startBytes members set (own .0) (now (b .entry)) ⌝ }
 {
-    clear(b);
+    wire::writer::clear(b);
     put_numbers(b, members, own);
     let h = record(set, own);
     crate::store(b, h);

@@ -11,8 +11,8 @@ ghost use mathlib.Core.Path.{_≡_};
 ghost use lib.ListN.{length, take, drop};
 ghost use Rattle.views.specs.Limits.{maxMembers, maxOpen};
 ghost use Rattle.book_bytes.specs.Places.{seatSize, bookSize, toldsAt};
-ghost use Rattle.book_bytes.specs.Records.{seatIn, recordIn, flag, storeSeat, storeSeats, storeCounts};
-ghost use Rattle.book_bytes.specs.Records.{storeNotes, storeOpens, storeRecord};
+ghost use Rattle.book_bytes.specs.Records.{seatIn, recordIn, currentIn, heldIn, flag, storeSeat, storeSeats};
+ghost use Rattle.book_bytes.specs.Records.{storeCounts, storeNotes, storeOpens, storeHeld, storeRecord};
 
 // A view or none. Without a view, what `view` holds means nothing.
 pub struct Seat {
@@ -37,6 +37,27 @@ pub struct Record {
     // Which of the two inward lists is the client view's: 0 or 1. The other is the carrier view's while it is not
     // attempted.
     pub side: u8,
+}
+
+// The small record without the views held.
+pub struct Current {
+    pub carrier: Seat,
+    pub client: Seat,
+    pub registered: bool,
+    pub handed: Position,
+    pub told: Position,
+    pub reported: Position,
+    pub taken: Position,
+    pub infos: u8,
+    pub registrations: u8,
+    pub tolds: [u8; 8],
+    pub side: u8,
+}
+
+// The views held.
+pub struct Held {
+    pub settled: View,
+    pub opens: Views,
 }
 
 // Bytes of a view or none: a mark, 1 or 0, then the view.
@@ -109,25 +130,15 @@ pub fn load_tolds(b: &[u8]) -> [u8; 8]
     ]
 }
 
-// The small record.
-pub fn load(b: &[u8]) -> Record
+// The small record without the views held.
+pub fn load_current(b: &[u8]) -> Current
     requires { ⌜ bookSize ≤ length (now b) ⌝ }
-    ensures { λ r. ⌜ r ≡ recordIn (now (b .entry)) ⌝ }
+    ensures { λ r. ⌜ r ≡ currentIn (now (b .entry)) ⌝ }
 {
-    let count = b[OPENS] as usize;
-    let n = if count < limits::OPEN {
-        count
-    } else {
-        limits::OPEN
-    };
-    let settled = wire::reader::load_view(b, SETTLED);
-    let opens = wire::reader::load_views(b, OPENS + 1, n);
     let carrier = load_seat(b, CARRIER);
     let client = load_seat(b, CLIENT);
     let tolds = load_tolds(b);
-    Record {
-        settled,
-        opens,
+    Current {
         carrier,
         client,
         registered: b[REGISTERED] == 1,
@@ -139,6 +150,55 @@ pub fn load(b: &[u8]) -> Record
         registrations: b[REGISTRATIONS],
         tolds,
         side: b[SIDE],
+    }
+}
+
+// The views held.
+pub fn load_held(b: &[u8]) -> Held
+    requires { ⌜ bookSize ≤ length (now b) ⌝ }
+    ensures { λ r. ⌜ r ≡ heldIn (now (b .entry)) ⌝ }
+{
+    let count = b[OPENS] as usize;
+    let n = if count < limits::OPEN {
+        count
+    } else {
+        limits::OPEN
+    };
+    let settled = wire::reader::load_view(b, SETTLED);
+    let opens = wire::reader::load_views(b, OPENS + 1, n);
+    Held { settled, opens }
+}
+
+// The small record.
+pub fn load(b: &[u8]) -> Record
+    requires { ⌜ bookSize ≤ length (now b) ⌝ }
+    ensures { λ r. ⌜ r ≡ recordIn (now (b .entry)) ⌝ }
+{
+    let held = load_held(b);
+    let h = load_current(b);
+    let settled = held.settled;
+    let opens = held.opens;
+    let carrier = h.carrier;
+    let client = h.client;
+    let handed = h.handed;
+    let told = h.told;
+    let reported = h.reported;
+    let taken = h.taken;
+    let tolds = h.tolds;
+    Record {
+        settled,
+        opens,
+        carrier,
+        client,
+        registered: h.registered,
+        handed,
+        told,
+        reported,
+        taken,
+        infos: h.infos,
+        registrations: h.registrations,
+        tolds,
+        side: h.side,
     }
 }
 
@@ -195,14 +255,25 @@ fn store_notes(b: &mut [u8], h: Record)
     b[SIDE] = h.side;
 }
 
-fn store_opens(b: &mut [u8], h: Record)
-    requires { ⌜ (bookSize ≤ length (now b)) × (h .opens .count ≤ maxOpen) ⌝ }
-    ensures { λ _. ⌜ now (b .exit) ≡ storeOpens (now (b .entry)) h ⌝ }
+// The open views are stored behind their count.
+fn store_opens(b: &mut [u8], list: Views)
+    requires { ⌜ (bookSize ≤ length (now b)) × (list .count ≤ maxOpen) ⌝ }
+    ensures { λ _. ⌜ now (b .exit) ≡ storeOpens (now (b .entry)) list ⌝ }
 {
-    let list = h.opens;
     let n = list.count;
     b[OPENS] = (n % 256) as u8;
     wire::writer::store_views(b, OPENS + 1, list, n);
+}
+
+// The views held are stored; all else stays as it is.
+pub fn store_held(b: &mut [u8], h: Held)
+    requires { ⌜ (bookSize ≤ length (now b)) × (h .opens .count ≤ maxOpen) ⌝ }
+    ensures { λ _. ⌜ now (b .exit) ≡ storeHeld (now (b .entry)) h ⌝ }
+{
+    let settled = h.settled;
+    let opens = h.opens;
+    wire::writer::store_view(b, SETTLED, settled);
+    store_opens(b, opens);
 }
 
 // The small record is stored; the queues stay as they are.
@@ -213,5 +284,6 @@ pub fn store(b: &mut [u8], h: Record)
     store_seats(b, h);
     store_counts(b, h);
     store_notes(b, h);
-    store_opens(b, h);
+    let opens = h.opens;
+    store_opens(b, opens);
 }

@@ -1,12 +1,13 @@
--- A step that was accepted leaves the new record stored; a refused one leaves the bytes. What a sound book's bytes are.
+-- A step that was accepted leaves the new record stored; a refused one leaves the bytes. What a sound book's bytes are, and what an accepted step found
+-- there.
 use mathlib.Core.Path.{_≡_, refl, ap, _∙_}
-use mathlib.Core.Bool.{true, false, not, _||_}
-use mathlib.Core.List.{List}
+use mathlib.Core.Bool.{true, not, _||_}
+use mathlib.Core.List.{List, _∷_}
 use Prim.Native.Nat.{ℕ, _+_, _≤_, _<_, min}
 use native.Mathlib.Omega.{arith}
 use borrow.Author.Tests.{ltb-true}
 use lib.Dec.{ltb}
-use lib.ListN.{length, getD}
+use lib.ListN.{length, getD, take, drop, length-take, length-drop}
 use Rattle.views.specs.declared.refusal.Refusal.{Refusal}
 use Rattle.views.specs.declared.refusal.Verdict.{Verdict}
 use Rattle.views.specs.declared.refusal.Verdict.the-variants.{Accepted, Refused}
@@ -14,21 +15,20 @@ use Rattle.views.specs.Limits.{maxOpen, maxOutgoing}
 use Rattle.views.specs.Refusals.{left}
 use Rattle.wire.proofs.ReaderLaws.{length-viewsIn}
 use Rattle.rules.specs.Data.{Member, Result, refused, accepted, Book as Ruled}
-use Rattle.rules.specs.Member.{Done, clientIsCarrier, hasRoom, registers, sends, tells}
+use Rattle.rules.specs.Member.{Done, clientIsCarrier, hasRoom, registers, sends, hands, tells, safes}
 use Rattle.rules.proofs.TestLaws.{conditions-say}
-use Rattle.rules.proofs.Holding.{Holds, refuses, gives, given, need-holds, view-holds}
+use Rattle.rules.proofs.Holding.{Holds, gives, given, need-holds, view-holds, first-holds}
 use Rattle.book_bytes.specs.declared.Record.{Record}
-use Rattle.book_bytes.specs.Places.{opensAt, bookSize}
-use Rattle.book_bytes.specs.Records.{recordIn, storeRecord}
-use Rattle.book_bytes.specs.Books.{bookIn, bytesSound}
+use Rattle.book_bytes.specs.declared.Current.{Current}
+use Rattle.book_bytes.specs.Places.{sideAt, opensAt, bookSize}
+use Rattle.book_bytes.specs.Records.{recordIn, currentIn, storeRecord}
+use Rattle.book_bytes.specs.Books.{inwardIn, bookIn, bytesSound}
 use Rattle.book_bytes.proofs.LayoutLaws.{Layout, layout-says}
 use Rattle.record_steps.specs.declared.Stepped.{Stepped}
 use Rattle.record_steps.specs.Turns.{stepped}
 use Rattle.events.specs.declared.Event.{Event}
 use Rattle.events.specs.declared.Reply.{Reply}
-use Rattle.book_steps.specs.declared.Said.{Said}
 use Rattle.events.specs.Replies.{noEvent, eventOf, replied, replyOf, verdictOf}
-use Rattle.book_steps.specs.Parts.{saidBytes}
 
 -- ---- a sound book's bytes
 
@@ -43,10 +43,9 @@ pub loaded-side : (b : List ℕ) → bytesSound b ≡ true → (h : Record) → 
 unfolding recordIn
 loaded-side b sound h e = rw e (sound-layout b sound .side)
 
--- nothing said changes nothing
-pub said-nothing : (b : List ℕ) → saidBytes (record { there = false; kind = 0; number = 0 }) b ≡ b
-unfolding saidBytes
-said-nothing b = refl
+pub current-side : (b : List ℕ) → bytesSound b ≡ true → (h : Current) → h ≡ currentIn b → h .side ≤ 1
+unfolding recordIn
+current-side b sound h e = rw e (sound-layout b sound .side)
 
 -- a record read from bytes has its open views within their limit
 pub record-few : (b : List ℕ) → recordIn b .opens .count ≤ maxOpen
@@ -70,15 +69,14 @@ unfolding stepped
 stepped-few Accepted new old f g = f
 stepped-few (Refused r) new old f g = g
 
--- the reply and the bytes of a commit, refused and accepted
+-- the reply and the bytes of a step kept, refused and accepted
 pub commit-refused : (v : Verdict) (x : Refusal) (e : Event) (r : Reply) (d b : List ℕ) → v ≡ Refused x → r ≡ replied (Refused x) noEvent → (r ≡ replied v e) × (b ≡ left v d b)
 unfolding replied left
 commit-refused v x e r d b t h = rw t (h, refl)
 
-pub commit-accepted : (v : Verdict) (e : Event) (h : Record) (m : Said) (c y b : List ℕ) → v ≡ Accepted → c ≡ saidBytes m b → y ≡ storeRecord c h
-    → (record { verdict = Accepted; event = e } ≡ replied v e) × (y ≡ left v (storeRecord (saidBytes m b) h) b)
+pub commit-accepted : (v : Verdict) (e : Event) (y d b : List ℕ) → v ≡ Accepted → y ≡ d → (record { verdict = Accepted; event = e } ≡ replied v e) × (y ≡ left v d b)
 unfolding replied left
-commit-accepted v e h m c y b t f g = rw t (refl, g ∙ ap (λ (x : List ℕ). storeRecord x h) f)
+commit-accepted v e y d b t g = rw t (refl, g)
 
 -- the reply and the bytes of a step whose verdict is the rule's
 pub answered : (r : Result Done) (e : Event) → Holds (λ (x : Done). eventOf (x .answer) ≡ e) r → replied (verdictOf r) e ≡ replyOf r
@@ -99,32 +97,34 @@ unfolding left
 accepted-by (refused z) d b e y v h k = let i : _≡_ {A = ℕ} 0 1 = cc in absurd (omega arith)
 accepted-by (accepted z) d b e y v h k = (rw (given h), k)
 
-stored-by : (r : Result Done) (new old : Record) (c b d : List ℕ) → storeRecord c new ≡ d
-    → left (stepped (verdictOf r) new old .verdict) (storeRecord c (stepped (verdictOf r) new old .book)) b ≡ left (verdictOf r) d b
+stored-by : (r : Result Done) (new old : Record) (b d : List ℕ) → storeRecord b new ≡ d
+    → left (stepped (verdictOf r) new old .verdict) (storeRecord b (stepped (verdictOf r) new old .book)) b ≡ left (verdictOf r) d b
 unfolding stepped left
-stored-by (refused x) new old c b d p = refl
-stored-by (accepted x) new old c b d p = p
+stored-by (refused x) new old b d p = refl
+stored-by (accepted x) new old b d p = p
 
--- a step of the record h by the rule r, stored in the bytes c: its reply x and the bytes y, where d is what an accepted step leaves
-module _ (b : List ℕ) (h : Record) (loaded : h ≡ recordIn b) (r : Result Done) (new : Record → Record) (event : Record → Event) (c d : List ℕ) where
-  pub committed : (s : Stepped) → s ≡ stepped (verdictOf r) (new (recordIn b)) (recordIn b)
-      → (e : Event) → e ≡ event h
-      → Holds (λ (x : Done). eventOf (x .answer) ≡ event (recordIn b)) r
-      → storeRecord c (new (recordIn b)) ≡ d
-      → (x : Reply) (y : List ℕ) → (x ≡ replied (s .verdict) e) × (y ≡ left (s .verdict) (storeRecord c (s .book)) b)
-      → (x ≡ replyOf r) × (y ≡ left (verdictOf r) d b)
-  committed s t e g k p x y (i, j) =
-      let v : s .verdict ≡ verdictOf r = ap (λ (z : Stepped). z .verdict) t ∙ stepped-verdict (verdictOf r) (new (recordIn b)) (recordIn b) in (
-        i ∙ ap (λ (w : Verdict). replied w e) v ∙ ap (replied (verdictOf r)) (g ∙ ap event loaded) ∙ answered r (event (recordIn b)) k,
-        j ∙ ap (λ (z : Stepped). left (z .verdict) (storeRecord c (z .book)) b) t ∙ stored-by r (new (recordIn b)) (recordIn b) c b d p,
-      )
+-- a step of a record by the rule r, stored in the bytes b: its reply x and the bytes y, where d is what an accepted step leaves
+pub committed : (b : List ℕ) (r : Result Done) (new old : Record) (d : List ℕ) (s : Stepped) → s ≡ stepped (verdictOf r) new old
+    → (e : Event) → Holds (λ (x : Done). eventOf (x .answer) ≡ e) r
+    → storeRecord b new ≡ d
+    → (x : Reply) (y : List ℕ) → (x ≡ replied (s .verdict) e) × (y ≡ left (s .verdict) (storeRecord b (s .book)) b)
+    → (x ≡ replyOf r) × (y ≡ left (verdictOf r) d b)
+committed b r new old d s t e k p x y (i, j) =
+    let v : s .verdict ≡ verdictOf r = ap (λ (z : Stepped). z .verdict) t ∙ stepped-verdict (verdictOf r) new old in (
+      i ∙ ap (λ (w : Verdict). replied w e) v ∙ answered r e k,
+      j ∙ ap (λ (z : Stepped). left (z .verdict) (storeRecord b (z .book)) b) t ∙ stored-by r new old b d p,
+    )
 
--- ---- room for a message
+-- ---- what an accepted step found
 
 pub room-for : (b : Ruled) → hasRoom b ≡ true → clientIsCarrier b ≡ true → length (b .outgoing) < maxOutgoing
 room-for b h t =
     let k : (not true || ltb (length (b .outgoing)) maxOutgoing) ≡ true = rw t at h in
     ltb-true _ _ k
+
+-- there is one behind the k-th
+some-left : {A : Type 0} (k : ℕ) (l : List A) (x : A) (rest : List A) → drop k l ≡ x ∷ rest → k < length l
+some-left k l x rest e = let n = ap length e in omega (arith, n, length-drop k l)
 
 -- a step that may queue a message is accepted only where there is room
 module _ (b : List ℕ) (p : Member) where
@@ -139,3 +139,17 @@ module _ (b : List ℕ) (p : Member) where
   pub tell-room : Holds (λ (d : Done). hasRoom (bookIn b) ≡ true) (tells p (bookIn b))
   unfolding tells
   tell-room = view-holds _ _ _ (λ v e. need-holds _ _ _ (λ t. need-holds _ _ _ (λ w. need-holds _ _ _ (λ u. gives u))))
+
+  -- one more to hand, and one more to report, in the client view's inward list
+  pub hand-some : Holds (λ (d : Done). recordIn b .handed .0 < length (inwardIn b (getD b sideAt 0))) (hands p (bookIn b))
+  unfolding hands bookIn
+  hand-some = view-holds _ _ _ (λ v e. first-holds _ _ _ (λ x rest f. gives (some-left (recordIn b .handed .0) (inwardIn b (getD b sideAt 0)) x rest f)))
+
+  pub safe-some : (n : ℕ) → Holds (λ (d : Done). (recordIn b .reported .0 < recordIn b .handed .0) × (recordIn b .reported .0 < length (inwardIn b (getD b sideAt 0)))) (safes n p (bookIn b))
+  unfolding safes bookIn
+  safe-some n =
+      let h = recordIn b in
+      let own = inwardIn b (getD b sideAt 0) in
+      view-holds _ _ _ (λ v e. need-holds _ _ _ (λ t. first-holds _ _ _ (λ x rest f. need-holds _ _ _ (λ u.
+      let k = some-left (h .reported .0) (take (h .handed .0) own) x rest f in
+      gives (omega (arith, k, length-take (h .handed .0) own), omega (arith, k, length-take (h .handed .0) own))))))

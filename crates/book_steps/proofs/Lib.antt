@@ -1,11 +1,11 @@
 pub mod Committed
 pub mod Means
+pub mod MeansRecord
 pub mod TurnFits
 pub mod MeansSpeak
 pub mod MeansMarks
 pub mod MeansJoin
 pub mod MeansTake
-pub mod Answers
 pub mod JoinLaws
 pub mod RoomLaws
 pub mod TakeLaws

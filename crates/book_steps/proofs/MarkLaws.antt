@@ -4,44 +4,46 @@ use mathlib.Core.Bool.{true}
 use mathlib.Core.List.{List, [], _∷_}
 use Prim.Native.Nat.{ℕ, zero, suc, _+_, _-_, _*_, _≤_, _<_}
 use native.Mathlib.Omega.{arith}
-use borrow.Author.Tests.{lt-leb}
-use lib.ListN.{length, getD, take, drop, length-drop, length-take}
+use lib.ListN.{length, getD, set, take, drop, length-drop, length-take}
 use Rattle.numbers.specs.Number.{get}
 use Rattle.views.specs.declared.View.{View}
+use Rattle.views.specs.declared.refusal.Refusal.{Refusal}
 use Rattle.views.specs.declared.refusal.Verdict.{Verdict}
-use Rattle.views.specs.Limits.{maxOpen}
+use Rattle.views.specs.declared.refusal.Verdict.the-variants.{Accepted, Refused}
+use Rattle.views.specs.Limits.{maxOpen, maxOrdered}
 use Rattle.views.specs.Lists.{idOf, listOf}
 use Rattle.views.proofs.ListLaws.{length-above}
 use Rattle.views.specs.Refusals.{left}
-use Rattle.rules.specs.Data.{Member, Item, item, hand, safe, event}
+use Rattle.rules.specs.Data.{Member, Item, hand, safe}
 use Rattle.rules.specs.Member.{Done, hands, safes, collects}
 use Rattle.rules.proofs.Holding.{Holds, gives, need-holds, view-holds, first-holds}
 use Rattle.slots.specs.Slots.{itemSize, itemIn}
 use Rattle.book_bytes.specs.declared.Record.{Record}
-use Rattle.book_bytes.specs.Places.{sideAt, inwardAt}
-use Rattle.book_bytes.specs.Records.{recordIn, storeRecord}
+use Rattle.book_bytes.specs.declared.Current.{Current}
+use Rattle.book_bytes.specs.Places.{handedAt, reportedAt, sideAt, inwardAt}
+use Rattle.book_bytes.specs.Records.{recordIn, currentIn, storeRecord}
 use Rattle.book_bytes.specs.Books.{outgoingIn, inwardIn, bookIn, bytesSound, membersIn, selfIn}
 use Rattle.book_bytes.proofs.Behind.{inward-few}
 use Rattle.book_bytes.proofs.InwardBooks.{length-inward, items-at}
 use Rattle.record_steps.specs.declared.Stepped.{Stepped}
-use Rattle.record_steps.specs.Turns.{stepped, bookOf, settledAs, handTurn, safeTurn, collectTurn}
+use Rattle.record_steps.specs.Turns.{stepped, bookOf, settledAs, handVerdict, safeVerdict, collectTurn}
 use Rattle.record_steps.proofs.MeaningVerdicts.{hand-verdict, safe-verdict, collect-verdict}
-use Rattle.record_steps.proofs.MeaningMarks.{seated-view, handedNow, reportedNow}
+use Rattle.record_steps.proofs.MeaningMarks.{seated-view}
 use Rattle.events.specs.declared.Event.{Event}
 use Rattle.events.specs.declared.Reply.{Reply}
 use Rattle.events.specs.Replies.{noEvent, eventOf, outwardOf, happened, named, replied, replyOf, verdictOf}
 use Rattle.book_steps.specs.Acts.{handBytes, safeBytes, collectBytes}
 use Rattle.book_steps.specs.Parts.{itemEvent}
-use Rattle.book_steps.proofs.Committed.{sound-layout, loaded-side, record-few, stepped-few, committed}
+use Rattle.book_steps.proofs.Committed.{sound-layout, current-side, record-few, stepped-few, accepted-holds, refused-by, accepted-by, committed, hand-some, safe-some}
 
 -- ---- the inward list of the client view
 
-module _ (b : List ℕ) (sound : bytesSound b ≡ true) where
-  pub inward-room : (h : Record) → h ≡ recordIn b → inwardAt (h .side) + 1 + itemSize * getD b (inwardAt (h .side)) 0 ≤ length b
-  inward-room h e =
-      let l = sound-layout b sound in
-      let s = loaded-side b sound h e in
-      omega (arith, l .size, s, inward-few b (h .side) s l)
+module _ (b : List ℕ) (sound : bytesSound b ≡ true) (h : Current) (loaded : h ≡ currentIn b) (k : ℕ) (there : k < getD b (inwardAt (h .side)) 0) where
+  pub item-small : k < maxOrdered
+  item-small = omega (arith, there, inward-few b (h .side) (current-side b sound h loaded) (sound-layout b sound))
+
+  pub item-inside : inwardAt (h .side) + 1 + itemSize * (k + 1) ≤ length b
+  item-inside = omega (arith, item-small, current-side b sound h loaded, sound-layout b sound .size)
 
 -- the first of what is left of a list's front is the first of what is left of the list
 first-of-front : {A : Type 0} (j n : ℕ) (l : List A) (x : A) (rest : List A) → drop j (take n l) ≡ x ∷ rest → (r : List A) × (drop j l ≡ x ∷ r)
@@ -54,7 +56,7 @@ first-of-front (suc j) (suc n) (y ∷ l) x rest e = first-of-front j n l x rest 
 
 -- ---- the event of an item
 
-module _ (b : List ℕ) (h : Record) (k j : ℕ) (x : Item ℕ) (rest : List (Item ℕ)) (e : drop j (inwardIn b k) ≡ x ∷ rest) where
+module _ (b : List ℕ) (h : Current) (k j : ℕ) (x : Item ℕ) (rest : List (Item ℕ)) (e : drop j (inwardIn b k) ≡ x ∷ rest) where
   item-there : j < getD b (inwardAt k) 0
   item-there =
       let n : length (drop j (inwardIn b k)) ≡ suc (length rest) = ap length e in
@@ -65,17 +67,17 @@ module _ (b : List ℕ) (h : Record) (k j : ℕ) (x : Item ℕ) (rest : List (It
 
   pub hand-item : outwardOf (hand (selfIn b) (idOf (h .client .view)) x) ≡ itemEvent b (inwardAt k) j 9 h
   unfolding itemEvent
-  hand-item = rw (lt-leb _ _ item-there, item-is)
+  hand-item = rw item-is
 
   pub safe-item : outwardOf (safe (selfIn b) (idOf (h .client .view)) x) ≡ itemEvent b (inwardAt k) j 11 h
   unfolding itemEvent
-  safe-item = rw (lt-leb _ _ item-there, item-is)
+  safe-item = rw item-is
 
 -- the code's reading of it
-pub item-found : (b : List ℕ) (c k kind : ℕ) (h : Record) (y : ℕ) → k < getD b c 0 → y ≡ get b (c + 1 + itemSize * k + 1) 8
+pub item-found : (b : List ℕ) (c k kind : ℕ) (h : Current) (y : ℕ) → y ≡ get b (c + 1 + itemSize * k + 1) 8
     → happened kind (selfIn b) (named (idOf (h .client .view))) (getD b (c + 1 + itemSize * k) 0) y ≡ itemEvent b c k kind h
 unfolding itemEvent
-item-found b c k kind h y l e = rw (lt-leb _ _ l, e)
+item-found b c k kind h y e = rw e
 
 -- ---- the rules
 
@@ -92,17 +94,13 @@ module _ (b : List ℕ) where
   abbrev new : List (Item ℕ)
   new = inwardIn b (1 - getD b sideAt 0)
 
-  hand-rule : verdictOf (hands 0 (bookOf (recordIn b) 0 (getD b (inwardAt (getD b sideAt 0)) 0))) ≡ verdictOf (hands p (bookIn b))
+  hand-rule : verdictOf (hands p (bookIn b)) ≡ handVerdict (currentIn b) (getD b (inwardAt (getD b sideAt 0)) 0)
   unfolding bookIn
-  hand-rule =
-      ap (λ (k : ℕ). verdictOf (hands 0 (bookOf (recordIn b) 0 k))) (sym (length-inward b (getD b sideAt 0)))
-      ∙ sym (hand-verdict (recordIn b) (outgoingIn b) own new p)
+  hand-rule = hand-verdict (recordIn b) (outgoingIn b) own new p ∙ ap (handVerdict (currentIn b)) (length-inward b (getD b sideAt 0))
 
-  safe-rule : verdictOf (safes n 0 (bookOf (recordIn b) 0 (getD b (inwardAt (getD b sideAt 0)) 0))) ≡ verdictOf (safes n p (bookIn b))
+  safe-rule : verdictOf (safes n p (bookIn b)) ≡ safeVerdict n (currentIn b) (getD b (inwardAt (getD b sideAt 0)) 0)
   unfolding bookIn
-  safe-rule =
-      ap (λ (k : ℕ). verdictOf (safes n 0 (bookOf (recordIn b) 0 k))) (sym (length-inward b (getD b sideAt 0)))
-      ∙ sym (safe-verdict (recordIn b) (outgoingIn b) own new n p)
+  safe-rule = safe-verdict (recordIn b) (outgoingIn b) own new n p ∙ ap (safeVerdict n (currentIn b)) (length-inward b (getD b sideAt 0))
 
   collect-rule : verdictOf (collects n (bookOf (recordIn b) 0 0)) ≡ verdictOf (collects n (bookIn b))
   unfolding bookIn
@@ -112,18 +110,18 @@ module _ (b : List ℕ) where
   abbrev at : ℕ
   at = inwardAt (recordIn b .side)
 
-  hand-event : Holds (λ (d : Done). eventOf (d .answer) ≡ itemEvent b at (recordIn b .handed .0) 9 (recordIn b)) (hands p (bookIn b))
+  hand-event : Holds (λ (d : Done). eventOf (d .answer) ≡ itemEvent b at (recordIn b .handed .0) 9 (currentIn b)) (hands p (bookIn b))
   unfolding hands bookIn recordIn
   hand-event =
       view-holds _ _ _ (λ v e. first-holds _ _ _ (λ x rest f.
-      gives (ap (λ (w : View). outwardOf (hand p (idOf w) x)) (seated-view (recordIn b .client) v e) ∙ hand-item b (recordIn b) (getD b sideAt 0) (recordIn b .handed .0) x rest f)))
+      gives (ap (λ (w : View). outwardOf (hand p (idOf w) x)) (seated-view (recordIn b .client) v e) ∙ hand-item b (currentIn b) (getD b sideAt 0) (recordIn b .handed .0) x rest f)))
 
-  safe-event : Holds (λ (d : Done). eventOf (d .answer) ≡ itemEvent b at (recordIn b .reported .0) 11 (recordIn b)) (safes n p (bookIn b))
+  safe-event : Holds (λ (d : Done). eventOf (d .answer) ≡ itemEvent b at (recordIn b .reported .0) 11 (currentIn b)) (safes n p (bookIn b))
   unfolding safes bookIn recordIn
   safe-event =
       view-holds _ _ _ (λ v e. need-holds _ _ _ (λ t. first-holds _ _ _ (λ x rest f. need-holds _ _ _ (λ u.
       let g = first-of-front (recordIn b .reported .0) (recordIn b .handed .0) own x rest f in
-      gives (ap (λ (w : View). outwardOf (safe p (idOf w) x)) (seated-view (recordIn b .client) v e) ∙ safe-item b (recordIn b) (getD b sideAt 0) (recordIn b .reported .0) x (g .0) (g .1))))))
+      gives (ap (λ (w : View). outwardOf (safe p (idOf w) x)) (seated-view (recordIn b .client) v e) ∙ safe-item b (currentIn b) (getD b sideAt 0) (recordIn b .reported .0) x (g .0) (g .1))))))
 
   collect-event : Holds (λ (d : Done). eventOf (d .answer) ≡ noEvent) (collects n (bookIn b))
   unfolding collects
@@ -136,63 +134,74 @@ settled-few b = omega (arith, length-above (idOf (recordIn b .carrier .view)) (l
 
 -- ---- what the code has at hand
 
-module _ (b : List ℕ) (h : Record) (loaded : h ≡ recordIn b) (s : Stepped) where
+module _ (b : List ℕ) (h : Current) (loaded : h ≡ currentIn b) (v : Verdict) where
   -- ---- hand
 
-  module _ (e : s ≡ handTurn h (getD b (inwardAt (h .side)) 0)) where
-    hand-turned : s ≡ stepped (verdictOf (hands (selfIn b) (bookIn b))) (handedNow (recordIn b)) (recordIn b)
-    unfolding handTurn recordIn
-    hand-turned =
-        e ∙ ap (λ (z : Record). handTurn z (getD b (inwardAt (z .side)) 0)) loaded
-        ∙ ap (λ (v : Verdict). stepped v (handedNow (recordIn b)) (recordIn b)) (hand-rule b)
+  module _ (e : v ≡ handVerdict h (getD b (inwardAt (h .side)) 0)) where
+    hand-ruled : verdictOf (hands (selfIn b) (bookIn b)) ≡ v
+    unfolding recordIn
+    hand-ruled = hand-rule b ∙ sym (e ∙ ap (λ (z : Current). handVerdict z (getD b (inwardAt (z .side)) 0)) loaded)
 
-    pub hand-few : s .book .opens .count ≤ maxOpen
-    hand-few = rw hand-turned (stepped-few (verdictOf (hands (selfIn b) (bookIn b))) _ _ (record-few b) (record-few b))
+    pub hand-refused : (y : Refusal) (r : Reply) → v ≡ Refused y → r ≡ replied (Refused y) noEvent
+        → (r ≡ replyOf (hands (selfIn b) (bookIn b))) × (b ≡ left (verdictOf (hands (selfIn b) (bookIn b))) (handBytes b) b)
+    hand-refused y r w = refused-by (hands (selfIn b) (bookIn b)) y (handBytes b) b r (hand-ruled ∙ w)
 
-    pub hand-done : (ev : Event) → ev ≡ itemEvent b (inwardAt (h .side)) (h .handed .0) 9 h
-        → (x : Reply) (y : List ℕ) → (x ≡ replied (s .verdict) ev) × (y ≡ left (s .verdict) (storeRecord b (s .book)) b)
-        → (x ≡ replyOf (hands (selfIn b) (bookIn b))) × (y ≡ left (verdictOf (hands (selfIn b) (bookIn b))) (handBytes b) b)
-    unfolding handBytes
-    hand-done ev g =
-        committed b h loaded (hands (selfIn b) (bookIn b)) handedNow (λ (z : Record). itemEvent b (inwardAt (z .side)) (z .handed .0) 9 z) b (handBytes b)
-        s hand-turned ev g (hand-event b) refl
+    pub hand-there : v ≡ Accepted → h .handed .0 < getD b (inwardAt (h .side)) 0
+    unfolding recordIn
+    hand-there w =
+        let k = accepted-holds (hands (selfIn b) (bookIn b)) (hand-some b (selfIn b)) (hand-ruled ∙ w) .1 in
+        rw loaded (omega (arith, k, length-inward b (getD b sideAt 0)))
+
+    pub hand-done : v ≡ Accepted → (ev : Event) → ev ≡ itemEvent b (inwardAt (h .side)) (h .handed .0) 9 h
+        → (record { verdict = Accepted; event = ev } ≡ replyOf (hands (selfIn b) (bookIn b)))
+        × (set b handedAt (h .handed .0 + 1) ≡ left (verdictOf (hands (selfIn b) (bookIn b))) (handBytes b) b)
+    unfolding handBytes recordIn
+    hand-done w ev g =
+        accepted-by (hands (selfIn b) (bookIn b)) (handBytes b) b ev _ (hand-ruled ∙ w)
+        (rw (g ∙ ap (λ (z : Current). itemEvent b (inwardAt (z .side)) (z .handed .0) 9 z) loaded) (hand-event b))
+        (ap (λ (z : Current). set b handedAt (z .handed .0 + 1)) loaded)
 
   -- ---- safe
 
-  module _ (e : s ≡ safeTurn (membersIn b) h (getD b (inwardAt (h .side)) 0)) where
-    safe-turned : s ≡ stepped (verdictOf (safes (membersIn b) (selfIn b) (bookIn b))) (reportedNow (recordIn b)) (recordIn b)
-    unfolding safeTurn recordIn
-    safe-turned =
-        e ∙ ap (λ (z : Record). safeTurn (membersIn b) z (getD b (inwardAt (z .side)) 0)) loaded
-        ∙ ap (λ (v : Verdict). stepped v (reportedNow (recordIn b)) (recordIn b)) (safe-rule b)
+  module _ (e : v ≡ safeVerdict (membersIn b) h (getD b (inwardAt (h .side)) 0)) where
+    safe-ruled : verdictOf (safes (membersIn b) (selfIn b) (bookIn b)) ≡ v
+    unfolding recordIn
+    safe-ruled = safe-rule b ∙ sym (e ∙ ap (λ (z : Current). safeVerdict (membersIn b) z (getD b (inwardAt (z .side)) 0)) loaded)
 
-    pub safe-few : s .book .opens .count ≤ maxOpen
-    safe-few = rw safe-turned (stepped-few (verdictOf (safes (membersIn b) (selfIn b) (bookIn b))) _ _ (record-few b) (record-few b))
+    pub safe-refused : (y : Refusal) (r : Reply) → v ≡ Refused y → r ≡ replied (Refused y) noEvent
+        → (r ≡ replyOf (safes (membersIn b) (selfIn b) (bookIn b))) × (b ≡ left (verdictOf (safes (membersIn b) (selfIn b) (bookIn b))) (safeBytes b) b)
+    safe-refused y r w = refused-by (safes (membersIn b) (selfIn b) (bookIn b)) y (safeBytes b) b r (safe-ruled ∙ w)
 
-    pub safe-done : (ev : Event) → ev ≡ itemEvent b (inwardAt (h .side)) (h .reported .0) 11 h
-        → (x : Reply) (y : List ℕ) → (x ≡ replied (s .verdict) ev) × (y ≡ left (s .verdict) (storeRecord b (s .book)) b)
-        → (x ≡ replyOf (safes (membersIn b) (selfIn b) (bookIn b))) × (y ≡ left (verdictOf (safes (membersIn b) (selfIn b) (bookIn b))) (safeBytes b) b)
-    unfolding safeBytes
-    safe-done ev g =
-        committed b h loaded (safes (membersIn b) (selfIn b) (bookIn b)) reportedNow (λ (z : Record). itemEvent b (inwardAt (z .side)) (z .reported .0) 11 z) b (safeBytes b)
-        s safe-turned ev g (safe-event b) refl
+    pub safe-there : v ≡ Accepted → h .reported .0 < getD b (inwardAt (h .side)) 0
+    unfolding recordIn
+    safe-there w =
+        let k = accepted-holds (safes (membersIn b) (selfIn b) (bookIn b)) (safe-some b (selfIn b) (membersIn b)) (safe-ruled ∙ w) .1 .1 in
+        rw loaded (omega (arith, k, length-inward b (getD b sideAt 0)))
 
-  -- ---- collect
+    pub safe-done : v ≡ Accepted → (ev : Event) → ev ≡ itemEvent b (inwardAt (h .side)) (h .reported .0) 11 h
+        → (record { verdict = Accepted; event = ev } ≡ replyOf (safes (membersIn b) (selfIn b) (bookIn b)))
+        × (set b reportedAt (h .reported .0 + 1) ≡ left (verdictOf (safes (membersIn b) (selfIn b) (bookIn b))) (safeBytes b) b)
+    unfolding safeBytes recordIn
+    safe-done w ev g =
+        accepted-by (safes (membersIn b) (selfIn b) (bookIn b)) (safeBytes b) b ev _ (safe-ruled ∙ w)
+        (rw (g ∙ ap (λ (z : Current). itemEvent b (inwardAt (z .side)) (z .reported .0) 11 z) loaded) (safe-event b))
+        (ap (λ (z : Current). set b reportedAt (z .reported .0 + 1)) loaded)
 
-  module _ (e : s ≡ collectTurn (membersIn b) h) where
-    collect-turned : s ≡ stepped (verdictOf (collects (membersIn b) (bookIn b))) (settledAs (recordIn b .carrier .view) (recordIn b)) (recordIn b)
-    unfolding collectTurn
-    collect-turned =
-        e ∙ ap (λ (z : Record). collectTurn (membersIn b) z) loaded
-        ∙ ap (λ (v : Verdict). stepped v (settledAs (recordIn b .carrier .view) (recordIn b)) (recordIn b)) (collect-rule b)
+-- ---- collect
 
-    pub collect-few : s .book .opens .count ≤ maxOpen
-    collect-few = rw collect-turned (stepped-few (verdictOf (collects (membersIn b) (bookIn b))) _ _ (settled-few b) (record-few b))
+module _ (b : List ℕ) (h : Record) (loaded : h ≡ recordIn b) (s : Stepped) (e : s ≡ collectTurn (membersIn b) h) where
+  collect-turned : s ≡ stepped (verdictOf (collects (membersIn b) (bookIn b))) (settledAs (recordIn b .carrier .view) (recordIn b)) (recordIn b)
+  unfolding collectTurn
+  collect-turned =
+      e ∙ ap (λ (z : Record). collectTurn (membersIn b) z) loaded
+      ∙ ap (λ (v : Verdict). stepped v (settledAs (recordIn b .carrier .view) (recordIn b)) (recordIn b)) (collect-rule b)
 
-    pub collect-done : (ev : Event) → ev ≡ noEvent
-        → (x : Reply) (y : List ℕ) → (x ≡ replied (s .verdict) ev) × (y ≡ left (s .verdict) (storeRecord b (s .book)) b)
-        → (x ≡ replyOf (collects (membersIn b) (bookIn b))) × (y ≡ left (verdictOf (collects (membersIn b) (bookIn b))) (collectBytes b) b)
-    unfolding collectBytes
-    collect-done ev g =
-        committed b h loaded (collects (membersIn b) (bookIn b)) (λ (z : Record). settledAs (z .carrier .view) z) (λ (z : Record). noEvent) b (collectBytes b)
-        s collect-turned ev g (collect-event b) refl
+  pub collect-few : s .book .opens .count ≤ maxOpen
+  collect-few = rw collect-turned (stepped-few (verdictOf (collects (membersIn b) (bookIn b))) _ _ (settled-few b) (record-few b))
+
+  pub collect-done : (ev : Event) → ev ≡ noEvent
+      → (x : Reply) (y : List ℕ) → (x ≡ replied (s .verdict) ev) × (y ≡ left (s .verdict) (storeRecord b (s .book)) b)
+      → (x ≡ replyOf (collects (membersIn b) (bookIn b))) × (y ≡ left (verdictOf (collects (membersIn b) (bookIn b))) (collectBytes b) b)
+  unfolding collectBytes
+  collect-done ev g =
+      committed b (collects (membersIn b) (bookIn b)) _ _ (collectBytes b) s collect-turned ev (rw g (collect-event b)) refl

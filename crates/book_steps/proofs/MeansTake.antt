@@ -1,40 +1,39 @@
 -- The bytes after a message was taken mean the rule's book, for each of the four messages.
-use mathlib.Core.Path.{_≡_, refl, sym, ap, _∙_}
+use mathlib.Core.Path.{_≡_, refl}
 use mathlib.Core.Logic.{⊎-elim}
 use mathlib.Core.Bool.{true, false}
 use mathlib.Core.List.{List, _∷_}
 use Prim.Native.Nat.{ℕ, suc, _+_, _-_, _^_, _≤_, _<_}
 use native.Mathlib.Omega.{arith}
 use borrow.Author.Tests.{eq-eqb, leb-true}
-use lib.ListN.{length, getD, set}
+use lib.ListN.{length, getD}
 use Rattle.views.specs.declared.View.{View}
 use Rattle.views.specs.Limits.{maxMembers, maxOpen, maxOrdered}
-use Rattle.views.specs.Lists.{listOf, placed}
 use Rattle.views.proofs.SetLaws.{known}
 use Rattle.views.proofs.PlaceLaws.{list-placed}
 use Rattle.wire.proofs.TripViews.{ViewFits, EachFits, AreBytes}
 use Rattle.rules.specs.Data.{Message, client, info, registered, told}
-use Rattle.rules.specs.Member.{clientIsCarrier, learned, delivered}
+use Rattle.rules.specs.Member.{clientIsCarrier, learned, received, delivered}
 use Rattle.rules.specs.Sound.{limitAt, carrierInward, bookCounts}
 use Rattle.rules.specs.Alone.{viewsOf, bookSound}
 use Rattle.rules.proofs.TestLaws.{conditions-say}
 use Rattle.slots.proofs.Stored.{MessageFits}
-use Rattle.slots.proofs.BytesKept.{SetsAreBytes, set-bytes}
+use Rattle.slots.proofs.BytesKept.{SetsAreBytes}
 use Rattle.book_bytes.specs.declared.Seat.{Seat}
 use Rattle.book_bytes.specs.declared.Record.{Record}
+use Rattle.book_bytes.specs.declared.Held.{Held}
 use Rattle.book_bytes.specs.Places.{carrierAt, takenAt, sideAt, inwardAt}
 use Rattle.book_bytes.specs.Records.{seated, recordIn}
 use Rattle.book_bytes.specs.Books.{outgoingIn, bookIn, bytesSound}
 use Rattle.book_bytes.proofs.LayoutLaws.{Layout}
 use Rattle.book_bytes.proofs.Fits.{Fits}
-use Rattle.book_bytes.proofs.RecordBytes.{tolds-bytes}
 use Rattle.book_bytes.proofs.InwardBooks.{length-inward}
-use Rattle.record_steps.specs.Turns.{bookOf, clientTurn, infoTurn, registeredTurn, toldTurn}
-use Rattle.record_steps.proofs.MeaningTaken.{info-book, registered-book, told-book, client-book-own, client-book-new}
-use Rattle.book_steps.specs.Acts.{gaining, takeBytes}
+use Rattle.record_steps.proofs.MeaningNotes.{one-noted, one-told}
+use Rattle.book_steps.specs.Acts.{gaining, heldAfter, takeBytes}
 use Rattle.book_steps.proofs.Committed.{sound-layout}
-use Rattle.book_steps.proofs.Means.{Means, means-as, sound-fits, ownIn, newIn, queues-kept, stores, gains-own, gains-new}
-use Rattle.book_steps.proofs.TurnFits.{client-turn-fits, registered-turn-fits, told-turn-fits, info-turn-fits}
+use Rattle.book_steps.proofs.Means.{Means, means-as, sound-fits, ownIn, newIn, Stands, queues-kept, gains-own, gains-new}
+use Rattle.book_steps.proofs.MeansRecord.{more-stands, info-stands, registration-stands, told-stands, held-stands}
+use Rattle.book_steps.proofs.TurnFits.{opens-each, with-fits, learned-fits}
 
 -- the count that a message tells, 0 for none
 abbrev pub toldOf : Message → ℕ
@@ -76,57 +75,54 @@ module _ (b : List ℕ) (bytes : AreBytes b) (sound : bytesSound b ≡ true) whe
     unfolding recordIn
     one-more = omega arith
 
+    -- the bytes before the step
+    first : Stands b b h (outgoingIn b) (ownIn b) (newIn b)
+    first = queues-kept b layout bytes
+
     -- ---- client
 
     take-client : (x : ℕ) → x < 256 ^ 8 → Means b (takeBytes q (client x) b) (delivered q (client x) (bookIn b))
-    unfolding takeBytes bookIn clientTurn
+    unfolding takeBytes bookIn delivered received
     take-client x w =
         let behind = inward-behind there in
-        let turned : Fits (clientTurn h) = client-turn-fits h fits one-more in
-        let tolds : AreBytes (h .tolds) = tolds-bytes b bytes in
         ⊎-elim
         (λ (t : clientIsCarrier (bookIn b) ≡ true).
         let short : length (ownIn b) ≤ getD b takenAt 0 = rw t at behind in
         let few : getD b (inwardAt (getD b sideAt 0)) 0 < maxOrdered = omega (arith, length-inward b (getD b sideAt 0), short) in
         let place : gaining b ≡ inwardAt (getD b sideAt 0) = rw t in
-        rw place (means-as (sym (client-book-own h (outgoingIn b) (ownIn b) (newIn b) q x t))
-        (stores (gains-own b layout bytes q x (omega arith) w few) (clientTurn h) turned tolds refl)))
+        rw (place, t) (more-stands (gains-own b layout bytes q x (omega arith) w few) one-more .means))
         (λ (t : clientIsCarrier (bookIn b) ≡ false).
         let short : length (newIn b) ≤ getD b takenAt 0 = rw t at behind in
         let few : getD b (inwardAt (1 - getD b sideAt 0)) 0 < maxOrdered = omega (arith, length-inward b (1 - getD b sideAt 0), short) in
         let place : gaining b ≡ inwardAt (1 - getD b sideAt 0) = rw t in
-        rw place (means-as (sym (client-book-new h (outgoingIn b) (ownIn b) (newIn b) q x t))
-        (stores (gains-new b layout bytes q x (omega arith) w few) (clientTurn h) turned tolds refl)))
+        rw (place, t) (more-stands (gains-new b layout bytes q x (omega arith) w few) one-more .means))
         (known (clientIsCarrier (bookIn b)))
 
     -- ---- info
 
     take-info : (v : View) (l : List View) → MessageFits (info v l) → SetsAreBytes (v ∷ l) → length (delivered q (info v l) (bookIn b) .held .opens) ≤ maxOpen
         → Means b (takeBytes q (info v l) b) (delivered q (info v l) (bookIn b))
-    unfolding takeBytes bookIn infoTurn delivered
+    unfolding takeBytes bookIn delivered heldAfter
     take-info v l w sets few =
-        let back : listOf (placed l) ≡ l = list-placed l (omega (arith, w .few)) in
-        let first : ViewFits v = record { id = w .ids 0; set = sets 0 } in
-        let each : EachFits (listOf (placed l)) = rw back (λ (j : ℕ). record { id = w .ids (suc j); set = sets (suc j) }) in
-        let short : length (learned v (listOf (placed l)) (bookOf h 0 0 .held) .opens) ≤ maxOpen = rw back few in
-        let is = info-book h (outgoingIn b) (ownIn b) (newIn b) q v (placed l) (omega (arith, short)) in
-        means-as (sym (is ∙ ap (λ (k : List View). delivered q (info v k) (bookIn b)) back))
-        (stores (queues-kept b layout bytes) (infoTurn q v (placed l) h)
-        (info-turn-fits h fits one-more q member v (placed l) first each short) (tolds-bytes b bytes) refl)
+        let x : Held = heldAfter v l b in
+        let start : ViewFits v = record { id = w .ids 0; set = sets 0 } in
+        let each : EachFits l = λ (j : ℕ). record { id = w .ids (suc j); set = sets (suc j) } in
+        let fit = learned-fits v l (bookIn b .held) start each (fits .settled) (opens-each h fits) few in
+        let noted = info-stands (held-stands first x (fit .0) (fit .1)) q (with-fits q (h .infos) member (fits .infos)) in
+        means-as (rw (one-noted q (h .infos), list-placed (learned v l (bookIn b .held) .opens) (omega (arith, few))) refl) (more-stands noted one-more .means)
 
     -- ---- registered, told
 
     take-registered : Means b (takeBytes q registered b) (delivered q registered (bookIn b))
-    unfolding takeBytes bookIn registeredTurn
+    unfolding takeBytes bookIn delivered
     take-registered =
-        means-as (sym (registered-book h (outgoingIn b) (ownIn b) (newIn b) q))
-        (stores (queues-kept b layout bytes) (registeredTurn q h) (registered-turn-fits h fits one-more q member) (tolds-bytes b bytes) refl)
+        let noted = registration-stands first q (with-fits q (h .registrations) member (fits .registrations)) in
+        means-as (rw (one-noted q (h .registrations)) refl) (more-stands noted one-more .means)
 
     take-told : (k : ℕ) → k < 256 → Means b (takeBytes q (told k) b) (delivered q (told k) (bookIn b))
-    unfolding takeBytes bookIn toldTurn
+    unfolding takeBytes bookIn delivered
     take-told k w =
-        means-as (sym (told-book h (outgoingIn b) (ownIn b) (newIn b) q k (omega (arith, fits .tolds))))
-        (stores (queues-kept b layout bytes) (toldTurn q k h) (told-turn-fits h fits one-more q member k) (set-bytes (h .tolds) q k (tolds-bytes b bytes) w) refl)
+        means-as (rw (one-told (h .tolds) q k (omega (arith, fits .tolds))) refl) (more-stands (told-stands first q k member w) one-more .means)
 
   -- ---- any message
 

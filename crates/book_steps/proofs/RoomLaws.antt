@@ -1,42 +1,42 @@
 -- The inward list that gains a client message: where it lies, and that a sound book with less than 128 taken has room for one item more in it.
-use mathlib.Core.Path.{_≡_, refl, _∙_}
+use mathlib.Core.Path.{_≡_, refl, ap, ap₂, _∙_}
 use mathlib.Core.Bool.{Bool, true, false, cond}
 use mathlib.Core.List.{List}
 use Prim.Native.Nat.{ℕ, _+_, _-_, _*_, _≤_, _<_}
 use native.Mathlib.Omega.{arith}
 use borrow.Author.Tests.{leb-true, eq-eqb}
+use lib.Dec.{eqb}
 use lib.ListN.{length, getD}
 use Rattle.views.specs.Limits.{maxOrdered}
+use Rattle.rules.specs.Data.{rank}
 use Rattle.rules.specs.Member.{clientIsCarrier}
 use Rattle.rules.specs.Sound.{limitAt, carrierInward, bookCounts}
 use Rattle.rules.specs.Alone.{bookSound}
 use Rattle.rules.proofs.TestLaws.{conditions-say}
 use Rattle.slots.specs.Slots.{itemSize}
 use Rattle.book_bytes.specs.declared.Seat.{Seat}
-use Rattle.book_bytes.specs.declared.Record.{Record}
-use Rattle.book_bytes.specs.Places.{carrierAt, takenAt, sideAt, inwardAt, bookSize}
-use Rattle.book_bytes.specs.Records.{seated, recordIn}
+use Rattle.book_bytes.specs.Places.{carrierAt, clientAt, takenAt, sideAt, inwardAt, bookSize}
+use Rattle.book_bytes.specs.Records.{seated, seatIn, recordIn}
 use Rattle.book_bytes.specs.Books.{inwardIn, bookIn, bytesSound}
 use Rattle.book_bytes.proofs.InwardBooks.{length-inward}
-use Rattle.record_steps.specs.Turns.{bookOf}
 use Rattle.book_steps.specs.Acts.{gaining}
-use Rattle.book_steps.specs.ArrivalParts.{gainingOf}
-use Rattle.book_steps.proofs.Answers.{side-in}
 
 -- ---- where it lies
 
-pub gaining-in : (b : List ℕ) → gaining b ≡ gainingOf (recordIn b)
-unfolding bookIn gainingOf
-gaining-in b = rw (side-in b)
+-- by the two views, compared by identifier
+pub gaining-is : (b : List ℕ) (client carrier : Seat) (t : Bool) (r : ℕ) → client ≡ seatIn b clientAt → carrier ≡ seatIn b carrierAt
+    → t ≡ eqb (rank (seated client)) (rank (seated carrier)) → r ≡ inwardAt (cond t (getD b sideAt 0) (1 - getD b sideAt 0)) → r ≡ gaining b
+unfolding bookIn recordIn
+gaining-is b client carrier t r e f g h =
+    h ∙ ap (λ (x : Bool). inwardAt (cond x (getD b sideAt 0) (1 - getD b sideAt 0))) (g ∙ ap₂ (λ (x y : Seat). eqb (rank (seated x)) (rank (seated y))) e f)
 
 -- either inward list lies within the book
 side-fits : (t : Bool) (s : ℕ) → s ≤ 1 → inwardAt (cond t s (1 - s)) + 1 + itemSize * maxOrdered ≤ bookSize
 side-fits true s h = omega arith
 side-fits false s h = omega arith
 
-pub gaining-fits : (h : Record) → h .side ≤ 1 → gainingOf h + 1 + itemSize * maxOrdered ≤ bookSize
-unfolding gainingOf
-gaining-fits h s = side-fits (clientIsCarrier (bookOf h 0 0)) (h .side) s
+pub gaining-fits : (b : List ℕ) → getD b sideAt 0 ≤ 1 → gaining b + 1 + itemSize * maxOrdered ≤ bookSize
+gaining-fits b s = side-fits (clientIsCarrier (bookIn b)) (getD b sideAt 0) s
 
 -- ---- how long it is
 
@@ -69,6 +69,5 @@ unfolding bookIn
 carrier-length b c =
     limit-there (recordIn b .carrier) (carrierInward (bookIn b)) (carrier-there b c) ∙ side-length b (clientIsCarrier (bookIn b)) (getD b sideAt 0)
 
-pub gain-room : (b : List ℕ) → bytesSound b ≡ true → getD b carrierAt 0 ≡ 1 → getD b takenAt 0 < maxOrdered
-    → (h : Record) → h ≡ recordIn b → getD b (gainingOf h) 0 < maxOrdered
-gain-room b s c t h loaded = rw (loaded, ← gaining-in b) (omega (arith, inward-taken b s, carrier-length b c, taken-ruled b))
+pub gain-room : (b : List ℕ) → bytesSound b ≡ true → getD b carrierAt 0 ≡ 1 → getD b takenAt 0 < maxOrdered → getD b (gaining b) 0 < maxOrdered
+gain-room b s c t = omega (arith, inward-taken b s, carrier-length b c, taken-ruled b)

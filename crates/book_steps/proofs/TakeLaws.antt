@@ -1,140 +1,191 @@
--- A message taken: the record after it has as many views open as the rule's book, so the verdict is the rule's; the bytes are those of the rule.
+-- A message taken: the reply and the bytes are those of the rule, for each of the four messages.
 use mathlib.Core.Path.{_≡_, refl, sym, ap, _∙_}
 use mathlib.Core.Logic.{⊎-elim}
-use mathlib.Core.Bool.{Bool, true, false}
-use mathlib.Core.List.{List, [], _∷_}
-use Prim.Native.Nat.{ℕ, _+_, _≤_, min}
+use mathlib.Core.Bool.{true, false}
+use mathlib.Core.List.{List, []}
+use Prim.Native.Nat.{ℕ, zero, suc, _+_, _-_, _*_, _≤_, _<_, min}
+use native.Mathlib.Nat.{add-zero}
 use native.Mathlib.Omega.{arith}
-use lib.Dec.{leb}
-use lib.ListN.{length, getD, drop, length-drop, length-take}
+use borrow.Author.Tests.{le-leb, lt-leb}
+use lib.ListN.{length, getD, set, length-take, take-append-drop}
+use lib.Seq.{set-getD}
+use Rattle.numbers.specs.Number.{put}
 use Rattle.views.specs.declared.View.{View}
 use Rattle.views.specs.declared.list.Views.{Views}
-use Rattle.views.specs.declared.refusal.Refusal.{Refusal}
 use Rattle.views.specs.declared.refusal.Refusal.the-variants.{TooManyOpen}
-use Rattle.views.specs.declared.refusal.Verdict.the-variants.{Accepted}
-use Rattle.views.specs.Limits.{maxViews, maxOpen}
-use Rattle.views.specs.Refusals.{require, left}
-use Rattle.views.specs.Lists.{noView, listOf, placed}
+use Rattle.views.specs.declared.refusal.Verdict.the-variants.{Accepted, Refused}
+use Rattle.views.specs.Limits.{maxOpen, maxOrdered}
+use Rattle.views.specs.Refusals.{left}
+use Rattle.views.specs.Lists.{listOf, placed, unionOf, aboveOf}
 use Rattle.views.proofs.SetLaws.{known}
-use Rattle.views.proofs.PlaceLaws.{list-placed}
 use Rattle.wire.specs.declared.Message.{Message as Carried}
-use Rattle.wire.specs.declared.Message.the-variants.{Client, Info, Registered, Told}
-use Rattle.wire.proofs.ReaderLaws.{list-viewsIn}
-use Rattle.rules.specs.Data.{Member, Message, client, Held, Book as Ruled, accepted, need as needed, after}
-use Rattle.rules.specs.Member.{Done, clientIsCarrier, delivered}
-use Rattle.rules.specs.Alone.{messageOf}
-use Rattle.rules.proofs.Holding.{Holds, gives, need-holds}
-use Rattle.book_bytes.specs.declared.Record.{Record}
-use Rattle.book_bytes.specs.Places.{opensAt}
-use Rattle.book_bytes.specs.Records.{recordIn, storeRecord}
+use Rattle.wire.specs.Reader.{viewIn, viewsIn}
+use Rattle.wire.specs.Format.{viewsBytes}
+use Rattle.wire.specs.Writer.{storeView, storeViews}
+use Rattle.wire.proofs.ReaderLaws.{length-viewsIn, list-viewsIn}
+use Rattle.rules.specs.Data.{Member, Message, client, info, registered, told, Book as Ruled, need, after}
+use Rattle.rules.specs.Member.{clientIsCarrier, settledBy, learned, delivered}
+use Rattle.rules.specs.Alone.{infoOf, messageOf}
+use Rattle.book_bytes.specs.declared.Held.{Held}
+use Rattle.slots.specs.Changes.{gained}
+use Rattle.slots.specs.Slots.{itemSize}
+use Rattle.slots.proofs.Outside.{set-changed, put-changed, storeView-changed, storeViews-changed}
+use Rattle.book_bytes.specs.Places.{settledAt, takenAt, infosAt, registrationsAt, toldsAt, opensAt, bookSize}
+use Rattle.book_bytes.specs.Records.{recordIn, heldIn, storeOpens, storeHeld}
 use Rattle.book_bytes.specs.Books.{bookIn}
-use Rattle.record_steps.specs.declared.Stepped.{Stepped}
-use Rattle.record_steps.specs.Turns.{stepped, clientTurn, infoTurn, registeredTurn, toldTurn}
+use Rattle.record_steps.specs.Turns.{learnedBy}
 use Rattle.events.specs.declared.Reply.{Reply}
-use Rattle.events.specs.Replies.{noEvent, eventOf, replied, replyOf, verdictOf}
-use Rattle.book_steps.specs.Acts.{fewOpen, taking, takeBytes}
-use Rattle.book_steps.specs.ArrivalParts.{turned, gainingOf, gainedBy}
-use Rattle.book_steps.specs.LentParts.{fewTaken}
-use Rattle.book_steps.proofs.Answers.{quiet-by}
-use Rattle.book_steps.proofs.RoomLaws.{gaining-in}
-use Rattle.book_steps.proofs.LentLaws.{few-verdict, few-book, kept-open}
+use Rattle.events.specs.Replies.{noEvent, replied}
+use Rattle.book_steps.specs.Acts.{fewOpen, gaining, oneMore, noted, heldAfter, takeBytes}
+use Rattle.book_steps.specs.ArrivalParts.{Took}
+use Rattle.book_steps.proofs.Committed.{record-few}
 
--- ---- the record after an info: the settled view and the open views are taken from its list
+-- ---- the verdict: 43, or the message is taken
 
-pub info-turned : (q : Member) (l : List View) (h : Record) (x : View) (o : Views) (s : Stepped) → x ≡ getD l 0 noView → o ≡ placed (drop 1 l)
-    → s ≡ fewTaken (infoTurn q x o h) h → s ≡ fewTaken (turned q Info l h) h
-unfolding turned
-info-turned q l h x o s f g k = k ∙ ap (λ (z : View). fewTaken (infoTurn q z o h) h) f ∙ ap (λ (z : Views). fewTaken (infoTurn q (getD l 0 noView) z h) h) g
+module _ (q : Member) (m : Message) (b : List ℕ) (r : Reply) where
+  took : length (delivered q m (bookIn b) .held .opens) ≤ maxOpen → r ≡ replied Accepted noEvent → (d : List ℕ) → d ≡ takeBytes q m b → Took q m b d r
+  unfolding fewOpen after need replied left
+  took few e d f = rw (le-leb _ _ few) (e, f)
 
--- the record after one of the other three: its open views stay
-module _ (q : Member) (m : Carried) (l : List View) (h : Record) (few : h .opens .count ≤ maxOpen) (next : Record) (s : Stepped) (e : s ≡ stepped Accepted next next) where
-  pub client-taken : (x : ℕ) → m ≡ Client x → next ≡ clientTurn h → s ≡ fewTaken (turned q m l h) h
-  unfolding turned clientTurn
-  client-taken x f g = rw (f, ← g) (kept-open next h s e (rw g few))
+  over : maxOpen < length (delivered q m (bookIn b) .held .opens) → r ≡ replied (Refused TooManyOpen) noEvent → Took q m b b r
+  unfolding fewOpen after need replied left
+  over many e = rw (lt-leb _ _ many) (e, refl)
 
-  pub registered-taken : m ≡ Registered → next ≡ registeredTurn q h → s ≡ fewTaken (turned q m l h) h
-  unfolding turned registeredTurn
-  registered-taken f g = rw (f, ← g) (kept-open next h s e (rw g few))
+-- ---- there is room to count one message more, also after what comes before that
 
-  pub told-taken : (k : ℕ) → m ≡ Told k → next ≡ toldTurn q k h → s ≡ fewTaken (turned q m l h) h
-  unfolding turned toldTurn
-  told-taken k f g = rw (f, ← g) (kept-open next h s e (rw g few))
+abbrev Ready : List ℕ → Type 0
+Ready b = (bookSize ≤ length b) × (getD b takenAt 0 < maxOrdered)
 
--- a list without its first leaves 31
-pub rest-few : (l o : Views) → length (l .at) ≡ maxViews → o ≡ placed (drop 1 (listOf l)) → o .count ≤ maxOpen
-rest-few l o e f = rw f (omega (arith, length-drop 1 (listOf l), length-take (l .count) (l .at)))
+ready-kept : (b d : List ℕ) → length d ≡ length b → getD d takenAt 0 ≡ getD b takenAt 0 → Ready b → Ready d
+ready-kept b d e f (size, room) = (rw e size, rw f room)
 
--- ---- views open after the message
+pub set-long : (b d : List ℕ) (i x : ℕ) → d ≡ oneMore (set b i x) → length d ≡ length b
+unfolding oneMore
+set-long b d i x e = let c = set b i x in ap length e ∙ set-changed c takenAt (getD c takenAt 0 + 1) .long ∙ set-changed b i x .long
 
--- a record read from bytes counts its open views
-opens-counted : (b : List ℕ) → length (listOf (recordIn b .opens)) ≡ recordIn b .opens .count
-unfolding recordIn
-opens-counted b = ap length (list-viewsIn b (opensAt + 1) (min (getD b opensAt 0) maxOpen) (omega arith))
+module _ (b d : List ℕ) (r : Ready b) where
+  pub set-ready : (i x : ℕ) → takenAt < i → d ≡ set b i x → Ready d
+  set-ready i x l e = rw e (ready-kept b (set b i x) (set-changed b i x .long) (set-changed b i x .below takenAt l) r)
 
-held-in : (b : List ℕ) → length (bookIn b .held .opens) ≡ recordIn b .opens .count
-unfolding bookIn
-held-in b = opens-counted b
+  pub gained-ready : (c q x : ℕ) → takenAt < c → d ≡ gained b c q x → Ready d
+  unfolding gained
+  gained-ready c q x l e =
+      let place = c + 1 + itemSize * getD b c 0 in
+      let sent = set b place q in
+      let wrote = put sent (place + 1) 8 x in
+      let first = set-changed b place q in
+      let second = put-changed sent (place + 1) 8 x in
+      let third = set-changed wrote c (getD b c 0 + 1) in
+      rw e (ready-kept b (set wrote c (getD b c 0 + 1)) (third .long ∙ second .long ∙ first .long)
+      (third .below takenAt l ∙ second .below takenAt (omega arith) ∙ first .below takenAt (omega arith)) r)
+
+  pub settled-ready : (v : View) → d ≡ storeView b settledAt v → Ready d
+  settled-ready v e =
+      let x = storeView-changed b settledAt v in rw e (ready-kept b (storeView b settledAt v) (x .long) (x .past takenAt (omega arith)) r)
+
+  pub held-ready : (h : Held) → h .opens .count ≤ maxOpen → d ≡ storeHeld b h → Ready d
+  unfolding storeHeld storeOpens
+  held-ready h few e =
+      let settled = storeView b settledAt (h .settled) in
+      let counted = set settled opensAt (h .opens .count) in
+      let first = storeView-changed b settledAt (h .settled) in
+      let second = set-changed settled opensAt (h .opens .count) in
+      let third = storeViews-changed counted (opensAt + 1) (listOf (h .opens)) (omega (arith, r .0, first .long, second .long, length-take (h .opens .count) (h .opens .at))) in
+      rw e (ready-kept b (storeViews counted (opensAt + 1) (listOf (h .opens))) (third .long ∙ second .long ∙ first .long)
+      (third .below takenAt (omega arith) ∙ second .below takenAt (omega arith) ∙ first .past takenAt (omega arith)) r)
+
+-- ---- client, registered, told: the views held stay
+
+held-few : (b : List ℕ) → length (bookIn b .held .opens) ≤ maxOpen
+unfolding bookIn recordIn
+held-few b =
+    let n = min (getD b opensAt 0) maxOpen in
+    rw (list-viewsIn b (opensAt + 1) n (omega arith)) (omega (arith, length-viewsIn b (opensAt + 1) n))
 
 client-held : (q x : ℕ) (b : Ruled) → delivered q (client x) b .held ≡ b .held
 unfolding delivered
 client-held q x b =
     ⊎-elim (λ (t : clientIsCarrier b ≡ true). rw t) (λ (t : clientIsCarrier b ≡ false). rw t) (known (clientIsCarrier b))
 
-taken-opens : (q : Member) (m : Carried) (l : List View) (b : List ℕ) → length l ≤ maxViews
-    → turned q m l (recordIn b) .opens .count ≡ length (delivered q (messageOf m l) (bookIn b) .held .opens)
-unfolding turned clientTurn infoTurn registeredTurn toldTurn delivered bookIn
-taken-opens q (Client x) l b h = sym (ap (λ (z : Held). length (z .opens)) (client-held q x (bookIn b)) ∙ held-in b)
-taken-opens q Info [] b h = refl
-taken-opens q Info (v ∷ l) b h = rw (list-placed l (omega arith))
-taken-opens q Registered l b h = sym (held-in b)
-taken-opens q (Told k) l b h = sym (held-in b)
+module _ (q : Member) (b : List ℕ) (r : Reply) (e : r ≡ replied Accepted noEvent) (d : List ℕ) where
+  pub took-client : (x : ℕ) → d ≡ oneMore (gained b (gaining b) q x) → Took q (client x) b d r
+  unfolding takeBytes
+  took-client x f = took q (client x) b r (rw (client-held q x (bookIn b)) (held-few b)) e d f
 
--- ---- the verdict: 43, or the message is taken
+  pub took-registered : d ≡ oneMore (noted registrationsAt q b) → Took q registered b d r
+  unfolding takeBytes delivered
+  took-registered f = took q registered b r (held-few b) e d f
 
-need-verdict : (t : Bool) (r : Refusal) (d : Done) → require t r Accepted ≡ verdictOf (needed t r (accepted d))
-unfolding require needed
-need-verdict true r d = refl
-need-verdict false r d = refl
+  pub took-told : (k : ℕ) → d ≡ oneMore (set b (toldsAt + q) k) → Took q (told k) b d r
+  unfolding takeBytes delivered
+  took-told k f = took q (told k) b r (held-few b) e d f
 
-module _ (q : Member) (m : Message) (b : Ruled) where
-  take-verdict : require (leb (length (delivered q m b .held .opens)) maxOpen) TooManyOpen Accepted ≡ verdictOf (taking q m b)
-  unfolding fewOpen after
-  take-verdict = need-verdict _ _ _
+-- ---- info
 
-  take-quiet : Holds (λ (z : Done). eventOf (z .answer) ≡ noEvent) (taking q m b)
-  unfolding fewOpen after
-  take-quiet = need-holds _ _ _ (λ t. gives refl)
+-- at most 31 were loaded of either side
+pub held-few-in : (b : List ℕ) (h : Held) → h ≡ heldIn b → h .opens .count ≤ maxOpen
+held-few-in b h e = rw e (record-few b)
 
--- ---- the bytes
+pub views-few-in : (list : List ℕ) (from n : ℕ) (l : Views) → l ≡ placed (viewsIn list from n) → n ≤ maxOpen → l .count ≤ maxOpen
+views-few-in list from n l e few = rw e (omega (arith, length-viewsIn list from n))
 
-taken-bytes : (q : Member) (m : Carried) (l : List View) (b : List ℕ)
-    → storeRecord (gainedBy m (gainingOf (recordIn b)) q b) (turned q m l (recordIn b)) ≡ takeBytes q (messageOf m l) b
-unfolding takeBytes turned gainedBy
-taken-bytes q (Client x) l b = rw (gaining-in b)
-taken-bytes q Info [] b = refl
-taken-bytes q Info (v ∷ l) b = refl
-taken-bytes q Registered l b = refl
-taken-bytes q (Told k) l b = refl
+-- what is held after it, loaded and turned by value
+pub held-turned : (b list : List ℕ) (from n : ℕ) (x : View) (l : Views) (h next : Held) → n ≤ maxOpen → h ≡ heldIn b → l ≡ placed (viewsIn list from n)
+    → next ≡ learnedBy x l h → next ≡ heldAfter x (viewsIn list from n) b
+unfolding learnedBy heldAfter bookIn
+held-turned b list from n x l h next few e f g = rw (g, f, e, list-viewsIn list from n (omega arith))
 
--- ---- what the code has at hand
+module _ (q : Member) (v : View) (l : List View) (b : List ℕ) (next : Held) (e : next ≡ heldAfter v l b) (r : Reply) where
+  counted : next .opens .count ≡ length (delivered q (info v l) (bookIn b) .held .opens)
+  unfolding heldAfter delivered
+  counted = ap (λ (h : Held). h .opens .count) e
 
-module _ (b : List ℕ) (h : Record) (loaded : h ≡ recordIn b) (q : Member) (m : Carried) (l : List View) (short : length l ≤ maxViews) (s : Stepped) (e : s ≡ fewTaken (turned q m l h) h) where
-  take-turned : turned q m l h ≡ turned q m l (recordIn b)
-  take-turned = ap (turned q m l) loaded
+  pub took-info : next .opens .count ≤ maxOpen → r ≡ replied Accepted noEvent → (d : List ℕ) → d ≡ oneMore (noted infosAt q (storeHeld b next)) → Took q (info v l) b d r
+  unfolding takeBytes
+  took-info few f d g = took q (info v l) b r (omega (arith, counted)) f d (g ∙ ap (λ (h : Held). oneMore (noted infosAt q (storeHeld b h))) e)
 
-  take-ruled : s .verdict ≡ verdictOf (taking q (messageOf m l) (bookIn b))
-  take-ruled =
-      few-verdict (turned q m l h) h s e
-      ∙ ap (λ (k : ℕ). require (leb k maxOpen) TooManyOpen Accepted) (ap (λ (z : Record). z .opens .count) take-turned ∙ taken-opens q m l b short)
-      ∙ take-verdict q (messageOf m l) (bookIn b)
+  pub over-info : maxOpen < next .opens .count → r ≡ replied (Refused TooManyOpen) noEvent → Took q (info v l) b b r
+  over-info many f = over q (info v l) b r (omega (arith, counted)) f
 
-  take-stored : s .verdict ≡ Accepted → storeRecord (gainedBy m (gainingOf h) q b) (s .book) ≡ takeBytes q (messageOf m l) b
-  take-stored v = let new : s .book ≡ turned q m l (recordIn b) = few-book (turned q m l h) h s e v ∙ take-turned in rw (new, loaded) (taken-bytes q m l b)
+-- with nothing open on either side the settled view alone is stored
+none-stored : (b : List ℕ) (at : ℕ) → storeViews b at [] ≡ b
+unfolding storeViews viewsBytes
+none-stored b at = rw (add-zero at) (take-append-drop at b)
 
-  pub take-done : (x : Reply) (y : List ℕ)
-      → (x ≡ replied (s .verdict) noEvent) × (y ≡ left (s .verdict) (storeRecord (gainedBy m (gainingOf h) q b) (s .book)) b)
-      → (x ≡ replyOf (taking q (messageOf m l) (bookIn b)))
-      × (y ≡ left (verdictOf (taking q (messageOf m l) (bookIn b))) (takeBytes q (messageOf m l) b) b)
-  take-done =
-      quiet-by (taking q (messageOf m l) (bookIn b)) (s .verdict) (storeRecord (gainedBy m (gainingOf h) q b) (s .book)) (takeBytes q (messageOf m l) b) b
-      take-ruled (take-quiet q (messageOf m l) (bookIn b)) take-stored
+settled-alone : (b : List ℕ) (x own settled : View) → getD b opensAt 0 ≡ 0 → own ≡ viewIn b settledAt → settled ≡ settledBy x (record { settled = own; opens = [] })
+    → storeView b settledAt settled ≡ storeHeld b (heldAfter x [] b)
+unfolding storeHeld storeOpens heldAfter learned bookIn recordIn aboveOf unionOf viewsIn
+settled-alone b x own settled e f g =
+    let w = storeView b settledAt settled in
+    let count : getD w opensAt 0 ≡ 0 = storeView-changed b settledAt settled .past opensAt (omega arith) ∙ e in
+    let none : set w opensAt 0 ≡ w = ap (set w opensAt) (sym count) ∙ set-getD w opensAt 0 in
+    rw (e, ← f, ← g, none, none-stored w (opensAt + 1))
+
+alone-few : (b : List ℕ) (x : View) → getD b opensAt 0 ≡ 0 → heldAfter x [] b .opens .count ≤ maxOpen
+unfolding heldAfter learned bookIn recordIn aboveOf unionOf viewsIn
+alone-few b x e = rw e (omega arith)
+
+-- an info's views: the settled one and the open ones behind it
+views-split : (list : List ℕ) (from n : ℕ) → 1 ≤ n → infoOf {M = ℕ} (viewsIn list from n) ≡ info (viewIn list from) (viewsIn list (from + 5) (n - 1))
+unfolding viewsIn
+views-split list from zero h = absurd (omega arith)
+views-split list from (suc n) h = let e : suc n - 1 ≡ n = omega arith in rw e
+
+module _ (q : Member) (b list : List ℕ) (from n : ℕ) (r : Reply) (d : List ℕ) where
+  -- with an open view on either side
+  pub inform-long : (x : View) → 1 ≤ n → x ≡ viewIn list from → Took q (info x (viewsIn list (from + 5) (n - 1))) b d r → Took q (infoOf (viewsIn list from n)) b d r
+  inform-long x h e t = rw (views-split list from n h, ← e) t
+
+  -- with none
+  pub inform-short : (x own settled : View) → n ≡ 1 → getD b opensAt 0 ≡ 0 → x ≡ viewIn list from → own ≡ viewIn b settledAt
+      → settled ≡ settledBy x (record { settled = own; opens = [] }) → (w : List ℕ) → w ≡ storeView b settledAt settled → r ≡ replied Accepted noEvent
+      → d ≡ oneMore (noted infosAt q w) → Took q (infoOf (viewsIn list from n)) b d r
+  unfolding viewsIn
+  inform-short x own settled one none e f g w h i j =
+      let next : w ≡ storeHeld b (heldAfter x [] b) = h ∙ settled-alone b x own settled none f g in
+      rw (one, ← e) (took-info q x [] b (heldAfter x [] b) refl r (alone-few b x none) i d (j ∙ ap (λ (z : List ℕ). oneMore (noted infosAt q z)) next))
+
+-- ---- any message, as it is carried
+
+pub took-carried : (q : Member) (m k : Carried) (l : List View) (b d : List ℕ) (r : Reply) → m ≡ k → Took q (messageOf k l) b d r → Took q (messageOf m l) b d r
+took-carried q m k l b d r e t = rw e t

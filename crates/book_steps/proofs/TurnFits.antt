@@ -1,16 +1,15 @@
 -- The record after each turn is within its widths, its open views in their places, if the record before it was: so it can be stored.
 use mathlib.Core.Path.{_≡_, refl}
 use mathlib.Core.Logic.{⊎-elim}
-use mathlib.Core.Bool.{Bool, true, false}
+use mathlib.Core.Bool.{true, false}
 use mathlib.Core.List.{List, [], _∷_}
-use Prim.Native.Nat.{ℕ, zero, suc, _+_, _^_, _≤_, _<_}
+use Prim.Native.Nat.{ℕ, zero, suc, _^_, _≤_, _<_}
 use native.Mathlib.Omega.{arith}
 use lib.Bits.{or-lt}
 use lib.Dec.{ltb}
-use lib.ListN.{length, set, length-replicate, length-set}
+use lib.ListN.{length}
 use lib.Pow.{pow-lt}
 use Rattle.views.specs.declared.View.{View}
-use Rattle.views.specs.declared.list.Views.{Views}
 use Rattle.views.specs.declared.list.Lookup.{Lookup}
 use Rattle.views.specs.declared.list.Lookup.the-variants.{Found, Missing}
 use Rattle.views.specs.Limits.{maxMembers, maxViews, maxOpen}
@@ -24,7 +23,7 @@ use Rattle.rules.specs.Data.{Held}
 use Rattle.rules.specs.Member.{ownOr, settledBy, learned}
 use Rattle.book_bytes.specs.declared.Record.{Record}
 use Rattle.book_bytes.proofs.Fits.{OpensFit, Fits, opens-list}
-use Rattle.record_steps.specs.Turns.{bookOf, joinedTo, withMember, takenIn, clientTurn, infoTurn, registeredTurn, toldTurn, openedTo, attemptedAt, marked, settledAs}
+use Rattle.record_steps.specs.Turns.{withMember, openedTo, attemptedAt, settledAs}
 
 -- ---- lists of views
 
@@ -64,9 +63,15 @@ settled-by-fits x h f g e =
     (λ (t : ltb (idOf (h .settled)) (idOf x) ≡ false). rw t g)
     (known (ltb (idOf (h .settled)) (idOf x)))
 
+-- after an info at most 31 are open
+pub learned-fits : (x : View) (l : List View) (h : Held) → ViewFits x → EachFits l → ViewFits (h .settled) → EachFits (h .opens)
+    → length (learned x l h .opens) ≤ maxOpen → ViewFits (learned x l h .settled) × OpensFit (placed (learned x l h .opens))
+unfolding learned
+learned-fits x l h f g s o few = (settled-by-fits x h f s o, placed-fits _ few (above-fits _ _ (union-fits (h .opens) l o g)))
+
 -- ---- members noted
 
-with-fits : (q s : ℕ) → q < maxMembers → s < 256 → withMember q s < 256
+pub with-fits : (q s : ℕ) → q < maxMembers → s < 256 → withMember q s < 256
 unfolding withMember
 with-fits q s h f = or-lt maxMembers s (2 ^ q) f (pow-lt h)
 
@@ -78,37 +83,6 @@ module _ (h : Record) (fits : Fits h) where
 
   pub opens-each : EachFits (listOf (h .opens))
   opens-each = rw (opens-list (h .opens) (fits .opens)) (fits .opens .each)
-
-  pub marked-fits : (g : Bool) (handed told reported : ℕ) → handed < 256 → told < 256 → reported < 256 → Fits (marked g handed told reported h)
-  marked-fits g handed told reported p q r = record {
-    settled = fits .settled;
-    opens = fits .opens;
-    carrier = fits .carrier;
-    client = fits .client;
-    handed = p;
-    told = q;
-    reported = r;
-    taken = fits .taken;
-    infos = fits .infos;
-    registrations = fits .registrations;
-    tolds = fits .tolds;
-  }
-
-  pub joined-fits : (v : View) → ViewFits v → Fits (joinedTo v h)
-  unfolding joinedTo
-  joined-fits v f = record {
-    settled = fits .settled;
-    opens = fits .opens;
-    carrier = f;
-    client = fits .client;
-    handed = fits .handed;
-    told = fits .told;
-    reported = fits .reported;
-    taken = omega arith;
-    infos = omega arith;
-    registrations = omega arith;
-    tolds = length-replicate {A = ℕ} maxMembers 0;
-  }
 
   opened-fits : (v : View) → ViewFits v → length (listOf (openedTo v (h .settled) (h .opens))) ≤ maxOpen → OpensFit (openedTo v (h .settled) (h .opens))
   unfolding openedTo
@@ -153,45 +127,3 @@ module _ (h : Record) (fits : Fits h) where
     registrations = fits .registrations;
     tolds = fits .tolds;
   }
-
-  -- ---- a message taken, where there was room for one more
-
-  module _ (room : h .taken .0 + 1 < 256) where
-    taken-fits : (v : View) (l : Views) (i r : ℕ) (t : List ℕ) → ViewFits v → OpensFit l → i < 256 → r < 256 → length t ≡ maxMembers
-        → Fits (takenIn h v l i r t)
-    taken-fits v l i r t fv fl fi fr ft = record {
-      settled = fv;
-      opens = fl;
-      carrier = fits .carrier;
-      client = fits .client;
-      handed = fits .handed;
-      told = fits .told;
-      reported = fits .reported;
-      taken = room;
-      infos = fi;
-      registrations = fr;
-      tolds = ft;
-    }
-
-    pub client-turn-fits : Fits (clientTurn h)
-    unfolding clientTurn
-    client-turn-fits = taken-fits _ _ _ _ _ (fits .settled) (fits .opens) (fits .infos) (fits .registrations) (fits .tolds)
-
-    module _ (q : ℕ) (member : q < maxMembers) where
-      pub registered-turn-fits : Fits (registeredTurn q h)
-      unfolding registeredTurn
-      registered-turn-fits =
-          taken-fits _ _ _ _ _ (fits .settled) (fits .opens) (fits .infos) (with-fits q (h .registrations) member (fits .registrations)) (fits .tolds)
-
-      pub told-turn-fits : (k : ℕ) → Fits (toldTurn q k h)
-      unfolding toldTurn
-      told-turn-fits k =
-          taken-fits _ _ _ _ _ (fits .settled) (fits .opens) (fits .infos) (fits .registrations) (rw (length-set (h .tolds) q k) (fits .tolds))
-
-      pub info-turn-fits : (x : View) (l : Views) → ViewFits x → EachFits (listOf l)
-          → length (learned x (listOf l) (bookOf h 0 0 .held) .opens) ≤ maxOpen → Fits (infoTurn q x l h)
-      unfolding infoTurn learned
-      info-turn-fits x l f g few =
-          taken-fits _ _ _ _ _ (settled-by-fits x (bookOf h 0 0 .held) f (fits .settled) opens-each)
-          (placed-fits _ few (above-fits _ _ (union-fits (listOf (h .opens)) (listOf l) opens-each g)))
-          (with-fits q (h .infos) member (fits .infos)) (fits .registrations) (fits .tolds)

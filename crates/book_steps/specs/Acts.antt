@@ -1,23 +1,24 @@
 -- What each step of the member leaves in its book's bytes, where it is accepted.
-use mathlib.Core.Bool.{Bool, true, cond}
+use mathlib.Core.Bool.{Bool, cond}
 use mathlib.Core.List.{List}
 use Prim.Native.Nat.{ℕ, _+_, _-_}
 use lib.Dec.{leb}
-use lib.ListN.{length, getD, set}
+use lib.ListN.{length, getD, set, replicate}
+use lib.Seq.{paste}
 use Rattle.views.specs.declared.View.{View}
 use Rattle.views.specs.declared.refusal.Refusal.the-variants.{TooManyOpen}
 use Rattle.views.specs.Limits.{maxOpen}
 use Rattle.views.specs.Lists.{listOf, placed}
 use Rattle.rules.specs.Data as R
 use Rattle.rules.specs.Data.{Member, Message, client, info, registered, told, ok, Result, accepted, need, after}
-use Rattle.rules.specs.Member.{Done, does, clientIsCarrier, delivered}
+use Rattle.rules.specs.Member.{Done, does, clientIsCarrier, learned, delivered}
 use Rattle.slots.specs.Changes.{storeMessage, pushed, popped, gained}
-use Rattle.book_bytes.specs.declared.Record.{Record}
-use Rattle.book_bytes.specs.Places.{sideAt, outgoingAt, inwardAt}
-use Rattle.book_bytes.specs.Records.{recordIn, storeRecord}
+use Rattle.book_bytes.specs.declared.Held.{Held}
+use Rattle.book_bytes.specs.Places.{carrierAt, registeredAt, handedAt, toldAt, reportedAt, takenAt, infosAt}
+use Rattle.book_bytes.specs.Places.{registrationsAt, toldsAt, sideAt, outgoingAt, inwardAt}
+use Rattle.book_bytes.specs.Records.{recordIn, heldIn, storeSeat, storeHeld, storeRecord}
 use Rattle.book_bytes.specs.Books.{bookIn}
-use Rattle.record_steps.specs.Turns.{marked, joinedTo, attemptedAt, settledAs, clientTurn, infoTurn, registeredTurn}
-use Rattle.record_steps.specs.Turns.{toldTurn}
+use Rattle.record_steps.specs.Turns.{withMember, seat, attemptedAt, settledAs}
 use Rattle.book_bytes.specs.Books.{selfIn}
 
 -- ---- 43: an attempt, or a message taken, that would leave more than 31 views open
@@ -38,14 +39,21 @@ queued m b = pushed b outgoingAt (outgoingAt + 1) (selfIn b) m
 unfoldable pub queuedIf : Bool → Message → List ℕ → List ℕ
 queuedIf t m b = cond t (queued m b) b
 
--- ---- 2. join: no inward list of the carrier view, one info outgoing, the record
+-- ---- 2. join
+
+-- no inward list of a carrier view not attempted, and one info outgoing with what is held
+unfoldable pub announced : List ℕ → List ℕ
+announced b =
+    let held = heldIn b in
+    let emptied = set b (inwardAt (1 - getD b sideAt 0)) 0 in
+    set (storeMessage emptied (outgoingAt + 1) (selfIn b) (info (held .settled) (listOf (held .opens)))) outgoingAt 1
+
+-- taken, infos, registrations and the told counts, which stand together, are 0
+unfoldable pub unnoted : List ℕ → List ℕ
+unnoted b = paste b takenAt (replicate (sideAt - takenAt) 0) (sideAt - takenAt)
 
 unfoldable pub joinBytes : View → List ℕ → List ℕ
-joinBytes v b =
-    let h = recordIn b in
-    let emptied = set b (inwardAt (1 - getD b sideAt 0)) 0 in
-    storeRecord (set (storeMessage emptied (outgoingAt + 1) (selfIn b) (info (h .settled) (listOf (h .opens))))
-    outgoingAt 1) (joinedTo v h)
+joinBytes v b = unnoted (storeSeat (announced b) carrierAt (seat v))
 
 -- ---- 3. pass: the first outgoing message goes
 
@@ -58,11 +66,24 @@ passBytes b = popped b outgoingAt (outgoingAt + 1)
 abbrev pub gaining : List ℕ → ℕ
 gaining b = inwardAt (cond (clientIsCarrier (bookIn b)) (getD b sideAt 0) (1 - getD b sideAt 0))
 
+-- one message more was taken
+unfoldable pub oneMore : List ℕ → List ℕ
+oneMore b = set b takenAt (getD b takenAt 0 + 1)
+
+-- the member is noted in the set at a place
+unfoldable pub noted : ℕ → Member → List ℕ → List ℕ
+noted at q b = set b at (withMember q (getD b at 0))
+
+-- what is held after an info, in its places
+unfoldable pub heldAfter : View → List View → List ℕ → Held
+heldAfter v l b =
+    let h = learned v l (bookIn b .held) in record { settled = h .settled; opens = placed (h .opens) }
+
 unfoldable pub takeBytes : Member → Message → List ℕ → List ℕ
-takeBytes q (client x) b = storeRecord (gained b (gaining b) q x) (clientTurn (recordIn b))
-takeBytes q (info v l) b = storeRecord b (infoTurn q v (placed l) (recordIn b))
-takeBytes q registered b = storeRecord b (registeredTurn q (recordIn b))
-takeBytes q (told k) b = storeRecord b (toldTurn q k (recordIn b))
+takeBytes q (client x) b = oneMore (gained b (gaining b) q x)
+takeBytes q (info v l) b = oneMore (noted infosAt q (storeHeld b (heldAfter v l b)))
+takeBytes q registered b = oneMore (noted registrationsAt q b)
+takeBytes q (told k) b = oneMore (set b (toldsAt + q) k)
 
 -- ---- 6. attempt: the old inward list goes, and the record's side is now the other
 
@@ -70,30 +91,23 @@ unfoldable pub attemptBytes : List ℕ → List ℕ
 attemptBytes b =
     let h = recordIn b in storeRecord (set b (inwardAt (getD b sideAt 0)) 0) (attemptedAt (h .carrier .view) h)
 
--- ---- 7 to 11. register, send, hand, tell, safe
+-- ---- 7 to 11. register, send, hand, tell, safe: a message outgoing, and the one byte that changes
 
 unfoldable pub registerBytes : List ℕ → List ℕ
-registerBytes b =
-    let h = recordIn b in
-    storeRecord (queuedIf (clientIsCarrier (bookIn b)) registered b)
-    (marked true (h .handed .0) (h .told .0) (h .reported .0) h)
+registerBytes b = set (queuedIf (clientIsCarrier (bookIn b)) registered b) registeredAt 1
 
 unfoldable pub sendBytes : ℕ → List ℕ → List ℕ
 sendBytes x b = queuedIf (clientIsCarrier (bookIn b)) (client x) b
 
 unfoldable pub handBytes : List ℕ → List ℕ
-handBytes b =
-    let h = recordIn b in storeRecord b (marked (h .registered) (h .handed .0 + 1) (h .told .0) (h .reported .0) h)
+handBytes b = set b handedAt (getD b handedAt 0 + 1)
 
 unfoldable pub tellBytes : List ℕ → List ℕ
 tellBytes b =
-    let h = recordIn b in
-    storeRecord (queuedIf (clientIsCarrier (bookIn b)) (told (h .handed .0)) b)
-    (marked (h .registered) (h .handed .0) (h .handed .0) (h .reported .0) h)
+    let handed = getD b handedAt 0 in set (queuedIf (clientIsCarrier (bookIn b)) (told handed) b) toldAt handed
 
 unfoldable pub safeBytes : List ℕ → List ℕ
-safeBytes b =
-    let h = recordIn b in storeRecord b (marked (h .registered) (h .handed .0) (h .told .0) (h .reported .0 + 1) h)
+safeBytes b = set b reportedAt (getD b reportedAt 0 + 1)
 
 -- ---- 12. collect
 

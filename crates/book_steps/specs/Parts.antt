@@ -13,21 +13,21 @@ use Rattle.views.specs.Sizes.{numberSize}
 use Rattle.events.specs.Kinds.{attemptKind}
 use Rattle.views.specs.Lists.{idOf}
 use Rattle.rules.specs.Data.{Member}
-use Rattle.rules.specs.Member.{clientIsCarrier}
 use Rattle.slots.specs.Slots.{slotSize, itemSize, itemNumber}
 use Rattle.slots.specs.Changes.{storeShort}
 use Rattle.book_bytes.specs.declared.Record.{Record}
+use Rattle.book_bytes.specs.declared.Current.{Current}
 use Rattle.book_bytes.specs.Places.{outgoingAt}
 use Rattle.record_steps.specs.declared.Stepped.{Stepped}
-use Rattle.record_steps.specs.Turns.{bookOf, stepped}
+use Rattle.record_steps.specs.Turns.{stepped, inStep}
 use Rattle.events.specs.declared.Event.{Event}
 use Rattle.book_steps.specs.declared.Said.{Said}
-use Rattle.events.specs.Replies.{happened, noEvent, named}
+use Rattle.events.specs.Replies.{happened, named}
 use Rattle.book_bytes.specs.Books.{selfIn}
 
 -- a message without views, in numbers, where the client view is the carrier view
-abbrev pub spoken : Record → ℕ → ℕ → Said
-spoken h kind x = record { there = clientIsCarrier (bookOf h 0 0); kind = kind; number = x }
+abbrev pub spoken : Current → ℕ → ℕ → Said
+spoken h kind x = record { there = inStep h; kind = kind; number = x }
 
 -- it goes to the end of outgoing
 unfoldable pub saidBytes : Said → List ℕ → List ℕ
@@ -36,12 +36,11 @@ saidBytes m b =
     cond (m .there) (set (storeShort b (outgoingAt + 1 + slotSize * n) (selfIn b) (m .kind) (m .number)) outgoingAt
     (n + 1)) b
 
--- the event of item k of the inward list with its count at c, in the client view; no event past its end
-unfoldable pub itemEvent : List ℕ → ℕ → ℕ → ℕ → Record → Event
+-- the event of item k of the inward list with its count at c, in the client view
+unfoldable pub itemEvent : List ℕ → ℕ → ℕ → ℕ → Current → Event
 itemEvent b c k kind h =
     let i = c + 1 + itemSize * k in
-    cond (leb (getD b c 0) k) noEvent
-    (happened kind (selfIn b) (named (idOf (h .client .view))) (getD b i 0) (get b (i + itemNumber) numberSize))
+    happened kind (selfIn b) (named (idOf (h .client .view))) (getD b i 0) (get b (i + itemNumber) numberSize)
 
 unfoldable pub attemptEvent : Record → Member → Event
 attemptEvent h p = happened attemptKind p (h .carrier .view) 0 0

@@ -2,64 +2,64 @@
 use crate::lent;
 use crate::lent::Kind;
 use book_bytes::Record;
+use book_bytes::Seat;
 use events::Event;
 use events::Reply;
 use events::kinds;
-use record_steps::Stepped;
 use views::Member;
 use views::View;
 use views::refusal::Verdict;
 ghost use mathlib.Core.Path.{_≡_};
 ghost use Prim.Native.Nat.{_≤_};
-ghost use lib.ListN.{length, set};
+ghost use lib.ListN.{length, getD, set};
 ghost use mathlib.Core.Bool.{true};
 ghost use Rattle.views.specs.Limits.{maxOpen};
 ghost use Rattle.views.specs.Sets.{one};
 ghost use Rattle.views.specs.Refusals.{left};
-ghost use Rattle.events.specs.Replies.{noEvent, replied, replyOf, verdictOf};
+ghost use Rattle.events.specs.Replies.{replyOf, verdictOf};
 ghost use Rattle.rules.specs.Member.{joins, attempts, collects};
-ghost use Rattle.book_bytes.specs.Places.{bookSize, inwardAt};
-ghost use Rattle.book_bytes.specs.Records.{storeRecord};
+ghost use Rattle.book_bytes.specs.Places.{bookSize, carrierAt, sideAt, opensAt, inwardAt};
+ghost use Rattle.book_bytes.specs.Records.{storeSeat};
 ghost use Rattle.book_bytes.specs.Books.{bookIn, bytesSound, selfIn, membersIn};
-ghost use Rattle.book_steps.specs.ArrivalParts.{announced};
-ghost use Rattle.book_steps.specs.Acts.{joinBytes, fewOpen, attemptBytes, collectBytes};
+ghost use Rattle.record_steps.specs.Turns.{seat};
+ghost use Rattle.book_steps.specs.Acts.{announced, unnoted, joinBytes, fewOpen, attemptBytes, collectBytes};
 ghost use Rattle.book_steps.specs.Parts.{attemptEvent};
 
-// The inward list of a carrier view not attempted goes, and outgoing holds one info of the member p with what the
-// record holds.
-fn announce(b: &mut [u8], p: Member, h: Record)
-    requires { ⌜ (bookSize ≤ length (now b)) × (h .side ≤ 1) × (h .opens .count ≤ maxOpen) ⌝ }
-    ensures { λ _. ⌜ now (b .exit) ≡ announced (p .0) h (now (b .entry)) ⌝ }
+// The inward list of a carrier view not attempted goes, and outgoing holds one info with what is held, copied as it
+// stands.
+fn announce(b: &mut [u8])
+    requires { ⌜ (bookSize ≤ length (now b)) × (getD (now b) sideAt 0 ≤ 1) × (getD (now b) opensAt 0 ≤ maxOpen) ⌝ }
+    ensures { λ _. ⌜ now (b .exit) ≡ announced (now (b .entry)) ⌝ }
 {
-    let at = crate::inward(1 - h.side);
-    b[at] = 0;
-    let opens = h.opens;
-    let held = crate::info::views(h.settled, opens);
-    slots::store_info(b, book_bytes::OUTGOING + 1, p, held);
+    let side = b[book_bytes::SIDE];
+    let other = 1 - side;
+    let own = Member(b[book_bytes::SELF]);
+    let n = b[book_bytes::OPENS] as usize;
+    empty(b, other);
+    slots::copy_info(
+        b,
+        book_bytes::OUTGOING + 1,
+        own,
+        book_bytes::SETTLED,
+        book_bytes::OPENS + 1,
+        n,
+    );
     b[book_bytes::OUTGOING] = 1;
 }
 
-// What was held is announced and the record after the turn stored, where the turn is accepted.
-fn enter(b: &mut [u8], p: Member, h: Record, s: Stepped) -> Reply
-    requires { ⌜ (bookSize ≤ length (now b)) × (h .side ≤ 1) × (h .opens .count ≤ maxOpen)
-        × (s .book .opens .count ≤ maxOpen) ⌝ }
-    ensures { λ r. ⌜ (r ≡ replied (s .verdict) noEvent)
-        × (now (b .exit) ≡ left (s .verdict) (storeRecord (announced (p .0) h (now (b .entry))) (s .book))
-        (now (b .entry))) ⌝ }
+// The view v is the carrier view, of which nothing was taken and nothing is noted.
+fn enter(b: &mut [u8], v: View)
+    requires { ⌜ bookSize ≤ length (now b) ⌝ }
+    ensures { λ _. ⌜ now (b .exit) ≡ unnoted (storeSeat (now (b .entry)) carrierAt (seat v)) ⌝ }
 {
-    let verdict = s.verdict;
-    match verdict {
-        Verdict::Refused(r) => events::refuse(r),
-        Verdict::Accepted => {
-            let next = s.book;
-            announce(b, p, h);
-            book_bytes::store(b, next);
-            Reply {
-                verdict: Verdict::Accepted,
-                event: events::no_event(),
-            }
-        }
-    }
+    let seat = Seat {
+        there: true,
+        view: v,
+    };
+    book_bytes::store_seat(b, book_bytes::CARRIER, seat);
+    let from = book_bytes::TAKEN;
+    let to = book_bytes::SIDE;
+    wire::writer::clear(&mut b[from..to]);
 }
 
 // The view v becomes the carrier view.
@@ -69,11 +69,20 @@ pub fn join(b: &mut [u8], v: View) -> Reply
         × (now (b .exit) ≡ left (verdictOf (joins (selfIn (now (b .entry))) v (bookIn (now (b .entry)))))
         (joinBytes v (now (b .entry))) (now (b .entry))) ⌝ }
 {
-    let h = book_bytes::load(b);
+    let carrier = book_bytes::load_seat(b, book_bytes::CARRIER);
     let p = Member(b[book_bytes::SELF]);
-    let t = lent::plain(Kind::Join(p, v));
-    let s = lent::lend(h, t);
-    enter(b, p, h, s)
+    let verdict = record_steps::carrier_view::join(p, v, carrier);
+    match verdict {
+        Verdict::Refused(r) => events::refuse(r),
+        Verdict::Accepted => {
+            announce(b);
+            enter(b, v);
+            Reply {
+                verdict: Verdict::Accepted,
+                event: events::no_event(),
+            }
+        }
+    }
 }
 
 // The event of an attempt of the carrier view.
@@ -108,7 +117,7 @@ pub fn attempt(b: &mut [u8]) -> Reply
         (bookIn (now (b .entry)))))) (attemptBytes (now (b .entry))) (now (b .entry))) ⌝ }
 {
     let h = book_bytes::load(b);
-    let t = lent::plain(Kind::Attempt(b[book_bytes::MEMBERS]));
+    let t = Kind::Attempt(b[book_bytes::MEMBERS]);
     let s = lent::lend(h, t);
     let verdict = s.verdict;
     match verdict {
@@ -134,7 +143,7 @@ pub fn collect(b: &mut [u8]) -> Reply
         (collectBytes (now (b .entry))) (now (b .entry))) ⌝ }
 {
     let h = book_bytes::load(b);
-    let t = lent::plain(Kind::Collect(b[book_bytes::MEMBERS]));
+    let t = Kind::Collect(b[book_bytes::MEMBERS]);
     let s = lent::lend(h, t);
     let e = events::no_event();
     crate::keep(b, s, e)

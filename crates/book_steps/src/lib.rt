@@ -1,8 +1,7 @@
-// A member's steps in a sound book's bytes. Each loads the small record, turns it by value, and writes only where it is
-// accepted; a step that asks what is held or changes it turns the record lent. Here is what they share.
+// A member's steps in a sound book's bytes. Each loads what it looks at of the small record, decides by value, and
+// writes only where it is accepted; attempt and collect turn the whole record, which is lent. Here is what they share.
 pub mod carrier_view;
 pub mod client_view;
-pub mod info;
 mod lent;
 pub mod messages;
 
@@ -14,7 +13,6 @@ ghost use mathlib.Core.Path.{_≡_};
 ghost use Prim.Native.Nat.{_≤_, _<_};
 ghost use lib.ListN.{length, getD};
 ghost use Rattle.views.specs.Limits.{maxOutgoing, maxOpen};
-ghost use Rattle.views.specs.declared.refusal.Verdict.the-variants.{Accepted, Refused};
 ghost use Rattle.views.specs.Refusals.{left};
 ghost use Rattle.events.specs.Replies.{replied};
 ghost use Rattle.book_bytes.specs.Places.{bookSize, outgoingAt, inwardAt};
@@ -47,20 +45,17 @@ pub fn say(b: &mut [u8], m: Said)
     }
 }
 
-// The message is queued and the record stored, where the step is accepted.
-pub fn commit(b: &mut [u8], s: Stepped, m: Said, e: events::Event) -> events::Reply
-    requires { ⌜ (bookSize ≤ length (now b)) × (s .book .opens .count ≤ maxOpen)
-        × (s .verdict ≡ Accepted → m .there ≡ true → getD (now b) outgoingAt 0 < maxOutgoing) ⌝ }
+// The record after a step is stored, where the step is accepted.
+pub fn keep(b: &mut [u8], s: Stepped, e: events::Event) -> events::Reply
+    requires { ⌜ (bookSize ≤ length (now b)) × (s .book .opens .count ≤ maxOpen) ⌝ }
     ensures { λ r. ⌜ (r ≡ replied (s .verdict) e)
-        × (now (b .exit) ≡ left (s .verdict) (storeRecord (saidBytes m (now (b .entry))) (s .book))
-        (now (b .entry))) ⌝ }
+        × (now (b .exit) ≡ left (s .verdict) (storeRecord (now (b .entry)) (s .book)) (now (b .entry))) ⌝ }
 {
     let verdict = s.verdict;
     match verdict {
         Verdict::Refused(r) => events::refuse(r),
         Verdict::Accepted => {
             let h = s.book;
-            say(b, m);
             book_bytes::store(b, h);
             events::Reply {
                 verdict: Verdict::Accepted,
@@ -68,20 +63,6 @@ pub fn commit(b: &mut [u8], s: Stepped, m: Said, e: events::Event) -> events::Re
             }
         }
     }
-}
-
-// The same of a step that says nothing.
-pub fn keep(b: &mut [u8], s: Stepped, e: events::Event) -> events::Reply
-    requires { ⌜ (bookSize ≤ length (now b)) × (s .book .opens .count ≤ maxOpen) ⌝ }
-    ensures { λ r. ⌜ (r ≡ replied (s .verdict) e)
-        × (now (b .exit) ≡ left (s .verdict) (storeRecord (now (b .entry)) (s .book)) (now (b .entry))) ⌝ }
-{
-    let m = Said {
-        there: false,
-        kind: 0,
-        number: 0,
-    };
-    commit(b, s, m, e)
 }
 
 // Where the inward list of a side has its count.

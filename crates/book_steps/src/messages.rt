@@ -1,31 +1,29 @@
-// Deliver, in a sound book's bytes: a message of the carrier view is taken.
-use crate::lent;
-use crate::lent::Kind;
-use crate::lent::Step;
-use book_bytes::Record;
+// Deliver, in a sound book's bytes: a message of the carrier view is taken, its views where they lie.
 use events::Reply;
-use record_steps::Stepped;
 use views::Member;
-use views::list::Views;
+use views::View;
+use views::limits;
+use views::refusal::Refusal;
 use views::refusal::Verdict;
-use wire::Frame;
+use views::sizes;
 use wire::Message;
 ghost use mathlib.Core.Path.{_≡_};
-ghost use Prim.Native.Nat.{_≤_, _<_};
-ghost use lib.ListN.{length, getD};
 ghost use mathlib.Core.Bool.{true};
-ghost use Rattle.views.specs.Limits.{maxMembers, maxOpen, maxOrdered};
-ghost use Rattle.views.specs.Lists.{listOf};
+ghost use Prim.Native.Nat.{_+_, _*_, _≤_, _<_};
+ghost use lib.ListN.{length, getD};
+ghost use Rattle.views.specs.declared.refusal.Verdict.the-variants.{Accepted};
+ghost use Rattle.views.specs.Limits.{maxMembers, maxViews, maxOpen, maxOrdered};
+ghost use Rattle.views.specs.Sizes.{viewSize};
 ghost use Rattle.views.specs.Refusals.{left};
-ghost use Rattle.events.specs.Replies.{noEvent, replied, replyOf, verdictOf};
 ghost use Rattle.wire.specs.declared.Message.the-variants.{Info};
-ghost use Rattle.rules.specs.Alone.{messageOf};
-ghost use Rattle.book_bytes.specs.Places.{bookSize, carrierAt, takenAt};
-ghost use Rattle.book_bytes.specs.Records.{storeRecord};
+ghost use Rattle.wire.specs.Reader.{viewsIn};
+ghost use Rattle.rules.specs.Data.{client, info};
+ghost use Rattle.rules.specs.Alone.{infoOf, messageOf};
+ghost use Rattle.events.specs.Replies.{noEvent, replied, replyOf, verdictOf};
+ghost use Rattle.book_bytes.specs.Places.{bookSize, carrierAt, takenAt, sideAt};
 ghost use Rattle.book_bytes.specs.Books.{bookIn, bytesSound};
-ghost use Rattle.book_steps.specs.ArrivalParts.{turned, gainingOf, gainedBy};
-ghost use Rattle.book_steps.specs.LentParts.{fewTaken};
-ghost use Rattle.book_steps.specs.Acts.{taking, takeBytes};
+ghost use Rattle.book_steps.specs.Acts.{taking, gaining, oneMore, noted, takeBytes};
+ghost use Rattle.book_steps.specs.ArrivalParts.{Took};
 
 // A queue entry: its sender together with one of the four messages. An info's views are kept beside it.
 pub struct Entry {
@@ -33,100 +31,109 @@ pub struct Entry {
     pub message: Message,
 }
 
-// The record after an info of the member q with these views, settled first.
-fn informed(q: Member, list: Views, h: Record) -> Stepped
-    requires { ⌜ (q .0 < maxMembers) × (h .taken .0 < 255) × (h .opens .count ≤ maxOpen) ⌝ }
-    ensures { λ r. ⌜ r ≡ fewTaken (turned (q .0) Info (listOf list) h) h ⌝ }
+// One message more was taken.
+fn count(b: &mut [u8]) -> Reply
+    requires { ⌜ (bookSize ≤ length (now b)) × (getD (now b) takenAt 0 < maxOrdered) ⌝ }
+    ensures { λ r. ⌜ (r ≡ replied Accepted noEvent) × (now (b .exit) ≡ oneMore (now (b .entry))) ⌝ }
 {
-    let x = crate::info::settled(list);
-    let l = crate::info::opens(list);
-    let kind = Kind::Info(q, x);
-    let t = Step { kind, opens: l };
-    lent::lend(h, t)
+    b[book_bytes::TAKEN] = b[book_bytes::TAKEN] + 1;
+    Reply {
+        verdict: Verdict::Accepted,
+        event: events::no_event(),
+    }
 }
 
-// The record after an entry, with an info's views beside it; 43 where more than 31 views would be open then.
-fn turned(e: Entry, list: Views, h: Record) -> Stepped
-    requires { ⌜ (e .sender .0 < maxMembers) × (h .taken .0 < 255) × (h .opens .count ≤ maxOpen) ⌝ }
-    ensures { λ r. ⌜ r ≡ fewTaken (turned (e .sender .0) (e .message) (listOf list) h) h ⌝ }
+// The sender of a message is noted in the set at a place behind the number taken.
+fn note(b: &mut [u8], at: usize, q: Member) -> Reply
+    requires { ⌜ (bookSize ≤ length (now b)) × (getD (now b) takenAt 0 < maxOrdered) × (q .0 < maxMembers)
+        × (takenAt < at) × (at < bookSize) ⌝ }
+    ensures { λ r. ⌜ (r ≡ replied Accepted noEvent)
+        × (now (b .exit) ≡ oneMore (noted at (q .0) (now (b .entry)))) ⌝ }
+{
+    b[at] = record_steps::messages::with_member(b[at], q);
+    count(b)
+}
+
+// The inward list of the carrier view: the client view's where they are one view, else the other.
+fn gaining(b: &[u8]) -> usize
+    requires { ⌜ (bookSize ≤ length (now b)) × (getD (now b) sideAt 0 ≤ 1) ⌝ }
+    ensures { λ r. ⌜ r ≡ gaining (now (b .entry)) ⌝ }
+{
+    let client = book_bytes::load_seat(b, book_bytes::CLIENT);
+    let carrier = book_bytes::load_seat(b, book_bytes::CARRIER);
+    let side = b[book_bytes::SIDE];
+    if record_steps::tests::same_view(client, carrier) {
+        return crate::inward(side);
+    }
+    crate::inward(1 - side)
+}
+
+// A client message goes to the end of the carrier view's inward list.
+fn receive(b: &mut [u8], q: Member, x: u64) -> Reply
+    requires { ⌜ (bytesSound (now b) ≡ true) × (getD (now b) takenAt 0 < maxOrdered)
+        × (getD (now b) carrierAt 0 ≡ 1) ⌝ }
+    ensures { λ r. ⌜ Took (q .0) (client x) (now (b .entry)) (now (b .exit)) r ⌝ }
+{
+    let c = gaining(b);
+    slots::gain(b, c, q, x);
+    count(b)
+}
+
+// The info with the settled view x is taken, its n open views from a place on: 43 where more than 31 would be open.
+fn learn(b: &mut [u8], q: Member, x: View, list: &[u8], from: usize, n: usize) -> Reply
+    requires { ⌜ (bookSize ≤ length (now b)) × (getD (now b) takenAt 0 < maxOrdered) × (q .0 < maxMembers)
+        × (from + viewSize * n ≤ length (now list)) × (n ≤ maxOpen) ⌝ }
+    ensures { λ r. ⌜ Took (q .0) (info x (viewsIn (now (list .entry)) from n)) (now (b .entry)) (now (b .exit)) r ⌝ }
+{
+    let h = book_bytes::load_held(b);
+    let opens = wire::reader::load_views(list, from, n);
+    let next = record_steps::messages::learned(x, opens, h);
+    if limits::OPEN < next.opens.count {
+        return events::refuse(Refusal::TooManyOpen);
+    }
+    book_bytes::store_held(b, next);
+    note(b, book_bytes::INFOS, q)
+}
+
+// An info is taken, its n views from a place on. Where no view is open on either side no list is made.
+fn inform(b: &mut [u8], q: Member, list: &[u8], from: usize, n: usize) -> Reply
+    requires { ⌜ (bookSize ≤ length (now b)) × (getD (now b) takenAt 0 < maxOrdered) × (q .0 < maxMembers)
+        × (from + viewSize * n ≤ length (now list)) × (n ≤ maxViews) × (1 ≤ n) ⌝ }
+    ensures { λ r. ⌜ Took (q .0) (infoOf (viewsIn (now (list .entry)) from n)) (now (b .entry)) (now (b .exit)) r ⌝ }
+{
+    let x = wire::reader::load_view(list, from);
+    if n == 1 {
+        if b[book_bytes::OPENS] == 0 {
+            let own = wire::reader::load_view(b, book_bytes::SETTLED);
+            let settled = record_steps::messages::later(x, own);
+            wire::writer::store_view(b, book_bytes::SETTLED, settled);
+            return note(b, book_bytes::INFOS, q);
+        }
+    }
+    learn(b, q, x, list, from + sizes::VIEW, n - 1)
+}
+
+// The entry is taken; an info's n views lie in other bytes from a place on. 43 where more than 31 would be open then.
+pub fn deliver(b: &mut [u8], e: Entry, list: &[u8], from: usize, n: usize) -> Reply
+    requires { ⌜ (bytesSound (now b) ≡ true) × (getD (now b) takenAt 0 < maxOrdered)
+        × (getD (now b) carrierAt 0 ≡ 1) × (e .sender .0 < maxMembers)
+        × (from + viewSize * n ≤ length (now list)) × (n ≤ maxViews) × (e .message ≡ Info → 1 ≤ n) ⌝ }
+    ensures { λ r. ⌜ (r ≡ replyOf (taking (e .sender .0)
+        (messageOf (e .message) (viewsIn (now (list .entry)) from n)) (bookIn (now (b .entry)))))
+        × (now (b .exit) ≡ left (verdictOf (taking (e .sender .0)
+        (messageOf (e .message) (viewsIn (now (list .entry)) from n)) (bookIn (now (b .entry)))))
+        (takeBytes (e .sender .0) (messageOf (e .message) (viewsIn (now (list .entry)) from n)) (now (b .entry)))
+        (now (b .entry))) ⌝ }
 {
     let q = e.sender;
     let m = e.message;
     match m {
-        Message::Client(_) => lent::accept(record_steps::messages::take_client(h)),
-        Message::Info => informed(q, list, h),
-        Message::Registered => lent::accept(record_steps::messages::take_registered(q, h)),
-        Message::Told(k) => lent::accept(record_steps::messages::take_told(q, k, h)),
-    }
-}
-
-// The inward list of the carrier view: the client view's where they are one view, else the other.
-fn gaining(h: Record) -> usize
-    requires { ⌜ h .side ≤ 1 ⌝ }
-    ensures { λ r. ⌜ r ≡ gainingOf h ⌝ }
-{
-    let client = h.client;
-    let carrier = h.carrier;
-    if record_steps::tests::same_view(client, carrier) {
-        return crate::inward(h.side);
-    }
-    crate::inward(1 - h.side)
-}
-
-// A client message goes to the end of the carrier view's inward list.
-fn receive(b: &mut [u8], e: Entry, h: Record)
-    requires { ⌜ (bookSize ≤ length (now b)) × (h .side ≤ 1) × (getD (now b) (gainingOf h) 0 < maxOrdered) ⌝ }
-    ensures { λ _. ⌜ now (b .exit) ≡ gainedBy (e .message) (gainingOf h) (e .sender .0) (now (b .entry)) ⌝ }
-{
-    let q = e.sender;
-    let m = e.message;
-    if let Message::Client(x) = m {
-        let c = gaining(h);
-        slots::gain(b, c, q, x);
-    }
-}
-
-// The entry goes where it belongs and the record after it is stored, where it is taken.
-fn keep(b: &mut [u8], e: Entry, h: Record, s: Stepped) -> Reply
-    requires { ⌜ (bookSize ≤ length (now b)) × (h .side ≤ 1) × (getD (now b) (gainingOf h) 0 < maxOrdered)
-        × (s .book .opens .count ≤ maxOpen) ⌝ }
-    ensures { λ r. ⌜ (r ≡ replied (s .verdict) noEvent)
-        × (now (b .exit) ≡ left (s .verdict)
-        (storeRecord (gainedBy (e .message) (gainingOf h) (e .sender .0) (now (b .entry))) (s .book))
-        (now (b .entry))) ⌝ }
-{
-    let verdict = s.verdict;
-    match verdict {
-        Verdict::Refused(r) => events::refuse(r),
-        Verdict::Accepted => {
-            let next = s.book;
-            receive(b, e, h);
-            book_bytes::store(b, next);
-            Reply {
-                verdict: Verdict::Accepted,
-                event: events::no_event(),
-            }
+        Message::Client(x) => receive(b, q, x),
+        Message::Info => inform(b, q, list, from, n),
+        Message::Registered => note(b, book_bytes::REGISTRATIONS, q),
+        Message::Told(k) => {
+            b[book_bytes::TOLDS + q.0 as usize] = k;
+            count(b)
         }
     }
-}
-
-// The message of the sender q is taken; 43 where more than 31 views would be open then.
-pub fn deliver(b: &mut [u8], q: Member, f: Frame) -> Reply
-    requires { ⌜ (bytesSound (now b) ≡ true) × (q .0 < maxMembers) × (getD (now b) takenAt 0 < maxOrdered)
-        × (getD (now b) carrierAt 0 ≡ 1) ⌝ }
-    ensures { λ r. ⌜ (r ≡ replyOf
-        (taking (q .0) (messageOf (f .message) (listOf (f .views))) (bookIn (now (b .entry)))))
-        × (now (b .exit) ≡ left
-        (verdictOf (taking (q .0) (messageOf (f .message) (listOf (f .views))) (bookIn (now (b .entry)))))
-        (takeBytes (q .0) (messageOf (f .message) (listOf (f .views))) (now (b .entry))) (now (b .entry))) ⌝ }
-{
-    let h = book_bytes::load(b);
-    let m = f.message;
-    let list = f.views;
-    let e = Entry {
-        sender: q,
-        message: m,
-    };
-    let s = turned(e, list, h);
-    keep(b, e, h, s)
 }

@@ -1,5 +1,5 @@
 -- Deliver: each refusal at its place in the row; the next entry can be taken, and what the step on the book gives is what the group's rule gives.
-use mathlib.Core.Path.{_≡_, refl, sym, ap, ap₂, _∙_}
+use mathlib.Core.Path.{_≡_, refl, sym, ap, _∙_, subst}
 use mathlib.Core.Bool.{true, false}
 use mathlib.Core.Option.{none, some}
 use mathlib.Core.List.{List, [], _++_}
@@ -11,19 +11,21 @@ use Rattle.views.specs.declared.View.{View}
 use Rattle.views.specs.declared.refusal.Refusal.the-variants.{NoSuchMember, NoCarrierView, NoneToDeliver}
 use Rattle.views.specs.declared.refusal.Verdict.the-variants.{Refused}
 use Rattle.views.specs.Limits.{maxViews, maxMembers, maxOrdered}
-use Rattle.views.specs.Lists.{idOf, listOf}
+use Rattle.views.specs.Lists.{idOf}
 use Rattle.views.specs.Refusals.{left}
-use Rattle.wire.specs.declared.Frame.{Frame}
-use Rattle.rules.specs.Data.{Member, Message, client, info, registered, told, Entry, Book, ok, accepted, need, withView, withFirst}
+use Rattle.wire.specs.declared.Message.{Message as Carried}
+use Rattle.wire.specs.declared.Message.the-variants.{Info}
+use Rattle.wire.specs.Reader.{viewsIn}
+use Rattle.rules.specs.Data.{Member, Message, Entry, Book, ok, accepted, need, withView, withFirst}
 use Rattle.rules.specs.Member.{does, delivered}
-use Rattle.rules.specs.Alone.{viewsOf, carriedOf, messageOf}
+use Rattle.rules.specs.Alone.{messageOf}
 use Rattle.rules.specs.Group.{booked, takeFrom, deliverStep}
 use Rattle.rules.proofs.Sound.{sound-says}
-use Rattle.slots.specs.Slots.{slotSize, kindIn, numberIn, messageIn, entriesIn}
-use Rattle.slots.specs.FrameParts.{framed, frameAt}
+use Rattle.slots.specs.Slots.{slotSize, kindIn, numberIn, messageIn, entriesIn, slotFits}
+use Rattle.slots.specs.FrameParts.{framed, carriedAt, messageAt}
 use Rattle.slots.proofs.Lists.{length-entries, entries-next, slots-at}
 use Rattle.slots.proofs.CodeLaws.{fits-framed}
-use Rattle.slots.proofs.Frames.{EntryOk, frame-carried, frame-views}
+use Rattle.slots.proofs.Frames.{EntryOk, info-framed, message-at}
 use Rattle.book_bytes.specs.Places.{membersAt, carrierAt, takenAt, bookSize}
 use Rattle.book_bytes.specs.Records.{seatIn, recordIn}
 use Rattle.book_bytes.specs.Books.{bookIn, bytesSound}
@@ -46,20 +48,19 @@ use Rattle.group_steps.proofs.Rows.{ranged, group-sound}
 use Rattle.group_steps.specs.VisitParts.{delivering, Delivered}
 use Rattle.group_steps.proofs.JoinLaws.{desk-of, of-member}
 
--- ---- the frame of a slot is its message
+-- ---- a told's number is a byte
 
 told-number : (b : List ℕ) (at : ℕ) → toldOf (messageIn b at) < 256 → kindIn b at ≡ 4 → numberIn b at < 256
 unfolding messageIn
 told-number b at h e = rw e at h
 
-carried-whole : (m : Message) → messageOf (carriedOf m) (viewsOf m) ≡ m
-carried-whole (client x) = refl
-carried-whole (info v l) = refl
-carried-whole registered = refl
-carried-whole (told k) = refl
+-- ---- an entry as it was loaded from its slot
 
-frame-message : (b : List ℕ) (at g : ℕ) → EntryOk b at → messageOf (frameAt b at g .message) (listOf (frameAt b at g .views)) ≡ messageIn b at
-frame-message b at g h = ap₂ messageOf (frame-carried b at g h) (frame-views b at g h) ∙ carried-whole (messageIn b at)
+pub entry-asks : (queues : List ℕ) (at : ℕ) (w : Carried) (n : ℕ) → slotFits queues at ≡ true → at + slotSize ≤ length queues → w ≡ carriedAt queues at
+    → n ≡ framed queues at → (at + 11 + 5 * n ≤ length queues) × (n ≤ maxViews) × (w ≡ Info → 1 ≤ n)
+entry-asks queues at w n fits inside e f =
+    let few : n ≤ maxViews = rw f (fits-framed queues at fits) in
+    (omega arith, few, λ i. rw f (info-framed queues at fits (sym e ∙ i)))
 
 -- ---- the part of the books that is the member's book
 
@@ -68,18 +69,21 @@ module _ (books : List ℕ) (p : Member) (there : p < getD books membersAt 0) (m
   part = take m (drop (bookSize * p) books)
 
   pub part-asks : HasBook books p → (q : Member) → q < maxMembers → getD (bookBytes books p) takenAt 0 < maxOrdered → getD (bookBytes books p) carrierAt 0 ≡ 1
-      → (bytesSound part ≡ true) × (q < maxMembers) × (getD part takenAt 0 < maxOrdered) × (getD part carrierAt 0 ≡ 1)
+      → (bytesSound part ≡ true) × (getD part takenAt 0 < maxOrdered) × (getD part carrierAt 0 ≡ 1) × (q < maxMembers)
   unfolding bookBytes
-  part-asks desk q from room carrier = rw size (desk .sound there, from, room, carrier)
+  part-asks desk q from room carrier = rw size (desk .sound there, room, carrier, from)
 
-  pub part-taken : (q : Member) (f h : Frame) → f ≡ h → (x : Reply) (c exit : List ℕ)
-      → (x ≡ replyOf (taking q (messageOf (f .message) (listOf (f .views))) (bookIn part)))
-      × (c ≡ left (verdictOf (taking q (messageOf (f .message) (listOf (f .views))) (bookIn part))) (takeBytes q (messageOf (f .message) (listOf (f .views))) part) part)
+  -- the message as it was loaded from the slot
+  pub part-taken : (queues : List ℕ) (at q : ℕ) (w : Carried) (n : ℕ) → w ≡ carriedAt queues at → n ≡ framed queues at → (x : Reply) (c exit : List ℕ)
+      → (x ≡ replyOf (taking q (messageOf w (viewsIn queues (at + 11) n)) (bookIn part)))
+      × (c ≡ left (verdictOf (taking q (messageOf w (viewsIn queues (at + 11) n)) (bookIn part))) (takeBytes q (messageOf w (viewsIn queues (at + 11) n)) part) part)
       → exit ≡ take (bookSize * p) books ++ (c ++ drop m (drop (bookSize * p) books))
-      → OwnStep p (ofMember books p (λ b. taking q (messageOf (h .message) (listOf (h .views))) (bookIn b))) (takeBytes q (messageOf (h .message) (listOf (h .views)))) books exit x
-  part-taken q f h e x c exit y z =
-      let n = messageOf (f .message) (listOf (f .views)) in
-      rw (← e) (desk-done books p (λ b. taking q n (bookIn b)) (takeBytes q n) x there m size c exit y z)
+      → OwnStep p (ofMember books p (λ b. taking q (messageAt queues at) (bookIn b))) (takeBytes q (messageAt queues at)) books exit x
+  part-taken queues at q w n e f x c exit y z =
+      let k = messageOf w (viewsIn queues (at + 11) n) in
+      let is : k ≡ messageAt queues at = λ i. messageOf (e i) (viewsIn queues (at + 11) (f i)) in
+      subst (λ (z : Message). OwnStep p (ofMember books p (λ b. taking q z (bookIn b))) (takeBytes q z) books exit x) is
+      (desk-done books p (λ b. taking q k (bookIn b)) (takeBytes q k) x there m size c exit y z)
 
   pub part-seat : seatIn part carrierAt ≡ seatIn (bookBytes books p) carrierAt
   unfolding bookBytes
@@ -175,7 +179,7 @@ module _ (r : Ranges) (p : Member) where
 
         -- what the code asks of the entry
         pub take-asks : (at : ℕ) → at ≡ here
-            → HasBook (r .books) p × (p < membersOf r) × (at + slotSize ≤ length (r .queues)) × (framed (r .queues) at ≤ maxViews) × (getD (r .queues) at 0 < maxMembers)
+            → HasBook (r .books) p × (p < membersOf r) × (at + slotSize ≤ length (r .queues)) × (slotFits (r .queues) at ≡ true) × (getD (r .queues) at 0 < maxMembers)
             × (getD b takenAt 0 < maxOrdered) × (getD b carrierAt 0 ≡ 1)
         take-asks at e =
             let fits = ranged r s in
@@ -183,7 +187,7 @@ module _ (r : Ranges) (p : Member) where
               desk-of r s p,
               member,
               omega (arith, order-inside r fits i carrier-made, fits .tables i carrier-made .order .few),
-              fits-framed (r .queues) here (entry-ok .fits),
+              entry-ok .fits,
               omega (arith, takes .sender, fits .members .1),
               takes .room,
               takes .there,
@@ -200,8 +204,8 @@ module _ (r : Ranges) (p : Member) where
             let k = in-book n e in
             record { reply = rw by-next (y .reply ∙ ap replyOf k); taken = rw by-next (y .books ∙ rw (k, e)) }
 
-        pub deliver-done : (at g : ℕ) → at ≡ here → (exit : List ℕ) (x : Reply)
-            → OwnStep p (ofMember (r .books) p (λ c. taking (getD (r .queues) at 0) (messageOf (frameAt (r .queues) at g .message) (listOf (frameAt (r .queues) at g .views))) (bookIn c)))
-            (takeBytes (getD (r .queues) at 0) (messageOf (frameAt (r .queues) at g .message) (listOf (frameAt (r .queues) at g .views)))) (r .books) exit x
+        pub deliver-done : (at : ℕ) → at ≡ here → (exit : List ℕ) (x : Reply)
+            → OwnStep p (ofMember (r .books) p (λ c. taking (getD (r .queues) at 0) (messageAt (r .queues) at) (bookIn c)))
+            (takeBytes (getD (r .queues) at 0) (messageAt (r .queues) at)) (r .books) exit x
             → Delivered r p exit x
-        deliver-done at g e exit x y = done _ (frame-message (r .queues) here g entry-ok) exit x (rw e at y)
+        deliver-done at e exit x y = done _ (message-at (r .queues) here entry-ok) exit x (rw e at y)

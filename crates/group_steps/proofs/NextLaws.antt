@@ -8,12 +8,10 @@ use lib.ListN.{length, getD}
 use Rattle.views.specs.declared.ViewId.{ViewId}
 use Rattle.views.specs.declared.refusal.Refusal.the-variants.{NoneToDeliver}
 use Rattle.views.specs.declared.refusal.Verdict.the-variants.{Refused}
-use Rattle.views.specs.Limits.{maxViews, maxMembers, maxOrdered}
-use Rattle.views.specs.Lists.{listOf}
+use Rattle.views.specs.Limits.{maxMembers, maxOrdered}
 use Rattle.rules.specs.Data.{Member}
-use Rattle.rules.specs.Alone.{messageOf}
-use Rattle.slots.specs.Slots.{slotSize}
-use Rattle.slots.specs.FrameParts.{framed, frameAt}
+use Rattle.slots.specs.Slots.{slotSize, slotFits}
+use Rattle.slots.specs.FrameParts.{messageAt}
 use Rattle.book_bytes.specs.Places.{carrierAt, takenAt, bookSize}
 use Rattle.book_bytes.specs.Records.{seatIn}
 use Rattle.book_bytes.specs.Books.{bookIn}
@@ -62,12 +60,12 @@ module _ (r : Ranges) (p : Member) (s : rangesSound r ≡ true) (member : p < me
     ahead : getD (bookBytes (r .books) p) takenAt 0 < getD (r .queues) (orderAt i) 0
     ahead = omega (arith, at-count, at-taken)
 
-    pub next-asks : HasBook (r .books) p × (p < membersOf r) × (at + slotSize ≤ length (r .queues)) × (framed (r .queues) at ≤ maxViews) × (getD (r .queues) at 0 < maxMembers)
+    pub next-asks : HasBook (r .books) p × (p < membersOf r) × (at + slotSize ≤ length (r .queues)) × (slotFits (r .queues) at ≡ true) × (getD (r .queues) at 0 < maxMembers)
         × (getD (bookBytes (r .books) p) takenAt 0 < maxOrdered) × (getD (bookBytes (r .books) p) carrierAt 0 ≡ 1)
     next-asks = take-asks r p s member there bytes ahead at (omega (arith, at-order, at-taken))
 
     pub next-done : (exit : List ℕ) (x : Reply)
-        → OwnStep p (ofMember (r .books) p (λ b. taking (getD (r .queues) at 0) (messageOf (frameAt (r .queues) at (g .0) .message) (listOf (frameAt (r .queues) at (g .0) .views))) (bookIn b)))
-        (takeBytes (getD (r .queues) at 0) (messageOf (frameAt (r .queues) at (g .0) .message) (listOf (frameAt (r .queues) at (g .0) .views)))) (r .books) exit x
+        → OwnStep p (ofMember (r .books) p (λ b. taking (getD (r .queues) at 0) (messageAt (r .queues) at) (bookIn b)))
+        (takeBytes (getD (r .queues) at 0) (messageAt (r .queues) at)) (r .books) exit x
         → Delivered r p exit x
-    next-done exit x y = deliver-done r p s member there bytes ahead at (g .0) (omega (arith, at-order, at-taken)) exit x y
+    next-done exit x y = deliver-done r p s member there bytes ahead at (omega (arith, at-order, at-taken)) exit x y

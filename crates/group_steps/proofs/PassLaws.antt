@@ -1,14 +1,12 @@
--- Pass: the copy by turns, the member's book as a part of the books, each refusal at its place in the row, and the bytes of an accepted one.
+-- Pass: the member's book as a part of the books, each refusal at its place in the row, and the bytes of an accepted one.
 use mathlib.Core.Path.{_≡_, refl, sym, ap, _∙_}
 use mathlib.Core.Bool.{true, false}
 use mathlib.Core.Option.{some}
 use mathlib.Core.List.{List, _++_}
 use Prim.Native.Nat.{ℕ, _+_, _*_, _≤_, _<_}
-use native.Mathlib.Numerals.{add-one}
 use native.Mathlib.Omega.{arith}
 use borrow.Author.Tests.{lt-ltb, le-ltb}
-use lib.ListN.{length, getD, set, take, drop, length-drop}
-use lib.Seq.{paste, paste-suc, getD-drop}
+use lib.ListN.{length, getD, take, drop}
 use Rattle.views.specs.declared.refusal.Refusal.{Refusal}
 use Rattle.views.specs.declared.refusal.Refusal.the-variants.{NoCarrierView, NoneOutgoing, WaitingFull}
 use Rattle.views.specs.declared.refusal.Verdict.the-variants.{Accepted, Refused}
@@ -37,14 +35,6 @@ use Rattle.group_bytes.proofs.PassGroup.{carriedIn}
 use Rattle.group_bytes.proofs.Tables.{waiting-at}
 use Rattle.group_steps.specs.CarrierParts.{passing, Passed}
 use Rattle.group_steps.proofs.Rows.{ranged, group-sound, by-rule, first-of, none-of}
-
--- ---- the copy, by turns
-
-pub copy-turn : (q t : List ℕ) (to at i : ℕ) → to + i < length q → at + i < length t
-    → set (paste q to (drop at t) i) (to + i) (getD t (at + i) 0) ≡ paste q to (drop at t) (i + 1)
-copy-turn q t to at i h l =
-    let s : i < length (drop at t) = rw (length-drop at t) (omega arith) in
-    rw (← getD-drop at t i 0, add-one i) (paste-suc q to (drop at t) i 0 h s)
 
 -- ---- the book of p is the part of the books that the code lends
 

@@ -7,13 +7,15 @@ use native.Mathlib.Omega.{arith}
 use borrow.Author.Tests.{lt-ltb, le-ltb}
 use Rattle.views.specs.declared.refusal.Refusal.the-variants.{NoSuchMember}
 use Rattle.views.specs.declared.refusal.Verdict.the-variants.{Refused}
+use Rattle.views.specs.Lists.{isRising}
 use Rattle.views.proofs.SetLaws.{both-true}
 use Rattle.rules.specs.Data.{Entry, Result, need}
 use Rattle.rules.specs.Sound.{sound}
 use Rattle.rules.specs.Group.{Next}
+use Rattle.rules.proofs.Sound.{sound-says}
 use Rattle.slots.specs.Slots.{entriesIn}
 use Rattle.events.specs.Replies.{verdictOf}
-use Rattle.group_bytes.specs.Groups.{Ranges, membersOf, rangesFit, groupIn, rangesSound}
+use Rattle.group_bytes.specs.Groups.{Ranges, membersOf, viewsMade, rangesFit, groupIn, rangesSound}
 use Rattle.group_bytes.proofs.RangesLaws.{Ranged, ranges-says}
 use Rattle.group_steps.specs.CarrierParts.{byMember}
 
@@ -27,6 +29,10 @@ module _ (r : Ranges) (s : rangesSound r ≡ true) where
   pub group-sound : sound (groupIn r) ≡ true
   unfolding rangesSound
   group-sound = both-true (rangesFit r) (sound (groupIn r)) s .1
+
+  pub made-rise : isRising (viewsMade r) ≡ true
+  unfolding groupIn
+  made-rise = sound-says (groupIn r) group-sound .rising
 
 -- ---- 6, then the rule
 

@@ -3,6 +3,7 @@
 pub mod order;
 pub mod pass;
 
+use book_steps::messages::Entry;
 use events::Reply;
 use views::Member;
 use views::ViewId;
@@ -13,11 +14,10 @@ ghost use lib.ListN.{length, getD};
 ghost use mathlib.Core.Bool.{true};
 ghost use Rattle.views.specs.Limits.{maxViews, maxMembers, maxOrdered};
 ghost use Rattle.views.specs.Sizes.{viewSize};
-ghost use Rattle.views.specs.Lists.{listOf};
+ghost use Rattle.views.specs.Lists.{isRising};
 ghost use Rattle.wire.specs.Reader.{viewsIn};
-ghost use Rattle.rules.specs.Alone.{messageOf};
-ghost use Rattle.slots.specs.Slots.{slotSize};
-ghost use Rattle.slots.specs.FrameParts.{framed, frameAt};
+ghost use Rattle.slots.specs.Slots.{slotSize, slotFits};
+ghost use Rattle.slots.specs.FrameParts.{messageAt};
 ghost use Rattle.book_bytes.specs.Places.{membersAt, carrierAt, takenAt};
 ghost use Rattle.book_bytes.specs.Books.{bookIn};
 ghost use Rattle.book_bytes.specs.Records.{seatIn};
@@ -30,7 +30,8 @@ ghost use Rattle.group_steps.specs.VisitParts.{Delivered};
 // Where the order of the view with the identifier stands.
 fn order_of(list: &[u8], queues: &[u8], g: ViewId) -> usize
     requires { ⌜ (madeAt < length (now queues)) × (viewSize * getD (now queues) madeAt 0 ≤ length (now list))
-        × (getD (now queues) madeAt 0 ≤ maxViews) ⌝ }
+        × (getD (now queues) madeAt 0 ≤ maxViews)
+        × (isRising (viewsIn (now list) 0 (getD (now queues) madeAt 0)) ≡ true) ⌝ }
     ensures { λ r. ⌜ r ≡ orderAt
         (placeOf (g .0) (viewsIn (now (list .entry)) 0 (getD (now (queues .entry)) madeAt 0))) ⌝ }
 {
@@ -38,25 +39,24 @@ fn order_of(list: &[u8], queues: &[u8], g: ViewId) -> usize
     group_bytes::order_at(i)
 }
 
-// The member p takes the entry in the slot at a place, sent in the view g.
-fn take_at(all: &mut [u8], queues: &[u8], p: Member, at: usize, g: ViewId) -> Reply
+// The member p takes the entry in the slot at a place; an info's views stay where they lie.
+fn take_at(all: &mut [u8], queues: &[u8], p: Member, at: usize) -> Reply
     requires { ⌜ HasBook (now all) (p .0) × (p .0 < getD (now all) membersAt 0) × (at + slotSize ≤ length (now queues))
-        × (framed (now queues) at ≤ maxViews)
+        × (slotFits (now queues) at ≡ true)
         × (getD (now queues) at 0 < maxMembers) × (getD (bookBytes (now all) (p .0)) takenAt 0 < maxOrdered)
         × (getD (bookBytes (now all) (p .0)) carrierAt 0 ≡ 1) ⌝ }
-    ensures { λ r. ⌜ OwnStep (p .0) (ofMember (now (all .entry)) (p .0) (λ b. taking (getD (now (queues .entry)) at 0)
-        (messageOf (frameAt (now (queues .entry)) at (g .0) .message)
-        (listOf (frameAt (now (queues .entry)) at (g .0) .views))) (bookIn b)))
-        (takeBytes (getD (now (queues .entry)) at 0)
-        (messageOf (frameAt (now (queues .entry)) at (g .0) .message)
-        (listOf (frameAt (now (queues .entry)) at (g .0) .views))))
+    ensures { λ r. ⌜ OwnStep (p .0) (ofMember (now (all .entry)) (p .0)
+        (λ b. taking (getD (now (queues .entry)) at 0) (messageAt (now (queues .entry)) at) (bookIn b)))
+        (takeBytes (getD (now (queues .entry)) at 0) (messageAt (now (queues .entry)) at))
         (now (all .entry)) (now (all .exit)) r ⌝ }
 {
-    let q = Member(queues[at]);
-    let f = slots::load_frame(queues, at, g);
+    let sender = Member(queues[at]);
+    let message = slots::load_message(queues, at);
+    let n = slots::carried(queues, at);
+    let x = Entry { sender, message };
     let a = book_bytes::SIZE * (p.0 as usize);
     let e = a + book_bytes::SIZE;
-    book_steps::messages::deliver(&mut all[a..e], q, f)
+    book_steps::messages::deliver(&mut all[a..e], x, queues, at + slots::VIEWS, n)
 }
 
 // The member p takes the next message of its carrier view, which has the identifier g.
@@ -74,7 +74,7 @@ fn next(list: &[u8], all: &mut [u8], queues: &[u8], p: Member, g: ViewId) -> Rep
     if queues[c] <= k {
         return events::refuse(Refusal::NoneToDeliver);
     }
-    take_at(all, queues, p, c + 1 + slots::SLOT * (k as usize), g)
+    take_at(all, queues, p, c + 1 + slots::SLOT * (k as usize))
 }
 
 // The member p takes the next message of its carrier view's order.

@@ -6,7 +6,6 @@ pub mod CallMeans
 pub mod NeverFour
 pub mod PassLaws
 pub mod ReadLaws
-pub mod SetWalks
 pub mod PassReads
 pub mod Demand2
 pub mod Hosts

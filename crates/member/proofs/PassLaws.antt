@@ -1,5 +1,5 @@
 -- Pass: the first outgoing message of a sound book is one that the writer takes, so its bytes are those of the rule and only 39 is left to refuse it.
-use mathlib.Core.Path.{_≡_, refl, sym, ap, _∙_}
+use mathlib.Core.Path.{_≡_, refl, subst, sym, ap, _∙_}
 use mathlib.Core.Logic.{⊎-elim}
 use mathlib.Core.Bool.{Bool, true, false, cond, not}
 use mathlib.Core.Option.{none, some}
@@ -10,6 +10,7 @@ use borrow.Author.Tests.{leb-true, le-leb, not-true, not-false}
 use lib.Dec.{eqb, leb}
 use lib.ListN.{length, getD}
 use Rattle.views.specs.declared.View.{View}
+use Rattle.views.specs.declared.ViewId.{ViewId}
 use Rattle.views.specs.declared.refusal.Refusal.{Refusal}
 use Rattle.views.specs.declared.refusal.Refusal.the-variants.{NoCarrierView, NoneOutgoing, BufferTooShort}
 use Rattle.views.specs.declared.refusal.Verdict.{Verdict}
@@ -21,10 +22,11 @@ use Rattle.views.specs.Lists.{idOf, isRising, listOf}
 use Rattle.views.proofs.SetLaws.{known, both-true}
 use Rattle.views.proofs.Members.{In, top}
 use Rattle.wire.specs.declared.Frame.{Frame}
+use Rattle.wire.specs.declared.Message.{Message as Carried}
 use Rattle.wire.specs.declared.Written.{Written}
 use Rattle.wire.specs.Format.{kindOf, isKnown, viewsAllowed, someEmpty, toldFits, contentOf}
 use Rattle.wire.specs.Reader.{viewIn}
-use Rattle.wire.specs.Writer.{numberOf, frameBytes, frameVerdict, writeVerdict, writtenOf, Wrote}
+use Rattle.wire.specs.Writer.{numberOf, frameBytes, frameVerdict, writeVerdict, writtenOf, frameFrom, LiesAt, Wrote}
 use Rattle.wire.proofs.ReaderLaws.{list-viewsIn}
 use Rattle.rules.specs.Data.{Book as Ruled, Message, client, info, registered, told, Entry, entry, Result, refused, accepted, need, withView, withFirst, after}
 use Rattle.rules.specs.Member.{Passing, passing, outgoes, all}
@@ -32,8 +34,8 @@ use Rattle.rules.specs.Sound.{within, countFits, setFits, opensRise}
 use Rattle.rules.specs.Alone.{viewsOf, carriedOf, setsFit, passAlone, bookSound, messageBytes, passedBytes}
 use Rattle.rules.proofs.TestLaws.{all-at, conditions-say, both-from, within-says}
 use Rattle.slots.specs.Slots.{slotSize, kindIn, numberIn, countIn, messageIn, entryIn, entriesIn, slotFits, slotsFit}
-use Rattle.slots.specs.FrameParts.{framed, frameAt}
-use Rattle.slots.proofs.Frames.{EntryOk, frame-carried, frame-views, frame-message}
+use Rattle.slots.specs.FrameParts.{framed, carriedAt, frameAt}
+use Rattle.slots.proofs.Frames.{EntryOk, number-at, frame-carried, frame-views, frame-message}
 use Rattle.events.specs.Replies.{verdictOf}
 use Rattle.book_bytes.specs.declared.Seat.{Seat}
 use Rattle.book_bytes.specs.Places.{carrierAt, outgoingAt}
@@ -45,6 +47,17 @@ use Rattle.member.specs.declared.Passed.{Passed}
 use Rattle.member.specs.Calls.{passCall, passedOf, passBuffer, GaveOut}
 use Rattle.member.specs.Parts.{admitted, passingInto, passedWith, SentOut}
 use Rattle.member.proofs.CallLaws.{called, called-admitted, called-refused, admit-says}
+
+-- ---- the frame of a slot, by the parts that are loaded of it
+
+pub parts-frame : (b : List ℕ) (at : ℕ) (view : ViewId) (m : Carried) (n : ℕ) → m ≡ carriedAt b at → n ≡ framed b at
+    → frameAt b at (view .0) ≡ frameFrom view m b (at + 11) n
+unfolding frameAt
+parts-frame b at view m n em en = λ i. frameFrom view (sym em i) b (at + 11) (sym en i)
+
+pub wrote-slot : (b : List ℕ) (at : ℕ) (view : ViewId) (m : Carried) (n : ℕ) → m ≡ carriedAt b at → n ≡ framed b at → (out end : List ℕ) (w : Written)
+    → Wrote (frameFrom view m b (at + 11) n) out end w → Wrote (frameAt b at (view .0)) out end w
+wrote-slot b at view m n em en out end w x = subst (λ (f : Frame). Wrote f out end w) (sym (parts-frame b at view m n em en)) x
 
 -- ---- the frame written, then the message gone
 
@@ -197,6 +210,9 @@ module _ (b : List ℕ) (sound : bytesSound b ≡ true) where
             (frame-count b firstAt g (framed-few b firstAt slot) ∙ ap length (frame-views b firstAt g ok)) (content .0) (content .1),
       )
 
+  pub first-lies : 0 < getD b outgoingAt 0 → LiesAt (carriedAt b firstAt) b (firstAt + 2)
+  first-lies h = number-at b firstAt (first-frame h 0 .0)
+
   pub first-few : 0 < getD b outgoingAt 0 → framed b (outgoingAt + 1) ≤ maxViews
   first-few h = framed-few b firstAt (slots-first b firstAt (getD b outgoingAt 0) h (sound-layout b sound .slots))
 
@@ -227,11 +243,10 @@ module _ (b : List ℕ) (sound : bytesSound b ≡ true) where
           let none-out : bookIn b .outgoing ≡ [] = ap (entriesIn b firstAt) h in
           out-none (bookIn b) NoneOutgoing (passing-empty (bookIn b) (viewIn b (carrierAt + 1)) carrier-is none-out) (passBytes b) b out
 
-      pub pass-done : 0 < getD b outgoingAt 0 → (f : Frame) → f ≡ frameAt b (outgoingAt + 1) (s .view .id .0)
-          → (d out end : List ℕ) (r : Passed) → SentOut f b d out end r
+      pub pass-done : 0 < getD b outgoingAt 0 → (d out end : List ℕ) (r : Passed) → SentOut (frameAt b (outgoingAt + 1) (s .view .id .0)) b d out end r
           → GaveOut (passingInto (length out) (bookIn b)) (passBytes b) b d out end r
       unfolding after
-      pass-done h f e d out end r o =
+      pass-done h d out end r o =
           let (l, first) = entries-first b firstAt (getD b outgoingAt 0) h in
           let g = idOf (s .view) in
           let (ok, frame) = first-frame h g in
@@ -239,8 +254,9 @@ module _ (b : List ℕ) (sound : bytesSound b ≡ true) where
           let same : s .view ≡ v = ap (λ (x : Seat). x .view) loaded in
           let x : Passing = record { to = v; first = entryIn b firstAt; book = outgoes l (bookIn b) } in
           let gives : passing (bookIn b) ≡ accepted x = passing-first (bookIn b) v (entryIn b firstAt) l carrier-is (out-is l first) in
-          let bytes : frameBytes f ≡ passedBytes x = ap frameBytes e ∙ frame-message b firstAt g ok ∙ ap (λ (w : View). messageBytes (idOf w) (messageIn b firstAt)) same in
-          rw gives (sent-as f x b d out end r (ap frameVerdict e ∙ frame) bytes o)
+          let f = frameAt b firstAt g in
+          let bytes : frameBytes f ≡ passedBytes x = frame-message b firstAt g ok ∙ ap (λ (w : View). messageBytes (idOf w) (messageIn b firstAt)) same in
+          rw gives (sent-as f x b d out end r frame bytes o)
 
 -- ---- after 4 and 6
 

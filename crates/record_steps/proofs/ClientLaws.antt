@@ -8,28 +8,27 @@ use borrow.Author.Tests.{eq-eqb, ne-eqb}
 use Rattle.views.specs.Limits.{maxOutgoing}
 use Rattle.views.specs.Sets.{both}
 use Rattle.rules.specs.Data.{Entry, entry, registered}
-use Rattle.book_bytes.specs.declared.Record.{Record}
+use Rattle.book_bytes.specs.declared.Current.{Current}
 use Rattle.record_steps.proofs.AskLaws.{both-false}
-use Rattle.record_steps.specs.Turns.{roomFor}
-use Rattle.record_steps.proofs.RowLaws.{together}
+use Rattle.record_steps.specs.Turns.{inStep, roomFor}
 
 -- ---- room for a message
 
-module _ (h : Record) (out : ℕ) where
-  pub room-asked : together h ≡ true → ltb out maxOutgoing ≡ roomFor h out
+module _ (h : Current) (out : ℕ) where
+  pub room-asked : inStep h ≡ true → ltb out maxOutgoing ≡ roomFor h out
   unfolding roomFor
   room-asked e = rw (e, length-replicate {A = Entry} out (entry 0 registered))
 
-  pub room-unasked : together h ≡ false → true ≡ roomFor h out
+  pub room-unasked : inStep h ≡ false → true ≡ roomFor h out
   unfolding roomFor
   room-unasked e = rw e
 
 -- ---- something new to tell
 
-abbrev telling : Record → Bool
+abbrev telling : Current → Bool
 telling h = both (not (eqb (h .handed .0) (h .told .0))) (not (eqb (h .handed .0) 0))
 
-module _ (h : Record) where
+module _ (h : Current) where
   pub no-news : h .handed .0 ≡ h .told .0 → telling h ≡ false
   no-news e = rw (eq-eqb (h .handed .0) (h .told .0) e)
 

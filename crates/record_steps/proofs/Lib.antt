@@ -3,7 +3,6 @@ pub mod RowLaws
 pub mod MeaningNotes
 pub mod MeaningVerdicts
 pub mod MeaningBooks
-pub mod MeaningTaken
 pub mod MeaningLeft
 pub mod MeaningMarks
 pub mod ClientLaws

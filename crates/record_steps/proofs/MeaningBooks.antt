@@ -6,7 +6,7 @@ use mathlib.Core.List.{List, [], _∷_}
 use Prim.Native.Nat.{ℕ, _+_, _≤_}
 use native.Mathlib.Omega.{arith}
 use lib.Dec.{ltb}
-use lib.ListN.{length}
+use lib.ListN.{length, replicate}
 use Rattle.views.specs.declared.View.{View}
 use Rattle.views.specs.declared.list.Views.{Views}
 use Rattle.views.specs.Limits.{maxMembers, maxOpen}
@@ -19,7 +19,8 @@ use Rattle.rules.specs.Member.{joined, opened, attempted, collected}
 use Rattle.book_bytes.specs.declared.Record.{Record}
 use Rattle.book_bytes.specs.Records.{meaning}
 use Rattle.book_bytes.proofs.Blank.{none-noted, none-told}
-use Rattle.record_steps.specs.Turns.{joinedTo, openedTo, attemptedAt, settledAs}
+use Rattle.book_bytes.proofs.Changes.{carried, counting}
+use Rattle.record_steps.specs.Turns.{seat, openedTo, attemptedAt, settledAs}
 
 -- ---- open views in their places
 
@@ -44,10 +45,18 @@ settled-list v o h = list-placed (aboveOf (idOf v) (listOf o)) (omega (arith, le
 
 -- ---- the books
 
+-- nothing was taken and nothing is noted
+abbrev pub unnotedOf : Record → Record
+unnotedOf h = counting h (h .registered) (h .handed .0) (h .told .0) (h .reported .0) 0 0 0 (replicate maxMembers 0)
+
+-- the record after a join
+abbrev pub joinedTo : View → Record → Record
+joinedTo v h = unnotedOf (carried h (seat v))
+
 module _ (h : Record) (out : List Entry) (own new : List (Item ℕ)) where
   pub join-book : (p : ℕ) (v : View)
       → meaning (joinedTo v h) (entry p (info (h .settled) (listOf (h .opens))) ∷ []) own [] ≡ joined p v (meaning h out own new)
-  unfolding joinedTo joined
+  unfolding joined
   join-book p v = rw (none-noted, none-told maxMembers)
 
   module _ (l : List View) (lies : h .opens ≡ placed l) (short : length l ≤ maxOpen) (v : View) where

@@ -9,11 +9,11 @@ use lib.ListN.{length, take, drop, length-replicate, length-take, length-drop}
 use Rattle.views.specs.declared.View.{View}
 use Rattle.views.specs.declared.refusal.Refusal.{Refusal}
 use Rattle.rules.specs.Data.{Entry, Item, Result, need, withView, withFirst}
-use Rattle.rules.specs.Member.{hasRoom, joins, attempts, registers, sends, hands, tells, safes, collects}
+use Rattle.rules.specs.Member.{hasRoom, attempts, registers, sends, hands, tells, safes, collects}
 use Rattle.events.specs.Replies.{verdictOf}
 use Rattle.book_bytes.specs.declared.Record.{Record}
-use Rattle.book_bytes.specs.Records.{meaning}
-use Rattle.record_steps.specs.Turns.{entriesOf, itemsOf, bookOf}
+use Rattle.book_bytes.specs.Records.{currentOf, meaning}
+use Rattle.record_steps.specs.Turns.{entriesOf, itemsOf, bookOf, unheld, registerVerdict, sendVerdict, handVerdict, tellVerdict, safeVerdict}
 
 -- ---- the refusal table's forms: verdicts that agree in what follows agree
 
@@ -43,10 +43,6 @@ first-same (x ∷ k) (y ∷ l) r f g e h = h x k y l
 -- ---- the steps
 
 module _ (h : Record) (out : List Entry) (own new : List (Item ℕ)) where
-  pub join-verdict : (p : ℕ) (v : View) → verdictOf (joins p v (meaning h out own new)) ≡ verdictOf (joins p v (bookOf h 0 0))
-  unfolding joins
-  join-verdict p v = need-same _ _ _ _ _ refl (need-same _ _ _ _ _ refl refl)
-
   pub attempt-verdict : (weight : ℕ → ℕ) (n p : ℕ) → verdictOf (attempts weight n p (meaning h out own new)) ≡ verdictOf (attempts weight n 0 (bookOf h 0 0))
   unfolding attempts
   attempt-verdict weight n p =
@@ -56,6 +52,9 @@ module _ (h : Record) (out : List Entry) (own new : List (Item ℕ)) where
   unfolding collects
   collect-verdict n = view-same _ _ _ _ (λ v. need-same _ _ _ _ _ refl (need-same _ _ _ _ _ refl refl))
 
+-- ---- the steps in the client view: nor do they ask what is held
+
+module _ (h : Record) (out : List Entry) (own new : List (Item ℕ)) where
   -- as many are outgoing
   out-length : length (entriesOf (length out)) ≡ length out
   out-length = length-replicate (length out) _
@@ -65,30 +64,30 @@ module _ (h : Record) (out : List Entry) (own new : List (Item ℕ)) where
   own-length = length-replicate (length own) _
 
   -- 24 asks how many are outgoing
-  room-same : hasRoom (meaning h out own new) ≡ hasRoom (bookOf h (length out) 0)
+  room-same : hasRoom (meaning h out own new) ≡ hasRoom (bookOf (unheld (currentOf h)) (length out) 0)
   room-same = rw out-length
 
-  pub register-verdict : (p : ℕ) → verdictOf (registers p (meaning h out own new)) ≡ verdictOf (registers 0 (bookOf h (length out) 0))
-  unfolding registers
+  pub register-verdict : (p : ℕ) → verdictOf (registers p (meaning h out own new)) ≡ registerVerdict (currentOf h) (length out)
+  unfolding registers registerVerdict
   register-verdict p = view-same _ _ _ _ (λ v. need-same _ _ _ _ _ refl (need-same _ _ _ _ _ room-same refl))
 
-  pub send-verdict : (p x : ℕ) → verdictOf (sends p x (meaning h out own new)) ≡ verdictOf (sends 0 0 (bookOf h (length out) 0))
-  unfolding sends
+  pub send-verdict : (p x : ℕ) → verdictOf (sends p x (meaning h out own new)) ≡ sendVerdict (currentOf h) (length out)
+  unfolding sends sendVerdict
   send-verdict p x = view-same _ _ _ _ (λ v. need-same _ _ _ _ _ room-same refl)
 
-  pub tell-verdict : (p : ℕ) → verdictOf (tells p (meaning h out own new)) ≡ verdictOf (tells 0 (bookOf h (length out) 0))
-  unfolding tells
+  pub tell-verdict : (p : ℕ) → verdictOf (tells p (meaning h out own new)) ≡ tellVerdict (currentOf h) (length out)
+  unfolding tells tellVerdict
   tell-verdict p =
       view-same _ _ _ _ (λ v. need-same _ _ _ _ _ refl (need-same _ _ _ _ _ refl (need-same _ _ _ _ _ room-same refl)))
 
-  pub hand-verdict : (p : ℕ) → verdictOf (hands p (meaning h out own new)) ≡ verdictOf (hands 0 (bookOf h 0 (length own)))
-  unfolding hands
+  pub hand-verdict : (p : ℕ) → verdictOf (hands p (meaning h out own new)) ≡ handVerdict (currentOf h) (length own)
+  unfolding hands handVerdict
   hand-verdict p =
       view-same _ _ _ _ (λ v. first-same (drop (h .handed .0) own) (drop (h .handed .0) (itemsOf (length own))) _ _ _
       (simp (length-drop, own-length)) (λ x rest y others. refl))
 
-  pub safe-verdict : (n p : ℕ) → verdictOf (safes n p (meaning h out own new)) ≡ verdictOf (safes n 0 (bookOf h 0 (length own)))
-  unfolding safes
+  pub safe-verdict : (n p : ℕ) → verdictOf (safes n p (meaning h out own new)) ≡ safeVerdict n (currentOf h) (length own)
+  unfolding safes safeVerdict
   safe-verdict n p =
       view-same _ _ _ _ (λ v. need-same _ _ _ _ _ refl (
       first-same (drop (h .reported .0) (take (h .handed .0) own)) (drop (h .reported .0) (take (h .handed .0) (itemsOf (length own)))) _ _ _

@@ -8,7 +8,7 @@ use lib.Dec.{eqb, ltb, leb·zero, leb·suc-zero, leb·suc-suc}
 use lib.ListN.{length, take, drop, getD, length-take, length-replicate}
 use Rattle.views.specs.declared.View.{View}
 use Rattle.views.specs.declared.refusal.Refusal.{Refusal}
-use Rattle.views.specs.declared.refusal.Refusal.the-variants.{NotInSet, NotAboveCarrier, NoCarrierView, NotAboveClient, InfoMissing, TestFailed, NoClientView, AlreadyRegistered, OutgoingFull, NoneToHand, ClientNotCarrier, NothingNewToTell, NoneToReport, ToldTooLow, NotAboveSettled, RegistrationMissing}
+use Rattle.views.specs.declared.refusal.Refusal.the-variants.{NoCarrierView, NotAboveClient, InfoMissing, TestFailed, NoClientView, AlreadyRegistered, OutgoingFull, NoneToHand, ClientNotCarrier, NothingNewToTell, NoneToReport, ToldTooLow, NotAboveSettled, RegistrationMissing}
 use Rattle.views.specs.declared.refusal.Verdict.{Verdict}
 use Rattle.views.specs.declared.refusal.Verdict.the-variants.{Accepted, Refused}
 use Rattle.views.specs.Limits.{maxOutgoing}
@@ -21,7 +21,7 @@ use Rattle.events.specs.Replies.{verdictOf}
 use Rattle.book_bytes.specs.declared.Seat.{Seat}
 use Rattle.book_bytes.specs.declared.Record.{Record}
 use Rattle.book_bytes.specs.Records.{seated, meaning}
-use Rattle.record_steps.specs.Turns.{itemsOf, stepped}
+use Rattle.record_steps.specs.Turns.{itemsOf, stepped, joinVerdict}
 
 -- ---- a row and a step by its verdict
 
@@ -82,9 +82,8 @@ abbrev pub room : Record → ℕ → Bool
 room h n = not (together h) || ltb n maxOutgoing
 
 module _ (p : ℕ) (h : Record) (out : List Entry) (own new : List (Item ℕ)) where
-  pub join-row : (v : View)
-      → verdictOf (joins p v (meaning h out own new)) ≡ require (has (v .set) p) NotInSet (require (isAbove (idOf v) (seated (h .carrier))) NotAboveCarrier Accepted)
-  unfolding joins
+  pub join-row : (v : View) → verdictOf (joins p v (meaning h out own new)) ≡ joinVerdict p v (h .carrier)
+  unfolding joins joinVerdict
   join-row v = at-need _ _ _ ∙ ap (require _ _) (at-need _ _ _)
 
   pub attempt-row : (weight : ℕ → ℕ) (n : ℕ)

@@ -17,8 +17,9 @@ use Rattle.views.specs.Lists.{idOf, listOf, placed, unionOf, aboveOf}
 use Rattle.views.proofs.SetLaws.{known}
 use Rattle.views.proofs.ListLaws.{union-nil, union-front, union-ind, length-above}
 use Rattle.views.proofs.PlaceLaws.{list-placed}
-use Rattle.book_bytes.specs.declared.Record.{Record}
-use Rattle.record_steps.specs.Turns.{settledView}
+use Rattle.rules.specs.Member.{settledBy, learned}
+use Rattle.book_bytes.specs.declared.Held.{Held}
+use Rattle.record_steps.specs.Turns.{heldMeaning, learnedBy}
 
 -- a member's digit fits the byte
 pub digit-fits : (q : ℕ) → q < maxMembers → 1 * 2 ^ q % 256 ≡ 2 ^ q
@@ -54,10 +55,11 @@ above-union g = union-ind (λ k l m. aboveOf g m ≡ unionOf (aboveOf g k) (abov
     (known (ltb g (idOf x))))
 
 -- the open views after an info: both lists pruned, then put together
-pub info-opens : (x settled : View) (l kept arrived joined : Views) (h : Record)
-    → settled ≡ settledView x h → kept ≡ placed (aboveOf (idOf settled) (listOf (h .opens))) → arrived ≡ placed (aboveOf (idOf settled) (listOf l))
+pub info-opens : (x settled : View) (l kept arrived joined : Views) (h : Held)
+    → settled ≡ settledBy x (heldMeaning h) → kept ≡ placed (aboveOf (idOf settled) (listOf (h .opens))) → arrived ≡ placed (aboveOf (idOf settled) (listOf l))
     → joined ≡ placed (unionOf (listOf kept) (listOf arrived)) → h .opens .count ≤ maxOpen → l .count ≤ maxOpen
-    → joined ≡ placed (aboveOf (idOf (settledView x h)) (unionOf (listOf (h .opens)) (listOf l)))
+    → record { settled = settled; opens = joined } ≡ learnedBy x l h
+unfolding learnedBy learned
 info-opens x settled l kept arrived joined h e k a j m n =
     let g = idOf settled in
     let short : (w : Views) → w .count ≤ maxOpen → listOf (placed (aboveOf g (listOf w))) ≡ aboveOf g (listOf w) =

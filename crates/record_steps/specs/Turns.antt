@@ -1,25 +1,28 @@
--- The member's steps on its small record: the verdict is that of the rules on the book it is, and the record after an
--- accepted step.
+-- The member's steps on its small record: the verdict is that of the rules on the book it is, and what an accepted step
+-- changes of it.
 use mathlib.Core.Bool.{Bool, true, false, cond}
 use mathlib.Core.List.{List, []}
-use Prim.Native.Nat.{ℕ, _+_, _-_, _^_}
+use Prim.Native.Nat.{ℕ, _-_, _^_}
 use lib.Bits.{bitOr}
 use lib.Dec.{ltb}
-use lib.ListN.{replicate, set}
+use lib.ListN.{replicate}
 use Rattle.views.specs.declared.View.{View}
 use Rattle.views.specs.declared.list.Views.{Views}
+use Rattle.views.specs.declared.refusal.Refusal.the-variants.{NotInSet, NotAboveCarrier}
 use Rattle.views.specs.declared.refusal.Verdict.{Verdict}
 use Rattle.views.specs.declared.refusal.Verdict.the-variants.{Accepted, Refused}
-use Rattle.views.specs.Limits.{maxMembers}
-use Rattle.views.specs.Sets.{one}
-use Rattle.views.specs.Lists.{idOf, listOf, placed, insertOf, aboveOf}
+use Rattle.views.specs.Refusals.{require}
+use Rattle.views.specs.Sets.{has, one}
+use Rattle.views.specs.Lists.{idOf, noView, listOf, placed, insertOf, aboveOf}
 use Rattle.rules.specs.Data as R
 use Rattle.rules.specs.Data.{Entry, entry, Item, item}
-use Rattle.rules.specs.Member.{joins, attempts, registers, sends, hands, tells, safes, collects, settledBy, learned}
-use Rattle.rules.specs.Member.{hasRoom}
+use Rattle.rules.specs.Member.{isAbove, attempts, registers, sends, hands, tells, safes, collects, learned}
+use Rattle.rules.specs.Member.{clientIsCarrier, hasRoom}
 use Rattle.book_bytes.specs.declared.Seat.{Seat}
 use Rattle.book_bytes.specs.declared.Record.{Record}
-use Rattle.book_bytes.specs.Records.{meaning}
+use Rattle.book_bytes.specs.declared.Current.{Current}
+use Rattle.book_bytes.specs.declared.Held.{Held}
+use Rattle.book_bytes.specs.Records.{seated, meaning}
 use Rattle.record_steps.specs.declared.Stepped.{Stepped}
 use Rattle.events.specs.Replies.{verdictOf}
 
@@ -44,25 +47,10 @@ stepped (Refused r) new old = record { verdict = Refused r; book = old }
 abbrev pub seat : View → Seat
 seat v = record { there = true; view = v }
 
-unfoldable pub joinedTo : View → Record → Record
-joinedTo v h = record {
-  settled = h .settled;
-  opens = h .opens;
-  carrier = seat v;
-  client = h .client;
-  registered = h .registered;
-  handed = h .handed;
-  told = h .told;
-  reported = h .reported;
-  taken = record { 0 = 0 };
-  infos = 0;
-  registrations = 0;
-  tolds = replicate maxMembers 0;
-  side = h .side;
-}
-
-unfoldable pub joinTurn : ℕ → View → Record → Stepped
-joinTurn p v h = stepped (verdictOf (joins p v (bookOf h 0 0))) (joinedTo v h) h
+-- the verdict: of the book, it asks the carrier view alone
+unfoldable pub joinVerdict : ℕ → View → Seat → Verdict
+joinVerdict p v at =
+    require (has (v .set) p) NotInSet (require (isAbove (idOf v) (seated at)) NotAboveCarrier Accepted)
 
 -- ---- deliver: what was taken
 
@@ -70,41 +58,14 @@ joinTurn p v h = stepped (verdictOf (joins p v (bookOf h 0 0))) (joinedTo v h) h
 unfoldable pub withMember : ℕ → ℕ → ℕ
 withMember q s = bitOr s (2 ^ q)
 
--- one message more was taken; settled and open views, infos, registrations and told counts after it
-abbrev pub takenIn : Record → View → Views → ℕ → ℕ → List ℕ → Record
-takenIn h v l i r t = record {
-  settled = v;
-  opens = l;
-  carrier = h .carrier;
-  client = h .client;
-  registered = h .registered;
-  handed = h .handed;
-  told = h .told;
-  reported = h .reported;
-  taken = record { 0 = h .taken .0 + 1 };
-  infos = i;
-  registrations = r;
-  tolds = t;
-  side = h .side;
-}
+-- what is held, in the rules' words
+abbrev pub heldMeaning : Held → R.Held
+heldMeaning h = record { settled = h .settled; opens = listOf (h .opens) }
 
--- the settled view after an info with the settled view x
-unfoldable pub settledView : View → Record → View
-settledView x h = settledBy x (bookOf h 0 0 .held)
-
-unfoldable pub clientTurn : Record → Record
-clientTurn h = takenIn h (h .settled) (h .opens) (h .infos) (h .registrations) (h .tolds)
-
-unfoldable pub infoTurn : ℕ → View → Views → Record → Record
-infoTurn q x l h =
-    let held = learned x (listOf l) (bookOf h 0 0 .held) in
-    takenIn h (held .settled) (placed (held .opens)) (withMember q (h .infos)) (h .registrations) (h .tolds)
-
-unfoldable pub registeredTurn : ℕ → Record → Record
-registeredTurn q h = takenIn h (h .settled) (h .opens) (h .infos) (withMember q (h .registrations)) (h .tolds)
-
-unfoldable pub toldTurn : ℕ → ℕ → Record → Record
-toldTurn q k h = takenIn h (h .settled) (h .opens) (h .infos) (h .registrations) (set (h .tolds) q k)
+-- what is held after an info with the settled view x and the open views l
+unfoldable pub learnedBy : View → Views → Held → Held
+learnedBy x l h =
+    let k = learned x (listOf l) (heldMeaning h) in record { settled = k .settled; opens = placed (k .opens) }
 
 -- ---- attempt
 
@@ -132,18 +93,19 @@ attemptedAt v h = record {
 unfoldable pub attemptTurn : ℕ → Record → Stepped
 attemptTurn n h = stepped (verdictOf (attempts one n 0 (bookOf h 0 0))) (attemptedAt (h .carrier .view) h) h
 
--- ---- register, send, hand, tell, safe: marks and positions
+-- ---- register, send, hand, tell, safe: no rule in the client view asks what is held
 
-abbrev pub marked : Bool → ℕ → ℕ → ℕ → Record → Record
-marked g handed told reported h = record {
-  settled = h .settled;
-  opens = h .opens;
+-- the record with nothing held
+abbrev pub unheld : Current → Record
+unheld h = record {
+  settled = noView;
+  opens = placed [];
   carrier = h .carrier;
   client = h .client;
-  registered = g;
-  handed = record { 0 = handed };
-  told = record { 0 = told };
-  reported = record { 0 = reported };
+  registered = h .registered;
+  handed = h .handed;
+  told = h .told;
+  reported = h .reported;
   taken = h .taken;
   infos = h .infos;
   registrations = h .registrations;
@@ -151,31 +113,28 @@ marked g handed told reported h = record {
   side = h .side;
 }
 
+-- the client view is the carrier view
+abbrev pub inStep : Current → Bool
+inStep h = clientIsCarrier (bookOf (unheld h) 0 0)
+
 -- a message can be queued, or would not be
-unfoldable pub roomFor : Record → ℕ → Bool
-roomFor h out = hasRoom (bookOf h out 0)
+unfoldable pub roomFor : Current → ℕ → Bool
+roomFor h out = hasRoom (bookOf (unheld h) out 0)
 
-unfoldable pub registerTurn : Record → ℕ → Stepped
-registerTurn h out =
-    stepped (verdictOf (registers 0 (bookOf h out 0))) (marked true (h .handed .0) (h .told .0) (h .reported .0) h) h
+unfoldable pub registerVerdict : Current → ℕ → Verdict
+registerVerdict h out = verdictOf (registers 0 (bookOf (unheld h) out 0))
 
-unfoldable pub sendTurn : Record → ℕ → Stepped
-sendTurn h out = stepped (verdictOf (sends 0 0 (bookOf h out 0))) h h
+unfoldable pub sendVerdict : Current → ℕ → Verdict
+sendVerdict h out = verdictOf (sends 0 0 (bookOf (unheld h) out 0))
 
-unfoldable pub handTurn : Record → ℕ → Stepped
-handTurn h own =
-    stepped (verdictOf (hands 0 (bookOf h 0 own)))
-    (marked (h .registered) (h .handed .0 + 1) (h .told .0) (h .reported .0) h) h
+unfoldable pub handVerdict : Current → ℕ → Verdict
+handVerdict h own = verdictOf (hands 0 (bookOf (unheld h) 0 own))
 
-unfoldable pub tellTurn : Record → ℕ → Stepped
-tellTurn h out =
-    stepped (verdictOf (tells 0 (bookOf h out 0)))
-    (marked (h .registered) (h .handed .0) (h .handed .0) (h .reported .0) h) h
+unfoldable pub tellVerdict : Current → ℕ → Verdict
+tellVerdict h out = verdictOf (tells 0 (bookOf (unheld h) out 0))
 
-unfoldable pub safeTurn : ℕ → Record → ℕ → Stepped
-safeTurn n h own =
-    stepped (verdictOf (safes n 0 (bookOf h 0 own)))
-    (marked (h .registered) (h .handed .0) (h .told .0) (h .reported .0 + 1) h) h
+unfoldable pub safeVerdict : ℕ → Current → ℕ → Verdict
+safeVerdict n h own = verdictOf (safes n 0 (bookOf (unheld h) 0 own))
 
 -- ---- collect
 

@@ -11,35 +11,19 @@ use views::refusal::Refusal;
 use views::refusal::Verdict;
 ghost use mathlib.Core.Path.{_≡_};
 ghost use Prim.Native.Nat.{_≤_};
-ghost use Rattle.record_steps.specs.Turns.{joinTurn, attemptTurn, openedTo, attemptedAt, collectTurn};
+ghost use Rattle.record_steps.specs.Turns.{joinVerdict, attemptTurn, openedTo, attemptedAt, collectTurn};
 
-// The view v becomes the carrier view of the member p.
-pub fn join(p: Member, v: View, h: Record) -> Stepped
-    ensures { λ r. ⌜ r ≡ joinTurn (p .0) v h ⌝ }
+// Whether the view v may become the carrier view of the member p, which is at another or at none.
+pub fn join(p: Member, v: View, at: Seat) -> Verdict
+    ensures { λ r. ⌜ r ≡ joinVerdict (p .0) v at ⌝ }
 {
     if !sets::contains(v.set, p) {
-        return crate::refuse(Refusal::NotInSet, h);
+        return Verdict::Refused(Refusal::NotInSet);
     }
-    let at = h.carrier;
     if !crate::tests::above(v.id, at) {
-        return crate::refuse(Refusal::NotAboveCarrier, h);
+        return Verdict::Refused(Refusal::NotAboveCarrier);
     }
-    let mut next = h;
-    let seat = Seat {
-        there: true,
-        view: v,
-    };
-    let none = [0u8; 8];
-    next.carrier = seat;
-    let taken = Position(0);
-    next.taken = taken;
-    next.infos = 0;
-    next.registrations = 0;
-    next.tolds = none;
-    Stepped {
-        verdict: Verdict::Accepted,
-        book: next,
-    }
+    Verdict::Accepted
 }
 
 // The carrier view becomes open and becomes the client view. More than 31 may be open then: that is for the caller to

@@ -1,143 +1,121 @@
-// The steps in the client view, each of which a member without one is refused: register, send, hand, tell and safe, by
-// value. The numbers beside the record are the lengths of its queues.
-use crate::Stepped;
-use book_bytes::Record;
-use views::Position;
+// The steps in the client view, each of which a member without one is refused: the verdicts of register, send, hand,
+// tell and safe. The numbers beside the record are the lengths of its queues.
+use book_bytes::Current;
 use views::limits;
 use views::refusal::Refusal;
 use views::refusal::Verdict;
 ghost use mathlib.Core.Path.{_≡_};
-ghost use Rattle.record_steps.specs.Turns.{roomFor, registerTurn, sendTurn, handTurn, tellTurn, safeTurn};
+ghost use Rattle.record_steps.specs.Turns.{inStep, roomFor, registerVerdict, sendVerdict, handVerdict};
+ghost use Rattle.record_steps.specs.Turns.{tellVerdict, safeVerdict};
 
-// A message can be queued, or would not be.
-fn has_room(h: Record, out: u8) -> bool
-    ensures { λ r. ⌜ r ≡ roomFor h out ⌝ }
+// The client view is the carrier view.
+pub fn in_step(h: Current) -> bool
+    ensures { λ r. ⌜ r ≡ inStep h ⌝ }
 {
     let client = h.client;
     let carrier = h.carrier;
-    if crate::tests::same_view(client, carrier) {
+    crate::tests::same_view(client, carrier)
+}
+
+// A message can be queued, or would not be.
+fn has_room(h: Current, out: u8) -> bool
+    ensures { λ r. ⌜ r ≡ roomFor h out ⌝ }
+{
+    if in_step(h) {
         return out < limits::OUTGOING;
     }
     true
 }
 
-// Noted for the client view.
-pub fn register(h: Record, out: u8) -> Stepped
-    ensures { λ r. ⌜ r ≡ registerTurn h out ⌝ }
+// The client view is noted as registered.
+pub fn register(h: Current, out: u8) -> Verdict
+    ensures { λ r. ⌜ r ≡ registerVerdict h out ⌝ }
 {
     let client = h.client;
     if !client.there {
-        return crate::refuse(Refusal::NoClientView, h);
+        return Verdict::Refused(Refusal::NoClientView);
     }
     if h.registered {
-        return crate::refuse(Refusal::AlreadyRegistered, h);
+        return Verdict::Refused(Refusal::AlreadyRegistered);
     }
     if !has_room(h, out) {
-        return crate::refuse(Refusal::OutgoingFull, h);
+        return Verdict::Refused(Refusal::OutgoingFull);
     }
-    let mut next = h;
-    next.registered = true;
-    Stepped {
-        verdict: Verdict::Accepted,
-        book: next,
-    }
+    Verdict::Accepted
 }
 
-// A client message may go out.
-pub fn send(h: Record, out: u8) -> Stepped
-    ensures { λ r. ⌜ r ≡ sendTurn h out ⌝ }
+// A client message goes out.
+pub fn send(h: Current, out: u8) -> Verdict
+    ensures { λ r. ⌜ r ≡ sendVerdict h out ⌝ }
 {
     let client = h.client;
     if !client.there {
-        return crate::refuse(Refusal::NoClientView, h);
+        return Verdict::Refused(Refusal::NoClientView);
     }
     if !has_room(h, out) {
-        return crate::refuse(Refusal::OutgoingFull, h);
+        return Verdict::Refused(Refusal::OutgoingFull);
     }
-    Stepped {
-        verdict: Verdict::Accepted,
-        book: h,
-    }
+    Verdict::Accepted
 }
 
 // The next of the client view's inward list, which has so many, is handed out.
-pub fn hand(h: Record, own: u8) -> Stepped
-    ensures { λ r. ⌜ r ≡ handTurn h own ⌝ }
+pub fn hand(h: Current, own: u8) -> Verdict
+    ensures { λ r. ⌜ r ≡ handVerdict h own ⌝ }
 {
     let client = h.client;
     if !client.there {
-        return crate::refuse(Refusal::NoClientView, h);
+        return Verdict::Refused(Refusal::NoClientView);
     }
     if own <= h.handed.0 {
-        return crate::refuse(Refusal::NoneToHand, h);
+        return Verdict::Refused(Refusal::NoneToHand);
     }
-    let handed = Position(h.handed.0 + 1);
-    let mut next = h;
-    next.handed = handed;
-    Stepped {
-        verdict: Verdict::Accepted,
-        book: next,
-    }
+    Verdict::Accepted
 }
 
 // The number handed out is told.
-pub fn tell(h: Record, out: u8) -> Stepped
-    ensures { λ r. ⌜ r ≡ tellTurn h out ⌝ }
+pub fn tell(h: Current, out: u8) -> Verdict
+    ensures { λ r. ⌜ r ≡ tellVerdict h out ⌝ }
 {
     let client = h.client;
-    let carrier = h.carrier;
     if !client.there {
-        return crate::refuse(Refusal::NoClientView, h);
+        return Verdict::Refused(Refusal::NoClientView);
     }
-    if !crate::tests::same_view(client, carrier) {
-        return crate::refuse(Refusal::ClientNotCarrier, h);
+    if !in_step(h) {
+        return Verdict::Refused(Refusal::ClientNotCarrier);
     }
     if h.handed.0 == h.told.0 {
-        return crate::refuse(Refusal::NothingNewToTell, h);
+        return Verdict::Refused(Refusal::NothingNewToTell);
     }
     if h.handed.0 == 0 {
-        return crate::refuse(Refusal::NothingNewToTell, h);
+        return Verdict::Refused(Refusal::NothingNewToTell);
     }
     if !has_room(h, out) {
-        return crate::refuse(Refusal::OutgoingFull, h);
+        return Verdict::Refused(Refusal::OutgoingFull);
     }
-    let handed = h.handed;
-    let mut next = h;
-    next.told = handed;
-    Stepped {
-        verdict: Verdict::Accepted,
-        book: next,
-    }
+    Verdict::Accepted
 }
 
 // The next handed message not yet reported is reported, of an inward list that has so many.
-pub fn safe(n: u8, h: Record, own: u8) -> Stepped
-    ensures { λ r. ⌜ r ≡ safeTurn n h own ⌝ }
+pub fn safe(n: u8, h: Current, own: u8) -> Verdict
+    ensures { λ r. ⌜ r ≡ safeVerdict n h own ⌝ }
 {
     let client = h.client;
-    let carrier = h.carrier;
     if !client.there {
-        return crate::refuse(Refusal::NoClientView, h);
+        return Verdict::Refused(Refusal::NoClientView);
     }
-    if !crate::tests::same_view(client, carrier) {
-        return crate::refuse(Refusal::ClientNotCarrier, h);
+    if !in_step(h) {
+        return Verdict::Refused(Refusal::ClientNotCarrier);
     }
     if h.handed.0 <= h.reported.0 {
-        return crate::refuse(Refusal::NoneToReport, h);
+        return Verdict::Refused(Refusal::NoneToReport);
     }
     if own <= h.reported.0 {
-        return crate::refuse(Refusal::NoneToReport, h);
+        return Verdict::Refused(Refusal::NoneToReport);
     }
     let v = client.view;
     let tolds = h.tolds;
     if !crate::tests::all_told(n, v.set, tolds, h.reported) {
-        return crate::refuse(Refusal::ToldTooLow, h);
+        return Verdict::Refused(Refusal::ToldTooLow);
     }
-    let reported = Position(h.reported.0 + 1);
-    let mut next = h;
-    next.reported = reported;
-    Stepped {
-        verdict: Verdict::Accepted,
-        book: next,
-    }
+    Verdict::Accepted
 }

@@ -1,4 +1,4 @@
--- The frame of a slot is its entry's message: the same wire message, the same views, and so the same bytes.
+-- The message in a slot as it is loaded, and its frame, are its entry's message: the same wire message, the same views, and so the same bytes.
 use mathlib.Core.Path.{_≡_, refl, ap₂, _∙_}
 use mathlib.Core.Bool.{true, cond}
 use mathlib.Core.List.{List, [], _∷_}
@@ -15,13 +15,13 @@ use Rattle.wire.specs.declared.Message.{Message as Carried}
 use Rattle.wire.specs.declared.Message.the-variants.{Info}
 use Rattle.wire.specs.Format.{isKnown, bytesOf}
 use Rattle.wire.specs.Reader.{viewsIn, messageOf}
-use Rattle.wire.specs.Writer.{frameBytes}
+use Rattle.wire.specs.Writer.{frameBytes, LiesAt}
 use Rattle.wire.proofs.ReaderLaws.{list-viewsIn, length-viewsIn}
-use Rattle.wire.proofs.TripMessages.{both-first, both-second, Kind, kind-of-known}
-use Rattle.rules.specs.Data.{Message, client, registered, told}
-use Rattle.rules.specs.Alone.{viewsOf, carriedOf, messageBytes, infoOf}
+use Rattle.wire.proofs.TripMessages.{both-first, both-second, Kind, kind-of-known, number-lies}
+use Rattle.rules.specs.Data.{Message, client, info, registered, told}
+use Rattle.rules.specs.Alone.{viewsOf, carriedOf, messageOf as whole, messageBytes, infoOf}
 use Rattle.slots.specs.Slots.{kindIn, numberIn, countIn, infoIn, messageIn, slotFits}
-use Rattle.slots.specs.FrameParts.{framed, frameAt}
+use Rattle.slots.specs.FrameParts.{framed, carriedAt, messageAt, frameAt}
 
 -- the slot at a place can be sent as it stands: it fits, and a told's number is a byte, as the frame's is
 pub record EntryOk (b : List ℕ) (at : ℕ) : Type 0 where
@@ -84,21 +84,56 @@ few-framed k n h Kind.info = h refl
 few-framed k n h Kind.registered = omega arith
 few-framed k n h Kind.told = omega arith
 
--- ---- the frame
+-- an info has at least one
+some-framed : (k x n : ℕ) → (k ≡ 2 → 1 ≤ n) → Kind k → messageOf k x ≡ Info → 1 ≤ cond (eqb k 2) n 0
+unfolding messageOf
+some-framed k x n h Kind.client e = let z : _≡_ {A = ℕ} 0 1 = cc in absurd (omega arith)
+some-framed k x n h Kind.info e = h refl
+some-framed k x n h Kind.registered e = let z : _≡_ {A = ℕ} 0 1 = cc in absurd (omega arith)
+some-framed k x n h Kind.told e = let z : _≡_ {A = ℕ} 0 1 = cc in absurd (omega arith)
 
-module _ (b : List ℕ) (at g : ℕ) (ok : EntryOk b at) where
+pub info-framed : (b : List ℕ) (at : ℕ) → slotFits b at ≡ true → carriedAt b at ≡ Info → 1 ≤ framed b at
+info-framed b at fits e = some-framed (kindIn b at) (numberIn b at) (countIn b at) (λ i. slot-count b at fits i .0) (slot-kind b at fits) e
+
+-- ---- the message as it is loaded
+
+carried-whole : (m : Message) → whole (carriedOf m) (viewsOf m) ≡ m
+carried-whole (client x) = refl
+carried-whole (info v l) = refl
+carried-whole registered = refl
+carried-whole (told k) = refl
+
+module _ (b : List ℕ) (at : ℕ) (ok : EntryOk b at) where
   kind : Kind (kindIn b at)
   kind = slot-kind b at (ok .fits)
 
+  carried-at : carriedAt b at ≡ carriedOf (messageIn b at)
+  unfolding messageIn
+  carried-at = held-carried (kindIn b at) (numberIn b at) (infoIn b at) kind (ok .told)
+
+  views-at : viewsIn b (at + 11) (framed b at) ≡ viewsOf (messageIn b at)
+  unfolding messageIn infoIn
+  views-at = held-views b (at + 11) (kindIn b at) (numberIn b at) (countIn b at) kind (λ i. slot-count b at (ok .fits) i .0) (λ i. slot-count b at (ok .fits) i .1)
+
+  -- its number, where it lies
+  pub number-at : LiesAt (carriedAt b at) b (at + 2)
+  number-at = number-lies b (at + 2) (kindIn b at) kind (ok .told)
+
+  pub message-at : messageAt b at ≡ messageIn b at
+  message-at = ap₂ whole carried-at views-at ∙ carried-whole (messageIn b at)
+
+-- ---- the frame
+
+module _ (b : List ℕ) (at g : ℕ) (ok : EntryOk b at) where
   pub frame-carried : frameAt b at g .message ≡ carriedOf (messageIn b at)
-  unfolding frameAt messageIn
-  frame-carried = held-carried (kindIn b at) (numberIn b at) (infoIn b at) kind (ok .told)
+  unfolding frameAt
+  frame-carried = carried-at b at ok
 
   pub frame-views : listOf (frameAt b at g .views) ≡ viewsOf (messageIn b at)
-  unfolding frameAt messageIn infoIn
+  unfolding frameAt
   frame-views =
-      list-viewsIn b (at + 11) (framed b at) (few-framed (kindIn b at) (countIn b at) (λ i. slot-count b at (ok .fits) i .1) kind)
-      ∙ held-views b (at + 11) (kindIn b at) (numberIn b at) (countIn b at) kind (λ i. slot-count b at (ok .fits) i .0) (λ i. slot-count b at (ok .fits) i .1)
+      list-viewsIn b (at + 11) (framed b at) (few-framed (kindIn b at) (countIn b at) (λ i. slot-count b at (ok .fits) i .1) (kind b at ok))
+      ∙ views-at b at ok
 
   pub frame-message : frameBytes (frameAt b at g) ≡ messageBytes g (messageIn b at)
   unfolding frameAt

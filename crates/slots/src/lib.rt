@@ -1,19 +1,20 @@
 // Queue entries and inward items in lent bytes, worked on in place. The places are given by whoever lays the records
 // out, and each function asks that what it touches lies within the bytes.
 use views::Member;
-use views::ViewId;
 use views::limits;
-use views::list::Views;
 use views::sizes;
-use wire::Frame;
+use wire::Message;
 ghost use Prim.Native.Nat.{_+_, _*_, _≤_, _<_};
+ghost use mathlib.Core.Logic.{_⊎_};
 ghost use mathlib.Core.Path.{_≡_};
+ghost use mathlib.Core.List.{_∷_};
 ghost use lib.ListN.{length, getD};
-ghost use Rattle.views.specs.Limits.{maxViews};
-ghost use Rattle.views.specs.Lists.{listOf};
+ghost use Rattle.views.specs.Limits.{maxOpen};
+ghost use Rattle.views.specs.Sizes.{viewSize};
+ghost use Rattle.wire.specs.Reader.{viewIn, viewsIn};
 ghost use Rattle.slots.specs.Changes.{moved, storeShort, storeInfo, popped, gained};
 ghost use Rattle.slots.specs.Slots.{slotSize, itemSize, slotFits};
-ghost use Rattle.slots.specs.FrameParts.{framed, frameAt};
+ghost use Rattle.slots.specs.FrameParts.{framed, carriedAt};
 
 // Where the parts of an entry stand in its slot, behind the sender: its kind, its number, the count of its views, and
 // the views.
@@ -34,9 +35,9 @@ pub const ITEM_NUMBER: usize = 1;
 // Bytes of an inward item.
 pub const ITEM: usize = ITEM_NUMBER + sizes::NUMBER;
 
-// The n bytes at `from` go down to `to`.
-pub fn move_down(b: &mut [u8], from: usize, to: usize, n: usize)
-    requires { ⌜ (to ≤ from) × (from + n ≤ length (now b)) ⌝ }
+// The n bytes at `from` go to `to`: down, or up to where none of them stands.
+pub fn move_bytes(b: &mut [u8], from: usize, to: usize, n: usize)
+    requires { ⌜ ((to ≤ from) ⊎ (from + n ≤ to)) × (from + n ≤ length (now b)) × (to + n ≤ length (now b)) ⌝ }
     ensures { λ _. ⌜ now (b .exit) ≡ moved (now (b .entry)) from to n ⌝ }
 {
     let mut i = 0;
@@ -57,16 +58,19 @@ pub fn store_short(b: &mut [u8], at: usize, q: Member, kind: u8, x: u64)
     numbers::put_number(b, at + NUMBER, sizes::NUMBER, x);
 }
 
-// An info with these views is stored in the slot at a place.
-pub fn store_info(b: &mut [u8], at: usize, q: Member, list: Views)
-    requires { ⌜ (at + slotSize ≤ length (now b)) × (list .count ≤ maxViews) ⌝ }
-    ensures { λ _. ⌜ now (b .exit) ≡ storeInfo (now (b .entry)) at (q .0) (listOf list) ⌝ }
+// An info is stored in the slot at a place. Its views stand below the slot and are copied: a settled one, then n open
+// ones.
+pub fn copy_info(b: &mut [u8], at: usize, q: Member, settled: usize, opens: usize, n: usize)
+    requires { ⌜ (at + slotSize ≤ length (now b)) × (settled + viewSize ≤ at) × (opens + viewSize * n ≤ at)
+        × (n ≤ maxOpen) ⌝ }
+    ensures { λ _. ⌜ now (b .exit) ≡ storeInfo (now (b .entry)) at (q .0)
+        (viewIn (now (b .entry)) settled ∷ viewsIn (now (b .entry)) opens n) ⌝ }
 {
-    let n = list.count;
     b[at] = q.0;
     b[at + KIND] = wire::format::INFO;
-    b[at + COUNT] = (n % 256) as u8;
-    wire::writer::store_views(b, at + VIEWS, list, n);
+    b[at + COUNT] = ((n + 1) % 256) as u8;
+    move_bytes(b, settled, at + VIEWS, sizes::VIEW);
+    move_bytes(b, opens, at + VIEWS + sizes::VIEW, sizes::VIEW * n);
 }
 
 // The first entry of the queue with its count at c and its slots from s on goes.
@@ -75,7 +79,7 @@ pub fn pop(b: &mut [u8], c: usize, s: usize)
     ensures { λ _. ⌜ now (b .exit) ≡ popped (now (b .entry)) c s ⌝ }
 {
     let n = b[c] as usize;
-    move_down(b, s + SLOT, s, SLOT * (n - 1));
+    move_bytes(b, s + SLOT, s, SLOT * (n - 1));
     b[c] = ((n - 1) % 256) as u8;
 }
 
@@ -106,22 +110,23 @@ pub fn slot_fits(b: &[u8], at: usize) -> bool
     true
 }
 
-// The message in the slot at a place, sent in a view, as the writer takes it.
-pub fn load_frame(b: &[u8], at: usize, view: ViewId) -> Frame
-    requires { ⌜ (at + slotSize ≤ length (now b)) × (framed (now b) at ≤ maxViews) ⌝ }
-    ensures { λ r. ⌜ r ≡ frameAt (now (b .entry)) at (view .0) ⌝ }
+// The message in the slot at a place, without its views.
+pub fn load_message(b: &[u8], at: usize) -> Message
+    requires { ⌜ at + slotSize ≤ length (now b) ⌝ }
+    ensures { λ r. ⌜ r ≡ carriedAt (now (b .entry)) at ⌝ }
 {
     let kind = b[at + KIND];
     let x = numbers::get_number(b, at + NUMBER, sizes::NUMBER);
-    let n = if kind == wire::format::INFO {
-        b[at + COUNT] as usize
-    } else {
-        0
-    };
-    let list = wire::reader::load_views(b, at + VIEWS, n);
-    Frame {
-        view,
-        message: wire::format::message(kind, x),
-        views: list,
+    wire::format::message(kind, x)
+}
+
+// How many views it carries: none where it is no info.
+pub fn carried(b: &[u8], at: usize) -> usize
+    requires { ⌜ at + slotSize ≤ length (now b) ⌝ }
+    ensures { λ r. ⌜ r ≡ framed (now (b .entry)) at ⌝ }
+{
+    if b[at + KIND] == wire::format::INFO {
+        return b[at + COUNT] as usize;
     }
+    0
 }

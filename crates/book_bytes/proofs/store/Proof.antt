@@ -22,7 +22,7 @@ same-length c = search needs
 returns : tie.Need-returns
 returns c =
     let opens = c .before .before in
-    let notes = opens .before .before .before .before in
+    let notes = opens .before .before .before .before .before in
     let counts = notes .before .before .before .before in
     let seats = counts .before .before .before .before in
     let a = seats .before .before .before .args in

@@ -25,10 +25,10 @@ same-length c = simp length-set at (c .before .before .store-views .kept .0)
 
 returns : tie.Need-returns
 returns c =
-    let start = c .before .before .before .before .before .before in
+    let start = c .before .before .before .before .before in
     let a = start .args in
-    let z : length (a .h .opens .at) ≡ 32 = simp length-map at (start .good .1 .0 .1 .1 .1 .0 .1 .1 .1 .0 .1 .0 .1) in
-    opens-joined (a .b .now) _ (a .h) (length-take-le (a .h .opens .count) (a .h .opens .at) (omega arith)) (omega arith) (c .before .before .store-views .ensures)
+    let z : length (a .list .at) ≡ 32 = simp length-map at (start .good .1 .0 .1 .1 .1 .0 .1 .0 .1) in
+    opens-joined (a .b .now) _ (a .list) (length-take-le (a .list .count) (a .list .at) (omega arith)) (omega arith) (c .before .before .store-views .ensures)
 
 pub store-opens-spec : {M : Type 1} → statement M
 store-opens-spec =

@@ -21,7 +21,7 @@ fn append(q: &mut [u8], c: usize, at: usize)
     ensures { λ _. ⌜ now (q .exit) ≡ slotAdded (now (q .entry)) c (now (q .entry)) at ⌝ }
 {
     let n = q[c];
-    slots::move_down(q, at, c + 1 + slots::SLOT * (n as usize), slots::SLOT);
+    slots::move_bytes(q, at, c + 1 + slots::SLOT * (n as usize), slots::SLOT);
     q[c] = n + 1;
 }
 

@@ -5,8 +5,7 @@ use views::refusal::Refusal;
 use views::refusal::Verdict;
 ghost use mathlib.Core.Path.{_≡_};
 ghost use Prim.Native.Nat.{_+_, _≤_, _<_, _*_};
-ghost use lib.ListN.{length, drop, getD};
-ghost use lib.Seq.{paste};
+ghost use lib.ListN.{length, getD};
 ghost use mathlib.Core.Bool.{true};
 ghost use Rattle.views.specs.Limits.{maxOutgoing};
 ghost use Rattle.slots.specs.Slots.{slotSize};
@@ -16,18 +15,6 @@ ghost use Rattle.group_bytes.specs.Moves.{slotAdded};
 ghost use Rattle.group_bytes.specs.Groups.{rangesSound};
 ghost use Rattle.group_steps.specs.CarrierParts.{Passed};
 
-// The n bytes of another range at a place are copied to `to`.
-fn copy(q: &mut [u8], to: usize, from: &[u8], at: usize, n: usize)
-    requires { ⌜ (to + n ≤ length (now q)) × (at + n ≤ length (now from)) ⌝ }
-    ensures { λ _. ⌜ now (q .exit) ≡ paste (now (q .entry)) to (drop at (now (from .entry))) n ⌝ }
-{
-    let mut i = 0;
-    while i < n {
-        q[to + i] = from[at + i];
-        i += 1;
-    }
-}
-
 // The slot of another range at a place goes to the end of the queue at c.
 fn add(q: &mut [u8], c: usize, from: &[u8], at: usize)
     requires { ⌜ (c + 1 + slotSize * (getD (now q) c 0 + 1) ≤ length (now q)) × (getD (now q) c 0 < 255)
@@ -35,7 +22,7 @@ fn add(q: &mut [u8], c: usize, from: &[u8], at: usize)
     ensures { λ _. ⌜ now (q .exit) ≡ slotAdded (now (q .entry)) c (now (from .entry)) at ⌝ }
 {
     let n = q[c];
-    copy(q, c + 1 + slots::SLOT * (n as usize), from, at, slots::SLOT);
+    wire::writer::copy(q, c + 1 + slots::SLOT * (n as usize), from, at, slots::SLOT);
     q[c] = n + 1;
 }
 

@@ -1,55 +1,39 @@
-// Deliver: the bytes of a message of the carrier view are read and the message is taken.
+// Deliver: the bytes of a message of the carrier view are asked for the reader's verdict, and the message is taken from
+// where it lies.
 use crate::admit;
+use book_steps::messages::Entry;
 use events::Reply;
 use views::Member;
 use views::Position;
 use views::View;
 use views::limits;
-use views::list;
-use views::list::Views;
 use views::refusal::Refusal;
 use views::refusal::Verdict;
-use wire::Frame;
+use views::sizes;
+use wire::format;
 ghost use mathlib.Core.Bool.{true};
 ghost use mathlib.Core.Path.{_≡_};
 ghost use mathlib.Core.Option.{some};
-ghost use Rattle.views.specs.Lists.{listOf};
 ghost use Rattle.views.specs.Refusals.{left};
-ghost use Rattle.wire.specs.Reader.{readOf};
+ghost use Rattle.wire.specs.Reader.{scanOf, frameIn, readOf};
 ghost use Rattle.events.specs.Replies.{replyOf, verdictOf};
-ghost use Rattle.rules.specs.Member.{all};
-ghost use Rattle.rules.specs.Sound.{setFits};
-ghost use Rattle.rules.specs.Alone.{viewsOf, sentOf};
+ghost use Rattle.rules.specs.Alone.{sentOf};
 ghost use Rattle.book_bytes.specs.Books.{bookIn, bytesSound, membersIn};
 ghost use Rattle.book_steps.specs.Acts.{takeBytes};
 ghost use Rattle.member.specs.Parts.{frameAnswer, sentIn, arriving, delivering};
 ghost use Rattle.member.specs.Calls.{deliverBytes, Gave, deliverCall};
 
-// Every set of the views carried fits n members.
-fn all_fit(n: u8, list: Views) -> bool
-    ensures { λ r. ⌜ r ≡ all (setFits n) (listOf list) ⌝ }
-{
-    let k = list::used(list.count);
-    let mut i = 0;
-    while i < k {
-        let v = list.at[i];
-        if !book_sound::views_at::set_fits(n, v) {
-            return false;
-        }
-        i += 1;
-    }
-    true
-}
-
 // 7 for any view carried, 41 another view, 42 a sender not in it, 16 after 128 taken.
-fn answer(n: u8, v: View, taken: Position, q: Member, f: Frame) -> Verdict
-    ensures { λ r. ⌜ r ≡ frameAnswer n v (taken .0) (q .0) f ⌝ }
+fn answer(n: u8, v: View, taken: Position, q: Member, bytes: &[u8]) -> Verdict
+    requires { ⌜ scanOf (now bytes) ≡ Verdict.Accepted ⌝ }
+    ensures { λ r. ⌜ r ≡ frameAnswer n v (taken .0) (q .0) (frameIn (now (bytes .entry))) ⌝ }
 {
-    let list = f.views;
-    if !all_fit(n, list) {
+    let count = bytes[format::COUNT_AT] as usize;
+    if !book_sound::views_at::all_fit(bytes, format::VIEWS_AT, count, n) {
         return Verdict::Refused(Refusal::SetUnfit);
     }
-    if f.view.0 != v.id.0 {
+    let g = numbers::get_number(bytes, format::IDENTIFIER_AT, sizes::IDENTIFIER);
+    if g != v.id.0 as u64 {
         return Verdict::Refused(Refusal::AnotherView);
     }
     if !sets::contains(v.set, q) {
@@ -61,20 +45,28 @@ fn answer(n: u8, v: View, taken: Position, q: Member, f: Frame) -> Verdict
     Verdict::Accepted
 }
 
-// The message that was read is taken, in the carrier view v; 43 comes last.
-fn deliver_frame(b: &mut [u8], v: View, q: Member, f: Frame) -> Reply
+// The message that the bytes are is taken, in the carrier view v; 43 comes last.
+fn deliver_message(b: &mut [u8], v: View, q: Member, bytes: &[u8]) -> Reply
     requires { ⌜ (bytesSound (now b) ≡ true) × (bookIn (now b) .carrier .view ≡ some v)
-        × (listOf (f .views) ≡ viewsOf (sentIn f .message)) ⌝ }
-    ensures { λ r. ⌜ (r ≡ replyOf (arriving (membersIn (now (b .entry))) v (sentIn f) (q .0) (bookIn (now (b .entry)))))
+        × (readOf (now bytes) .verdict ≡ Verdict.Accepted) ⌝ }
+    ensures { λ r. ⌜ (r ≡ replyOf
+        (arriving (membersIn (now (b .entry))) v (sentIn (frameIn (now (bytes .entry)))) (q .0)
+        (bookIn (now (b .entry)))))
         × (now (b .exit) ≡ left
-        (verdictOf (arriving (membersIn (now (b .entry))) v (sentIn f) (q .0) (bookIn (now (b .entry)))))
-        (takeBytes (q .0) (sentIn f .message) (now (b .entry))) (now (b .entry))) ⌝ }
+        (verdictOf (arriving (membersIn (now (b .entry))) v (sentIn (frameIn (now (bytes .entry)))) (q .0)
+        (bookIn (now (b .entry)))))
+        (takeBytes (q .0) (sentIn (frameIn (now (bytes .entry))) .message) (now (b .entry))) (now (b .entry))) ⌝ }
 {
     let taken = Position(b[book_bytes::TAKEN]);
-    let verdict = answer(b[book_bytes::MEMBERS], v, taken, q, f);
+    let verdict = answer(b[book_bytes::MEMBERS], v, taken, q, bytes);
     match verdict {
         Verdict::Refused(r) => events::refuse(r),
-        Verdict::Accepted => book_steps::messages::deliver(b, q, f),
+        Verdict::Accepted => {
+            let message = wire::reader::load_message(bytes);
+            let e = Entry { sender: q, message };
+            let count = bytes[format::COUNT_AT] as usize;
+            book_steps::messages::deliver(b, e, bytes, format::VIEWS_AT, count)
+        }
     }
 }
 
@@ -92,14 +84,12 @@ fn deliver_read(b: &mut [u8], bytes: &[u8], q: Member) -> Reply
     if !carrier.there {
         return events::refuse(Refusal::NoCarrierView);
     }
-    let reading = wire::reader::read(bytes);
-    let verdict = reading.verdict;
+    let verdict = wire::reader::verdict(bytes);
     match verdict {
         Verdict::Refused(r) => events::refuse(r),
         Verdict::Accepted => {
             let v = carrier.view;
-            let f = reading.frame;
-            deliver_frame(b, v, q, f)
+            deliver_message(b, v, q, bytes)
         }
     }
 }

@@ -1,27 +1,37 @@
 // Pass: the first outgoing message is given out in bytes.
 use crate::Passed;
 use crate::admit;
+use views::ViewId;
 use views::refusal::Refusal;
 use views::refusal::Verdict;
-use wire::Frame;
 ghost use Prim.Native.Nat.{_+_, _*_, _≤_, _<_};
 ghost use lib.ListN.{length, getD};
 ghost use mathlib.Core.Bool.{true};
 ghost use mathlib.Core.Path.{_≡_};
-ghost use Rattle.slots.specs.Slots.{slotSize};
+ghost use Rattle.views.specs.Limits.{maxViews};
+ghost use Rattle.wire.specs.Writer.{LiesAt, frameVerdict};
+ghost use Rattle.slots.specs.Slots.{slotSize, slotNumber};
+ghost use Rattle.slots.specs.FrameParts.{framed, carriedAt, frameAt};
 ghost use Rattle.book_bytes.specs.Places.{outgoingAt};
 ghost use Rattle.book_bytes.specs.Books.{bookIn, bytesSound};
 ghost use Rattle.book_steps.specs.Acts.{passBytes};
 ghost use Rattle.member.specs.Parts.{SentOut, passingInto};
 ghost use Rattle.member.specs.Calls.{GaveOut, passCall};
 
-// The frame is written into the buffer, and the first outgoing message goes: 39 leaves both.
-fn give_out(b: &mut [u8], out: &mut [u8], f: Frame) -> Passed
+// The first outgoing message, in a view, is written into the buffer from its slot, and goes: 39 leaves both.
+fn give_out(b: &mut [u8], out: &mut [u8], view: ViewId) -> Passed
     requires { ⌜ (0 < getD (now b) outgoingAt 0)
-        × (outgoingAt + 1 + slotSize * getD (now b) outgoingAt 0 ≤ length (now b)) ⌝ }
-    ensures { λ r. ⌜ SentOut f (now (b .entry)) (now (b .exit)) (now (out .entry)) (now (out .exit)) r ⌝ }
+        × (outgoingAt + 1 + slotSize * getD (now b) outgoingAt 0 ≤ length (now b))
+        × (framed (now b) (outgoingAt + 1) ≤ maxViews)
+        × LiesAt (carriedAt (now b) (outgoingAt + 1)) (now b) (outgoingAt + 1 + slotNumber)
+        × (frameVerdict (frameAt (now b) (outgoingAt + 1) (view .0)) ≡ Verdict.Accepted) ⌝ }
+    ensures { λ r. ⌜ SentOut (frameAt (now (b .entry)) (outgoingAt + 1) (view .0)) (now (b .entry)) (now (b .exit))
+        (now (out .entry)) (now (out .exit)) r ⌝ }
 {
-    let w = wire::writer::write(out, f);
+    let at = book_bytes::OUTGOING + 1;
+    let m = slots::load_message(b, at);
+    let n = slots::carried(b, at);
+    let w = wire::writer::write_from(out, view, m, b, at + slots::NUMBER, at + slots::VIEWS, n);
     let verdict = w.verdict;
     match verdict {
         Verdict::Refused(r) => Passed {
@@ -57,8 +67,7 @@ fn pass_first(b: &mut [u8], out: &mut [u8]) -> Passed
             length: 0,
         };
     }
-    let f = slots::load_frame(b, book_bytes::OUTGOING + 1, carrier.view.id);
-    give_out(b, out, f)
+    give_out(b, out, carrier.view.id)
 }
 
 // The first outgoing message is given out in bytes, at the front of the buffer.

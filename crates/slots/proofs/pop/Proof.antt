@@ -1,6 +1,7 @@
 -- `slots::pop` meets its contract: the slots behind the first go down by one slot, and the count falls by one.
 use mathlib.Core.Path.{_≡_}
 use Prim.Native.Nat.{_-_, _%_}
+use mathlib.Core.Logic.{inl}
 use native.Mathlib.Omega.{arith}
 use borrow.Author.Needs.{needs}
 use lib.ListN.{getD}
@@ -14,17 +15,17 @@ slice-read-n c = search needs
 cast-n : tie.Need-cast-n
 cast-n c = search needs
 
-add-move-down : tie.Need-add-move-down
-add-move-down c = search needs
+add-move-bytes : tie.Need-add-move-bytes
+add-move-bytes c = search needs
 
-sub-move-down : tie.Need-sub-move-down
-sub-move-down c = search needs
+sub-move-bytes : tie.Need-sub-move-bytes
+sub-move-bytes c = search needs
 
-mul-move-down : tie.Need-mul-move-down
-mul-move-down c = search needs
+mul-move-bytes : tie.Need-mul-move-bytes
+mul-move-bytes c = search needs
 
-move-down-requires : tie.Need-move-down-requires
-move-down-requires c κs = search needs
+move-bytes-requires : tie.Need-move-bytes-requires
+move-bytes-requires c κs = (inl (omega arith), omega arith, omega arith)
 
 sub-b : tie.Need-sub-b
 sub-b c = search needs
@@ -44,7 +45,7 @@ returns c =
     let a = c .before .before .before .before .before .before .args in
     let n = getD (a .b .now) (a .c) 0 in
     let e : (n - 1) % 256 ≡ n - 1 = omega (arith, c .before .before .before .before .before .slice-known .given (a .c)) in
-    rw (e, c .before .before .move-down .ensures)
+    rw (e, c .before .before .move-bytes .ensures)
 
 pub pop-spec : {M : Type 1} → statement M
 pop-spec =
@@ -52,10 +53,10 @@ pop-spec =
     (tie.spec
     slice-read-n
     cast-n
-    add-move-down
-    sub-move-down
-    mul-move-down
-    move-down-requires
+    add-move-bytes
+    sub-move-bytes
+    mul-move-bytes
+    move-bytes-requires
     sub-b
     cast-b
     slice-write-b

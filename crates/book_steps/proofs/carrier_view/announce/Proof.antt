@@ -1,51 +1,60 @@
--- `book_steps::carrier_view::announce` meets its contract: the inward list's count, the info in the first slot, and the count of outgoing are set.
-use native.Mathlib.Omega.{arith}
-use borrow.Author.Needs.{needs}
+-- `book_steps::carrier_view::announce` meets its contract: the inward list goes, the info is copied to the first slot, and it is the only one.
+use mathlib.Core.Path.{_∙_}
 use lib.ListN.{length-set}
-use Rattle.book_steps.proofs.JoinLaws.{info-few, announce-done}
+use Rattle.book_steps.proofs.JoinLaws.{announce-done}
+use borrow.Author.Needs.{needs}
 use Rattle.book_steps.proofs.carrier_view.announce.Statement.{statement}
 use Rattle.book_steps.proofs.carrier_view.announce.Tie as tie
 
-sub-inward : tie.Need-sub-inward
-sub-inward c = search needs
+slice-read-side : tie.Need-slice-read-side
+slice-read-side c = search needs
 
-inward-requires : tie.Need-inward-requires
-inward-requires c κs = search needs
+sub-other : tie.Need-sub-other
+sub-other c = search needs
+
+slice-read-n : tie.Need-slice-read-n
+slice-read-n c = search needs
+
+slice-read-n-2 : tie.Need-slice-read-n-2
+slice-read-n-2 c = search needs
+
+cast-n : tie.Need-cast-n
+cast-n c = search needs
+
+empty-requires : tie.Need-empty-requires
+empty-requires c κs = search needs
+
+add-copy-info : tie.Need-add-copy-info
+add-copy-info c = search needs
+
+add-copy-info-2 : tie.Need-add-copy-info-2
+add-copy-info-2 c = search needs
+
+copy-info-requires : tie.Need-copy-info-requires
+copy-info-requires c κs = search needs
 
 slice-write-b : tie.Need-slice-write-b
 slice-write-b c = search needs
 
-views-requires : tie.Need-views-requires
-views-requires c κs = search needs
-
-add-store-info : tie.Need-add-store-info
-add-store-info c = search needs
-
-store-info-requires : tie.Need-store-info-requires
-store-info-requires c κs =
-    let start = c .before .before .before .before .before .before in
-    (simp length-set (omega arith), info-few (start .args .h .settled) (start .args .h .opens) _ (start .pre .2) (c .before .views .ensures))
-
-slice-write-b-2 : tie.Need-slice-write-b-2
-slice-write-b-2 c = omega (arith, simp length-set at (c .before .before .store-info .kept .0))
-
 same-length : tie.Need-same-length
-same-length c = simp length-set (simp length-set at (c .before .before .store-info .kept .0))
+same-length c = simp length-set (c .before .before .copy-info .kept .0 ∙ c .before .before .before .before .before .before .empty .kept .0)
 
 returns : tie.Need-returns
-returns c =
-    announce-done _ _ _ _ _ _ (c .before .before .before .before .before .before .before .before .before .pre .2) (c .before .before .before .before .before .before .inward .ensures) (c .before .before .before .before .views .ensures) (c .before .before .store-info .ensures)
+returns c = announce-done _ _ _ (c .before .before .before .before .before .before .before .before .before .before .before .before .pre .2) (c .before .before .before .before .before .before .empty .ensures) (c .before .before .copy-info .ensures)
 
 pub announce-spec : {M : Type 1} → statement M
 announce-spec =
     tie.close
     (tie.spec
-    sub-inward
-    inward-requires
+    slice-read-side
+    sub-other
+    slice-read-n
+    slice-read-n-2
+    cast-n
+    empty-requires
+    add-copy-info
+    add-copy-info-2
+    copy-info-requires
     slice-write-b
-    views-requires
-    add-store-info
-    store-info-requires
-    slice-write-b-2
     same-length
     returns)

@@ -13,17 +13,14 @@ load-requires c κs = omega (arith, sound-size _ (c .before .before .pre))
 slice-read-t9 : tie.Need-slice-read-t9
 slice-read-t9 c = omega (arith, sound-size _ (c .before .before .before .before .pre))
 
-plain-requires : tie.Need-plain-requires
-plain-requires c κs = search needs
-
 lend-requires : tie.Need-lend-requires
-lend-requires c κs = collect-asks _ _ _ (c .plain .ensures)
+lend-requires c κs = collect-asks _ _
 
 no-event-requires : tie.Need-no-event-requires
 no-event-requires c κs = search needs
 
 keep-requires : tie.Need-keep-requires
-keep-requires c κs = (omega (arith, sound-size _ (c .before .before .before .before .before .before .before .before .pre)), collect-few _ _ (c .before .before .before .before .before .load .ensures) _ (collect-lent _ _ _ (c .before .before .before .plain .ensures) _ (c .before .before .lend .ensures)))
+keep-requires c κs = (omega (arith, sound-size _ (c .before .before .before .before .before .before .before .pre)), collect-few _ _ (c .before .before .before .before .load .ensures) _ (collect-lent _ _ _ (c .before .before .lend .ensures)))
 
 same-length : tie.Need-same-length
 same-length c = search needs
@@ -31,7 +28,7 @@ same-length c = search needs
 returns : tie.Need-returns
 returns c =
     let early = c .before .before .before .before in
-    collect-done _ _ (early .before .before .before .before .load .ensures) _ (collect-lent _ _ _ (early .before .before .plain .ensures) _ (early .before .lend .ensures)) _ (early .no-event .ensures) _ _ (c .before .before .keep .ensures)
+    collect-done _ _ (early .before .before .before .load .ensures) _ (collect-lent _ _ _ (early .before .lend .ensures)) _ (early .no-event .ensures) _ _ (c .before .before .keep .ensures)
 
 pub collect-spec : {M : Type 1} → statement M
 collect-spec =
@@ -39,7 +36,6 @@ collect-spec =
     (tie.spec
     load-requires
     slice-read-t9
-    plain-requires
     lend-requires
     no-event-requires
     keep-requires

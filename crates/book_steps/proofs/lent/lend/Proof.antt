@@ -47,10 +47,10 @@ use Rattle.book_bytes.proofs.Record.Laws as BL
 use Rattle.record_steps.specs.declared.Stepped.{Stepped}
 use Rattle.record_steps.proofs.Stepped as R′
 use Rattle.record_steps.proofs.Stepped.Laws as RL
-use Rattle.book_steps.specs.declared.lent.Step.{Step}
+use Rattle.book_steps.specs.declared.lent.Kind.{Kind}
 use Rattle.book_steps.specs.LentParts.{asks, turnOf}
-use Rattle.book_steps.proofs.lent.Step as S′
-use Rattle.book_steps.proofs.lent.Step.Laws as SL
+use Rattle.book_steps.proofs.lent.Kind as K′
+use Rattle.book_steps.proofs.lent.Kind.Laws as KL
 use Rattle.book_steps.proofs.lent.turn as turn
 use Rattle.book_steps.proofs.lent.turn.Symbol as turn-def
 use Rattle.book_steps.proofs.lent.turn.Symbol.{name as #book-steps·lent·turn}
@@ -61,14 +61,14 @@ use Rattle.book_steps.proofs.lent.lend.Statement as stated
 use Rattle.book_steps.proofs.lent.lend.Code as code
 
 abbrev stayed : Stays (lends.ended .signature .params) (lends.ended .kept)
-stayed = (stay-none (λ _. B′.the-row) yes, (stay-none (λ _. S′.the-row) yes, tt))
+stayed = (stay-none (λ _. B′.the-row) yes, (stay-none (λ _. K′.the-row) yes, tt))
 
--- the machine values of a record, of a step with its operands, of a verdict and of the result
+-- the machine values of a record, of a kind of step, of a verdict and of the result
 abbrev bookVal : Record → Val
 bookVal = LL.val B′.the-type BL.the-laws
 
-abbrev stepVal : Step → Val
-stepVal = LL.val S′.the-type SL.the-laws
+abbrev kindVal : Kind → Val
+kindVal = EL.val K′.the-type KL.the-laws
 
 abbrev verdictVal : Verdict → Val
 verdictVal = EL.val V′.the-type VL.the-laws
@@ -107,22 +107,22 @@ module _ {M : Type 1} (𝓤 : URA M) (H : Heap 𝓤) (A : Atoms 𝓤) (W : Given
       move ! (1 ∷ []) $ peeks ! B′.the-row (Is B′.the-row) (shows 𝓤 H A B′.the-row) h (bookVal h ∷ []) (λ g. drop ! $
       use1 W (‵ (fat fullShare BL.mir b 0 (bookVal h))) (W .laws .raw-at fullShare BL.mir b 0 (bookVal h)) $ check ! g $ done !))
 
-module _ {M : Type 1} (𝓤 : URA M) (H : Heap 𝓤) (A : Atoms 𝓤) (W : Given 𝓤 H A) (at-mem : Memory → SProp 𝓤) (run : Routine → Fun 𝓤) (h : Record) (t : Step) (may : asks t h) where
-  abbrev x : Record × (Step × Unit {0})
+module _ {M : Type 1} (𝓤 : URA M) (H : Heap 𝓤) (A : Atoms 𝓤) (W : Given 𝓤 H A) (at-mem : Memory → SProp 𝓤) (run : Routine → Fun 𝓤) (h : Record) (t : Kind) (may : asks t h) where
+  abbrev x : Record × (Kind × Unit {0})
   x = (h, (t, tt))
 
   abbrev at : List Val × (List Val × Unit {0})
-  at = (bookVal h ∷ [], (stepVal t ∷ [], tt))
+  at = (bookVal h ∷ [], (kindVal t ∷ [], tt))
 
   abbrev Post : Val → SProp 𝓤
   Post = walkOf 𝓤 H A lends.ended stayed (lends.clauses 𝓤 H A at-mem run) .post ((tt, tt, tt, x, at), tt)
 
-  exits : Is B′.the-row h (bookVal h ∷ []) → Is S′.the-row t (stepVal t ∷ []) → (s : Stepped) → s ≡ turnOf t h → Is R′.the-row s (resultVal s ∷ [])
+  exits : Is B′.the-row h (bookVal h ∷ []) → Is K′.the-row t (kindVal t ∷ []) → (s : Stepped) → s ≡ turnOf t h → Is R′.the-row s (resultVal s ∷ [])
       → ent 𝓤 (sem 𝓤 H A ftrue) (Post (resultVal s))
   exits gh gt s e gs =
       qed W (‵ ftrue ∷ []) ∵
       suffices ! _ (ends-at 𝓤 H A lends.ended stayed (lends.clauses 𝓤 H A at-mem run) W ((tt, tt, tt, x, at), tt) (resultVal s) s (tt, (tt, tt)) (tt, (tt, tt))) $ says ! e $
-      owned ! S′.the-row (Is S′.the-row) (LL.makes S′.the-type SL.the-plain 𝓤 H A) t _ gt $ fjoin ! $
+      owned ! K′.the-row (Is K′.the-row) (EL.makes K′.the-type KL.the-plain 𝓤 H A) t _ gt $ fjoin ! $
       owned ! B′.the-row (Is B′.the-row) (LL.makes B′.the-type BL.the-plain 𝓤 H A) h _ gh $ fjoin ! $
       owned ! R′.the-row (Is R′.the-row) (LL.makes R′.the-type RL.the-plain 𝓤 H A) s _ gs $ move ! (1 ∷ 0 ∷ []) $ nothing ! $ done !
 
@@ -131,24 +131,24 @@ module _ {M : Type 1} (𝓤 : URA M) (H : Heap 𝓤) (A : Atoms 𝓤) (W : Given
   ref l γ = record { ptr = (l, 0); name = γ; now = h }
 
   abbrev to-turn : ℕ → ℕ → GName → Turn 𝓤 H A at-mem run .Ghost
-  to-turn ν l γ = (((ν ∷ [], tt), (fullShare, tt), tt, (ref l γ, (t, tt)), (vptr l 0 ∷ [], (stepVal t ∷ [], tt))), tt)
+  to-turn ν l γ = (((ν ∷ [], tt), (fullShare, tt), tt, (ref l γ, (t, tt)), (vptr l 0 ∷ [], (kindVal t ∷ [], tt))), tt)
 
   goes-turn : (ν l : ℕ) (γ : GName)
-      → ent 𝓤 (sep 𝓤 (A .lft (ν ∷ []) fullShare) (sep 𝓤 (sem 𝓤 H A (MutRef (named 0) (ν ∷ []) B′.the-row .own (ref l γ) (vptr l 0 ∷ []))) (sem 𝓤 H A (S′.the-row .own t (stepVal t ∷ []))))) (Turn 𝓤 H A at-mem run .pre (to-turn ν l γ))
+      → ent 𝓤 (sep 𝓤 (A .lft (ν ∷ []) fullShare) (sep 𝓤 (sem 𝓤 H A (MutRef (named 0) (ν ∷ []) B′.the-row .own (ref l γ) (vptr l 0 ∷ []))) (sem 𝓤 H A (K′.the-row .own t (kindVal t ∷ []))))) (Turn 𝓤 H A at-mem run .pre (to-turn ν l γ))
   goes-turn ν l γ =
-      qed W (‵ (flft (ν ∷ []) fullShare) ∷ ‵ (MutRef (named 0) (ν ∷ []) B′.the-row .own (ref l γ) (vptr l 0 ∷ [])) ∷ ‵ (S′.the-row .own t (stepVal t ∷ [])) ∷ []) ∵
+      qed W (‵ (flft (ν ∷ []) fullShare) ∷ ‵ (MutRef (named 0) (ν ∷ []) B′.the-row .own (ref l γ) (vptr l 0 ∷ [])) ∷ ‵ (K′.the-row .own t (kindVal t ∷ [])) ∷ []) ∵
       says ! may $ nothing ! $ move ! (3 ∷ 0 ∷ []) $ fjoin ! $ move ! (2 ∷ 0 ∷ []) $ fjoin ! $ nothing ! $ move ! (2 ∷ 0 ∷ []) $ join ! $ join ! $ done !
 
   module _ (C : Calls 𝓤 H) (Λ : Loops 𝓤 H) (fmc : FmC 𝓤 H (W .laws) C) (known : Triple 𝓤 (C #book-steps·lent·turn) (Turn 𝓤 H A at-mem run)) where
-    walk : ent 𝓤 (onEntry 𝓤 H A lends.signature tt tt x at) (WpFn 𝓤 H C Λ code.function (bookVal h ∷ stepVal t ∷ []) Post)
+    walk : ent 𝓤 (onEntry 𝓤 H A lends.signature tt tt x at) (WpFn 𝓤 H C Λ code.function (bookVal h ∷ kindVal t ∷ []) Post)
     walk =
-        qed W (‵ ftrue ∷ ‵ (owns (B′.the-row ∷ S′.the-row ∷ []) x at) ∷ []) ∵ move ! (1 ∷ []) $ fsplit ! $
+        qed W (‵ ftrue ∷ ‵ (owns (B′.the-row ∷ K′.the-row ∷ []) x at) ∷ []) ∵ move ! (1 ∷ []) $ fsplit ! $
         peeks ! B′.the-row (Is B′.the-row) (shows 𝓤 H A B′.the-row) h (bookVal h ∷ []) (λ gh. move ! (1 ∷ []) $ fsplit ! $
-        peeks ! S′.the-row (Is S′.the-row) (shows 𝓤 H A S′.the-row) t (stepVal t ∷ []) (λ gt. move ! (2 ∷ 0 ∷ []) $
+        peeks ! K′.the-row (Is K′.the-row) (shows 𝓤 H A K′.the-row) t (kindVal t ∷ []) (λ gt. move ! (2 ∷ 0 ∷ []) $
         -- [what the record owns; what the step owns; true; true]
-        enter ! C Λ code.function (bookVal h ∷ stepVal t ∷ []) _ $
+        enter ! C Λ code.function (bookVal h ∷ kindVal t ∷ []) _ $
         alloc1 ! (λ l₀. alloc1 ! (λ l₁. alloc1 ! (λ l₂. alloc1 ! (λ l₃. alloc1 ! (λ l₄. alloc1 ! (λ l₅. alloc1 ! (λ l₆. alloc0 ! $ params1 ! $
-        pass1 ! (init ! 10 refl (LL.lawful B′.the-type BL.the-laws 𝓤 H A W .typed h _ gh .0)) $ pass1 ! (init ! 8 refl (LL.lawful S′.the-type SL.the-laws 𝓤 H A W .typed t _ gt .0)) $ pass0 ! $
+        pass1 ! (init ! 10 refl (LL.lawful B′.the-type BL.the-laws 𝓤 H A W .typed h _ gh .0)) $ pass1 ! (init ! 8 refl (EL.lawful K′.the-type KL.the-laws 𝓤 H A W tt .typed t _ gt .0)) $ pass0 ! $
         -- [_6; …; _5; …; _4; …; _3; …; _2; …; _1; …; room for _0; …; what the record owns; what the step owns; true; true]
         assigns ! (of-opd ! (load ! (from ! (stop !)) (look ! 10 refl))) (from ! (stop !)) (init ! 6 refl (LL.lawful B′.the-type BL.the-laws 𝓤 H A W .typed h _ gh .0)) $
         assigns ! (addr ! (from ! (stop !))) (from ! (stop !)) (init ! 2 refl (tt, tt)) $
@@ -180,13 +180,13 @@ module _ {M : Type 1} (𝓤 : URA M) (H : Heap 𝓤) (A : Atoms 𝓤) (W : Given
 module _ {M : Type 1} (𝓤 : URA M) (H : Heap 𝓤) (A : Atoms 𝓤) (W : Given 𝓤 H A) (mem : Memory → SProp 𝓤) (run : Routine → Fun 𝓤) where
   lend-walks : (C : Calls 𝓤 H) (Λ : Loops 𝓤 H) → FmC 𝓤 H (W .laws) C → Triple 𝓤 (C #book-steps·lent·turn) (Turn 𝓤 H A mem run)
       → Walks 𝓤 H A lends.ended stayed (WpFn 𝓤 H C Λ code.function) (lends.clauses 𝓤 H A mem run)
-  lend-walks C Λ fmc known = walked 𝓤 H A lends.ended stayed (lends.clauses 𝓤 H A mem run) (WpFn 𝓤 H C Λ code.function) (λ κs. (LL.vals B′.the-type BL.the-laws, (LL.vals S′.the-type SL.the-laws, tt))) (λ κs. (LL.tells B′.the-type BL.the-laws, (LL.tells S′.the-type SL.the-laws, tt)))
+  lend-walks C Λ fmc known = walked 𝓤 H A lends.ended stayed (lends.clauses 𝓤 H A mem run) (WpFn 𝓤 H C Λ code.function) (λ κs. (LL.vals B′.the-type BL.the-laws, (EL.vals K′.the-type KL.the-laws, tt))) (λ κs. (LL.tells B′.the-type BL.the-laws, (EL.tells K′.the-type KL.the-laws, tt)))
       (λ κs qs bounds a _ _. needs 𝓤 (asks (a .1 .0) (a .0)) _ (λ may. walk 𝓤 H A W mem run (a .0) (a .1 .0) may C Λ fmc known))
 
 lend-meets : {M : Type 1} (𝓤 : URA M) (H : Heap 𝓤) (A : Atoms 𝓤) (W : Given 𝓤 H A) (mem : Memory → SProp 𝓤) (run : Routine → Fun 𝓤) (𝓣 : Tables 𝓤 H) → Triple 𝓤 (𝓣 .C #book-steps·lent·turn) (Turn 𝓤 H A mem run)
     → Meets 𝓤 H A lends.signature (WpFn 𝓤 H (𝓣 .C) (𝓣 .Λ) code.function) (lends.spec 𝓤 H A mem run)
 lend-meets 𝓤 H A W mem run 𝓣 known =
-    walk-meets 𝓤 H A lends.ended stayed W (goes-none 𝓤 H A W 0 (λ _. B′.the-row) yes (λ κs x f. refl), (goes-none 𝓤 H A W 0 (λ _. S′.the-row) yes (λ κs x f. refl), tt)) (lends.clauses 𝓤 H A mem run)
+    walk-meets 𝓤 H A lends.ended stayed W (goes-none 𝓤 H A W 0 (λ _. B′.the-row) yes (λ κs x f. refl), (goes-none 𝓤 H A W 0 (λ _. K′.the-row) yes (λ κs x f. refl), tt)) (lends.clauses 𝓤 H A mem run)
     (WpFn 𝓤 H (𝓣 .C) (𝓣 .Λ) code.function) (WpFn-mono 𝓤 H (W .laws) 𝓣 code.function) (lend-walks 𝓤 H A W mem run (𝓣 .C) (𝓣 .Λ) (fmOf 𝓤 H (W .laws) 𝓣) known)
 
 pub lend-spec : {M : Type 1} → stated.statement M

@@ -46,10 +46,10 @@ use Rattle.book_bytes.proofs.Record.Laws as BL
 use Rattle.record_steps.specs.declared.Stepped.{Stepped}
 use Rattle.record_steps.proofs.Stepped as R′
 use Rattle.record_steps.proofs.Stepped.Laws as RL
-use Rattle.book_steps.specs.declared.lent.Step.{Step}
+use Rattle.book_steps.specs.declared.lent.Kind.{Kind}
 use Rattle.book_steps.specs.LentParts.{asks, turnOf}
-use Rattle.book_steps.proofs.lent.Step as S′
-use Rattle.book_steps.proofs.lent.Step.Laws as SL
+use Rattle.book_steps.proofs.lent.Kind as K′
+use Rattle.book_steps.proofs.lent.Kind.Laws as KL
 use Rattle.book_steps.proofs.lent.turned as by-value
 use Rattle.book_steps.proofs.lent.turned.Symbol as turned-def
 use Rattle.book_steps.proofs.lent.turned.Symbol.{name as #book-steps·lent·turned}
@@ -60,14 +60,14 @@ use Rattle.book_steps.proofs.lent.turn.Statement as stated
 use Rattle.book_steps.proofs.lent.turn.Code as code
 
 abbrev stayed : Stays (lent.ended .signature .params) (lent.ended .kept)
-stayed = (stay-ref (0 ∷ []) tt (plain (λ _. B′.the-row)), (stay-none (λ _. S′.the-row) yes, tt))
+stayed = (stay-ref (0 ∷ []) tt (plain (λ _. B′.the-row)), (stay-none (λ _. K′.the-row) yes, tt))
 
--- the machine values of a record, of a step with its operands and of a verdict
+-- the machine values of a record, of a kind of step and of a verdict
 abbrev bookVal : Record → Val
 bookVal = LL.val B′.the-type BL.the-laws
 
-abbrev stepVal : Step → Val
-stepVal = LL.val S′.the-type SL.the-laws
+abbrev kindVal : Kind → Val
+kindVal = EL.val K′.the-type KL.the-laws
 
 abbrev verdictVal : Verdict → Val
 verdictVal = EL.val V′.the-type VL.the-laws
@@ -84,46 +84,46 @@ module _ {M : Type 1} (𝓤 : URA M) (H : Heap 𝓤) (A : Atoms 𝓤) (mem : Mem
   abbrev Turned : Contract 𝓤
   Turned = tripleOf 𝓤 H A by-value.signature (by-value.spec 𝓤 H A mem run)
 
-  turned-of : (h : Record) (t : Step) (r : Stepped) → ent 𝓤 (ensured 𝓤 H A by-value.ended (by-value.clauses 𝓤 H A mem run) tt (h, (t, tt)) tt r) (fact 𝓤 (r ≡ turnOf t h))
+  turned-of : (h : Record) (t : Kind) (r : Stepped) → ent 𝓤 (ensured 𝓤 H A by-value.ended (by-value.clauses 𝓤 H A mem run) tt (h, (t, tt)) tt r) (fact 𝓤 (r ≡ turnOf t h))
   turned-of h t r = exE 𝓤 _ (λ ws. snd∗ 𝓤 (sem 𝓤 H A (lasts by-value.ended tt (h, (t, tt)) ws)) (fact 𝓤 (r ≡ turnOf t h)))
 
-module _ {M : Type 1} (𝓤 : URA M) (H : Heap 𝓤) (A : Atoms 𝓤) (W : Given 𝓤 H A) (at-mem : Memory → SProp 𝓤) (run : Routine → Fun 𝓤) (κ : Lft) (q : Share) (b o : ℕ) (γ : GName) (h : Record) (t : Step) (may : asks t h) where
-  abbrev x : RefT Record × (Step × Unit {0})
+module _ {M : Type 1} (𝓤 : URA M) (H : Heap 𝓤) (A : Atoms 𝓤) (W : Given 𝓤 H A) (at-mem : Memory → SProp 𝓤) (run : Routine → Fun 𝓤) (κ : Lft) (q : Share) (b o : ℕ) (γ : GName) (h : Record) (t : Kind) (may : asks t h) where
+  abbrev x : RefT Record × (Kind × Unit {0})
   x = (record { ptr = (b, o); name = γ; now = h }, (t, tt))
 
   abbrev at : List Val × (List Val × Unit {0})
-  at = (vptr b o ∷ [], (stepVal t ∷ [], tt))
+  at = (vptr b o ∷ [], (kindVal t ∷ [], tt))
 
   abbrev Post : Val → SProp 𝓤
   Post = walkOf 𝓤 H A lent.ended stayed (lent.clauses 𝓤 H A at-mem run) .post (((κ, tt), (q, tt), tt, x, at), tt)
 
-  exits : Is S′.the-row t (stepVal t ∷ []) → (r : Stepped) → r ≡ turnOf t h → Is V′.the-row (r .verdict) (verdictVal (r .verdict) ∷ [])
+  exits : Is K′.the-row t (kindVal t ∷ []) → (r : Stepped) → r ≡ turnOf t h → Is V′.the-row (r .verdict) (verdictVal (r .verdict) ∷ [])
       → ent 𝓤 (sep 𝓤 (A .obs γ (B′.the-row .coded .code (r .book))) (sep 𝓤 (A .bor κ (Body (mem B′.the-row) b o γ)) (A .lft κ q))) (Post (verdictVal (r .verdict)))
   exits gt r e gv =
       qed W (‵ (fobs γ (B′.the-row .coded .code (r .book))) ∷ ‵ (fbor κ (Body (mem B′.the-row) b o γ)) ∷ ‵ (flft κ q) ∷ []) ∵
       suffices ! _ (ends-at 𝓤 H A lent.ended stayed (lent.clauses 𝓤 H A at-mem run) W (((κ, tt), (q, tt), tt, x, at), tt) (verdictVal (r .verdict)) (r .verdict) (r .book, (tt, tt)) (tt, (tt, tt))) $
       says ! (ap (λ (s : Stepped). s .verdict) e, ap (λ (s : Stepped). s .book) e) $
       nothing ! $ move ! (3 ∷ 0 ∷ []) $ join ! $ frame ! $ feqI ! (List Val) (vptr b o ∷ []) (vptr b o ∷ []) refl $ fjoin3 ! $
-      nothing ! $ owned ! S′.the-row (Is S′.the-row) (LL.makes S′.the-type SL.the-plain 𝓤 H A) t _ gt $ fjoin ! $ move ! (1 ∷ 0 ∷ []) $ fjoin ! $
+      nothing ! $ owned ! K′.the-row (Is K′.the-row) (EL.makes K′.the-type KL.the-plain 𝓤 H A) t _ gt $ fjoin ! $ move ! (1 ∷ 0 ∷ []) $ fjoin ! $
       owned ! V′.the-row (Is V′.the-row) (EL.makes V′.the-type VL.the-plain 𝓤 H A) (r .verdict) _ gv $ move ! (1 ∷ 0 ∷ []) $ done !
 
   abbrev to-turned : Turned 𝓤 H A at-mem run .Ghost
-  to-turned = ((tt, tt, tt, (h, (t, tt)), (bookVal h ∷ [], (stepVal t ∷ [], tt))), tt)
+  to-turned = ((tt, tt, tt, (h, (t, tt)), (bookVal h ∷ [], (kindVal t ∷ [], tt))), tt)
 
-  goes-turned : ent 𝓤 (sep 𝓤 (sem 𝓤 H A (B′.the-row .own h (bookVal h ∷ []))) (sem 𝓤 H A (S′.the-row .own t (stepVal t ∷ [])))) (Turned 𝓤 H A at-mem run .pre to-turned)
+  goes-turned : ent 𝓤 (sep 𝓤 (sem 𝓤 H A (B′.the-row .own h (bookVal h ∷ []))) (sem 𝓤 H A (K′.the-row .own t (kindVal t ∷ [])))) (Turned 𝓤 H A at-mem run .pre to-turned)
   goes-turned =
-      qed W (‵ (B′.the-row .own h (bookVal h ∷ [])) ∷ ‵ (S′.the-row .own t (stepVal t ∷ [])) ∷ []) ∵
+      qed W (‵ (B′.the-row .own h (bookVal h ∷ [])) ∷ ‵ (K′.the-row .own t (kindVal t ∷ [])) ∷ []) ∵
       says ! may $ nothing ! $ move ! (2 ∷ 0 ∷ []) $ fjoin ! $ move ! (1 ∷ 0 ∷ []) $ fjoin ! $ nothing ! $ join ! $ done !
 
   module _ (C : Calls 𝓤 H) (Λ : Loops 𝓤 H) (fmc : FmC 𝓤 H (W .laws) C) (known : Triple 𝓤 (C #book-steps·lent·turned) (Turned 𝓤 H A at-mem run)) where
-    walk : ent 𝓤 (onEntry 𝓤 H A lent.signature (κ, tt) (q, tt) x at) (WpFn 𝓤 H C Λ code.function (vptr b o ∷ stepVal t ∷ []) Post)
+    walk : ent 𝓤 (onEntry 𝓤 H A lent.signature (κ, tt) (q, tt) x at) (WpFn 𝓤 H C Λ code.function (vptr b o ∷ kindVal t ∷ []) Post)
     walk =
-        qed W ((‵ (flft κ q) ⊛ ‵ ftrue) ∷ ‵ (owns (MutRef (named 0) κ B′.the-row ∷ S′.the-row ∷ []) x at) ∷ []) ∵ split ! $ move ! (2 ∷ []) $ fsplit ! $ move ! (1 ∷ []) $ fsplit ! $
-        peeks ! S′.the-row (Is S′.the-row) (shows 𝓤 H A S′.the-row) t (stepVal t ∷ []) (λ gt. move ! (2 ∷ []) $ fsplit3 ! $ drop ! $ move ! (0 ∷ 1 ∷ 4 ∷ []) $
+        qed W ((‵ (flft κ q) ⊛ ‵ ftrue) ∷ ‵ (owns (MutRef (named 0) κ B′.the-row ∷ K′.the-row ∷ []) x at) ∷ []) ∵ split ! $ move ! (2 ∷ []) $ fsplit ! $ move ! (1 ∷ []) $ fsplit ! $
+        peeks ! K′.the-row (Is K′.the-row) (shows 𝓤 H A K′.the-row) t (kindVal t ∷ []) (λ gt. move ! (2 ∷ []) $ fsplit3 ! $ drop ! $ move ! (0 ∷ 1 ∷ 4 ∷ []) $
         -- [obs; the borrow; the token; what the step owns; true; true]
-        enter ! C Λ code.function (vptr b o ∷ stepVal t ∷ []) _ $
+        enter ! C Λ code.function (vptr b o ∷ kindVal t ∷ []) _ $
         alloc1 ! (λ l₀. alloc1 ! (λ l₁. alloc1 ! (λ l₂. alloc1 ! (λ l₃. alloc1 ! (λ l₄. alloc0 ! $ params1 ! $
-        pass1 ! (init ! 6 refl (tt, tt)) $ pass1 ! (init ! 4 refl (LL.lawful S′.the-type SL.the-laws 𝓤 H A W .typed t _ gt .0)) $ pass0 ! $
+        pass1 ! (init ! 6 refl (tt, tt)) $ pass1 ! (init ! 4 refl (EL.lawful K′.the-type KL.the-laws 𝓤 H A W tt .typed t _ gt .0)) $ pass0 ! $
         move ! (10 ∷ 11 ∷ 12 ∷ []) $ opens ! tt B′.the-row {h = h} b o (λ vs. spelt ! B′.the-row (Is B′.the-row) (shows 𝓤 H A B′.the-row) (LL.vals B′.the-type BL.the-laws) (LL.tells B′.the-type BL.the-laws) fullShare h vs b o $
         -- [the record's cell; what it owns; the open borrow; obs; auth; _4; …; _3; …; _2; …; _1; …; room for _0; …; what the step owns; true; true]
         move ! (1 ∷ []) $ peeks ! B′.the-row (Is B′.the-row) (shows 𝓤 H A B′.the-row) h (bookVal h ∷ []) (λ is. move ! (1 ∷ 0 ∷ []) $
@@ -147,11 +147,11 @@ module _ {M : Type 1} (𝓤 : URA M) (H : Heap 𝓤) (A : Atoms 𝓤) (W : Given
 module _ {M : Type 1} (𝓤 : URA M) (H : Heap 𝓤) (A : Atoms 𝓤) (W : Given 𝓤 H A) (mem : Memory → SProp 𝓤) (run : Routine → Fun 𝓤) where
   turn-walks : (C : Calls 𝓤 H) (Λ : Loops 𝓤 H) → FmC 𝓤 H (W .laws) C → Triple 𝓤 (C #book-steps·lent·turned) (Turned 𝓤 H A mem run)
       → Walks 𝓤 H A lent.ended stayed (WpFn 𝓤 H C Λ code.function) (lent.clauses 𝓤 H A mem run)
-  turn-walks C Λ fmc known = walked 𝓤 H A lent.ended stayed (lent.clauses 𝓤 H A mem run) (WpFn 𝓤 H C Λ code.function) (λ κs. (ptr-vals, (LL.vals S′.the-type SL.the-laws, tt))) (λ κs. (mut-tells (named 0) (κs .0) B′.the-row, (LL.tells S′.the-type SL.the-laws, tt)))
+  turn-walks C Λ fmc known = walked 𝓤 H A lent.ended stayed (lent.clauses 𝓤 H A mem run) (WpFn 𝓤 H C Λ code.function) (λ κs. (ptr-vals, (EL.vals K′.the-type KL.the-laws, tt))) (λ κs. (mut-tells (named 0) (κs .0) B′.the-row, (EL.tells K′.the-type KL.the-laws, tt)))
       (λ κs qs bounds a _ _. needs 𝓤 (asks (a .1 .0) (a .0 .now)) _ (λ may. walk 𝓤 H A W mem run (κs .0) (qs .0) (a .0 .ptr .0) (a .0 .ptr .1) (a .0 .name) (a .0 .now) (a .1 .0) may C Λ fmc known))
 
   goes : AllGo 𝓤 H A W 1 (lent.signature .params) (lent.ended .kept) stayed
-  goes = (goes-ref 𝓤 H A W 1 0 tt (plain (λ _. B′.the-row)), (goes-none 𝓤 H A W 1 (λ _. S′.the-row) yes (λ κs x f. refl), tt))
+  goes = (goes-ref 𝓤 H A W 1 0 tt (plain (λ _. B′.the-row)), (goes-none 𝓤 H A W 1 (λ _. K′.the-row) yes (λ κs x f. refl), tt))
 
 turn-meets : {M : Type 1} (𝓤 : URA M) (H : Heap 𝓤) (A : Atoms 𝓤) (W : Given 𝓤 H A) (mem : Memory → SProp 𝓤) (run : Routine → Fun 𝓤) (𝓣 : Tables 𝓤 H) → Triple 𝓤 (𝓣 .C #book-steps·lent·turned) (Turned 𝓤 H A mem run)
     → Meets 𝓤 H A lent.signature (WpFn 𝓤 H (𝓣 .C) (𝓣 .Λ) code.function) (lent.spec 𝓤 H A mem run)

@@ -2,7 +2,7 @@
 use native.Mathlib.Omega.{arith}
 use borrow.Author.Needs.{needs}
 use Rattle.group_bytes.specs.Groups.{Ranges}
-use Rattle.group_steps.proofs.Rows.{ranged}
+use Rattle.group_steps.proofs.Rows.{ranged, made-rise}
 use Rattle.group_steps.proofs.JoinLaws.{desk-of, join-no-member, join-no-view, join-done}
 use Rattle.group_steps.proofs.carrier_view.join.Statement.{statement}
 use Rattle.group_steps.proofs.carrier_view.join.Tie as tie
@@ -32,7 +32,7 @@ place-requires : tie.Need-place-requires
 place-requires c κs =
     let s = c .before .before .before .before .before .before .before in
     let r : Ranges = record { list = s .args .list .now; books = s .args .all .now; queues = s .args .queues .now } in
-    omega (arith, ranged r (s .pre) .made .1)
+    (omega (arith, ranged r (s .pre) .made .1), made-rise r (s .pre))
 
 refuse-requires-2 : tie.Need-refuse-requires-2
 refuse-requires-2 c κs = search needs

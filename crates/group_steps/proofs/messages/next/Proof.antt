@@ -5,7 +5,7 @@ use borrow.Author.Needs.{needs}
 use Rattle.book_bytes.specs.Places.{takenAt, bookSize}
 use Rattle.group_bytes.specs.Groups.{Ranges}
 use Rattle.group_bytes.proofs.RangesLaws.{RangesBytes}
-use Rattle.group_steps.proofs.Rows.{ranged}
+use Rattle.group_steps.proofs.Rows.{ranged, made-rise}
 use Rattle.group_steps.proofs.NextLaws.{next-inside, next-none, next-asks, next-done}
 use Rattle.group_steps.proofs.messages.next.Statement.{statement}
 use Rattle.group_steps.proofs.messages.next.Tie as tie
@@ -15,7 +15,7 @@ order-of-requires c κs =
     let s = c .before .before .before in
     let r : Ranges = record { list = s .args .list .now; books = s .args .all .now; queues = s .args .queues .now } in
     let fits = ranged r (s .pre .0) in
-    (omega (arith, fits .queues), omega (arith, fits .made .1), omega (arith, fits .made .1, fits .room .1))
+    (omega (arith, fits .queues), omega (arith, fits .made .1), omega (arith, fits .made .1, fits .room .1), made-rise r (s .pre .0))
 
 cast-k : tie.Need-cast-k
 cast-k c = search needs

@@ -5,18 +5,18 @@ use Rattle.record_steps.proofs.ClientLaws.{room-asked, room-unasked}
 use Rattle.record_steps.proofs.client_view.has_room.Statement.{statement}
 use Rattle.record_steps.proofs.client_view.has_room.Tie as tie
 
-same-view-requires : tie.Need-same-view-requires
-same-view-requires c κs = search needs
+in-step-requires : tie.Need-in-step-requires
+in-step-requires c κs = search needs
 
 returns : tie.Need-returns
 returns c =
-    let a = c .before .before .before .before .args in
-    room-asked (a .h) (a .out) (sym (c .before .same-view .ensures) ∙ c .if1 .taken)
+    let a = c .before .before .args in
+    room-asked (a .h) (a .out) (sym (c .before .in-step .ensures) ∙ c .if1 .taken)
 
 returns-2 : tie.Need-returns-2
 returns-2 c =
-    let a = c .before .before .before .before .args in
-    room-unasked (a .h) (a .out) (sym (c .before .same-view .ensures) ∙ c .if1 .left)
+    let a = c .before .before .args in
+    room-unasked (a .h) (a .out) (sym (c .before .in-step .ensures) ∙ c .if1 .left)
 
 pub has-room-spec : {M : Type 1} → statement M
-has-room-spec = tie.close (tie.spec same-view-requires returns returns-2)
+has-room-spec = tie.close (tie.spec in-step-requires returns returns-2)

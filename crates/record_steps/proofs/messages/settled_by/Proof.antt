@@ -3,12 +3,11 @@ use mathlib.Core.Path.{sym, _∙_}
 use borrow.Author.Tests.{lt-ltb, le-ltb}
 use borrow.Author.Needs.{needs}
 use Rattle.rules.specs.Member.{settledBy}
-use Rattle.record_steps.specs.Turns.{settledView}
 use Rattle.record_steps.proofs.messages.settled_by.Statement.{statement}
 use Rattle.record_steps.proofs.messages.settled_by.Tie as tie
 
 returns : tie.Need-returns
-unfolding settledView settledBy
+unfolding settledBy
 returns c = rw (le-ltb _ _ (c .if1 .taken))
 
 find-requires : tie.Need-find-requires
@@ -21,11 +20,11 @@ enum-told : tie.Need-enum-told
 enum-told c = search needs
 
 returns-2 : tie.Need-returns-2
-unfolding settledView settledBy
+unfolding settledBy
 returns-2 c = rw (lt-ltb _ _ (c .before .before .before .before .before .if1 .left), sym (c .before .before .before .find .ensures) ∙ c .before .v .given .1)
 
 returns-3 : tie.Need-returns-3
-unfolding settledView settledBy
+unfolding settledBy
 returns-3 c = rw (lt-ltb _ _ (c .before .before .before .before .if1 .left), sym (c .before .before .find .ensures) ∙ c .enum-told .given .1)
 
 pub settled-by-spec : {M : Type 1} → statement M

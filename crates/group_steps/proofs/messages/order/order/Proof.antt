@@ -9,7 +9,7 @@ use Rattle.rules.specs.Group.{orderStep}
 use Rattle.group_bytes.specs.Places.{orderAt, waitingAt}
 use Rattle.group_bytes.specs.Groups.{Ranges, madeOf, viewsMade, placeOf, groupIn}
 use Rattle.group_bytes.proofs.Inside.{order-inside, waiting-inside}
-use Rattle.group_steps.proofs.Rows.{ranged, no-member}
+use Rattle.group_steps.proofs.Rows.{ranged, made-rise, no-member}
 use Rattle.group_steps.proofs.OrderLaws.{order-refused, order-accepted, no-view, none-waiting, order-full, order-moves, forward-asks, order-bytes}
 use borrow.Author.Needs.{needs}
 use Rattle.group_steps.proofs.messages.order.order.Statement.{statement}
@@ -40,7 +40,7 @@ place-requires c κs =
     let a = c .before .before .before .before .before .before .before .args in
     let r : Ranges = record { list = a .list .now; books = a .all .now; queues = a .queues .now } in
     let f = ranged r (c .before .before .before .before .before .before .before .pre) in
-    omega (arith, f .made .1)
+    (omega (arith, f .made .1), made-rise r (c .before .before .before .before .before .before .before .pre))
 
 returns-2 : tie.Need-returns-2
 returns-2 c =

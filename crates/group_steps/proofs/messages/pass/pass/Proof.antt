@@ -21,7 +21,7 @@ use Rattle.group_bytes.specs.Moves.{slotAdded}
 use Rattle.group_bytes.proofs.BookBytes.{book-byte}
 use Rattle.group_bytes.proofs.Inside.{waiting-inside}
 use Rattle.group_bytes.proofs.PassGroup.{carriedIn}
-use Rattle.group_steps.proofs.Rows.{ranged, no-member}
+use Rattle.group_steps.proofs.Rows.{ranged, made-rise, no-member}
 use Rattle.group_steps.proofs.PassLaws.{part-is, place-is, put-back, pass-refused, pass-accepted, no-carrier, carried-made, none-outgoing, waiting-full, pass-moves, forward-asks}
 use borrow.Author.Needs.{needs}
 use Rattle.group_steps.proofs.messages.pass.pass.Statement.{statement}
@@ -128,7 +128,7 @@ place-requires c κs =
     let h = l .before .before .before .before .before .before .before .before .before .before .pre in
     let f = ranged r h in
     let m = l .before .before .before .before .if1 .left in
-    omega (arith, f .made .1)
+    (omega (arith, f .made .1), made-rise r h)
 
 waiting-at-requires : tie.Need-waiting-at-requires
 waiting-at-requires c κs =

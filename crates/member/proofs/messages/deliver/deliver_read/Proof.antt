@@ -1,7 +1,8 @@
 -- `member::messages::deliver::deliver_read` meets its contract: 13, the reader's refusals, then the message.
+use mathlib.Core.Path.{sym, _∙_}
 use native.Mathlib.Omega.{arith}
 use Rattle.book_steps.proofs.Committed.{sound-size}
-use Rattle.member.proofs.ReadLaws.{read-carries, read-unseated, read-carrier, read-refused, read-done}
+use Rattle.member.proofs.ReadLaws.{read-unseated, read-carrier, read-refused, read-done}
 use borrow.Author.Needs.{needs}
 use Rattle.member.proofs.messages.deliver.deliver_read.Statement.{statement}
 use Rattle.member.proofs.messages.deliver.deliver_read.Tie as tie
@@ -18,8 +19,8 @@ same-length c = search needs
 returns : tie.Need-returns
 returns c = read-unseated _ _ _ _ (c .before .before .before .load-seat .ensures) (c .before .if1 .taken) _ (c .refuse .ensures)
 
-read-requires : tie.Need-read-requires
-read-requires c κs = search needs
+verdict-requires : tie.Need-verdict-requires
+verdict-requires c κs = search needs
 
 enum-known-verdict : tie.Need-enum-known-verdict
 enum-known-verdict c = search needs
@@ -30,26 +31,22 @@ refuse-requires-2 c κs = search needs
 enum-told : tie.Need-enum-told
 enum-told c = search needs
 
-deliver-frame-requires : tie.Need-deliver-frame-requires
-deliver-frame-requires c κs =
-    let early = c .before .before .before .before .before in
-    (early .before .before .before .before .before .before .before .pre, read-carrier _ (early .before .before .before .before .before .before .before .args .bytes .now) 0 _ (early .before .before .before .load-seat .ensures) (early .before .if1 .left), read-carries _ _ (early .read .ensures) (c .before .before .before .enum-told .given .1))
+deliver-message-requires : tie.Need-deliver-message-requires
+deliver-message-requires c κs =
+    let early = c .before .before .before .before .before .before .before .before .before .before .before in
+    (early .pre, read-carrier _ (early .args .bytes .now) 0 _ (c .before .before .before .before .before .before .before .load-seat .ensures) (c .before .before .before .before .before .if1 .left), sym (c .before .before .before .before .verdict .ensures) ∙ c .before .before .enum-told .given .1)
 
 same-length-2 : tie.Need-same-length-2
 same-length-2 c = search needs
 
 returns-2 : tie.Need-returns-2
-returns-2 c =
-    let early = c .before .before .before .before in
-    read-refused _ _ _ _ (early .before .before .before .load-seat .ensures) (early .before .if1 .left) _ (early .read .ensures) _ (c .before .before .verdict .given .1) _ (c .refuse2 .ensures)
+returns-2 c = read-refused _ _ _ _ (c .before .before .before .before .before .before .before .load-seat .ensures) (c .before .before .before .before .before .if1 .left) _ (c .before .before .before .before .verdict .ensures) _ (c .before .before .verdict2 .given .1) _ (c .refuse2 .ensures)
 
 same-length-3 : tie.Need-same-length-3
 same-length-3 c = search needs
 
 returns-3 : tie.Need-returns-3
-returns-3 c =
-    let early = c .before .before .before .before .before .before in
-    read-done _ _ _ _ (early .before .before .before .before .before .load-seat .ensures) (early .before .before .before .if1 .left) _ (early .before .before .read .ensures) (early .enum-told .given .1) _ _ (c .before .before .deliver-frame .ensures)
+returns-3 c = read-done _ _ _ _ (c .before .before .before .before .before .before .before .before .before .before .load-seat .ensures) (c .before .before .before .before .before .before .before .before .if1 .left) _ (c .before .before .before .before .before .before .before .verdict .ensures) (c .before .before .before .before .before .enum-told .given .1) _ _ (c .before .before .deliver-message .ensures)
 
 pub deliver-read-spec : {M : Type 1} → statement M
 deliver-read-spec =
@@ -59,11 +56,11 @@ deliver-read-spec =
     refuse-requires
     same-length
     returns
-    read-requires
+    verdict-requires
     enum-known-verdict
     refuse-requires-2
     enum-told
-    deliver-frame-requires
+    deliver-message-requires
     same-length-2
     returns-2
     same-length-3

@@ -1,7 +1,7 @@
 -- `member::messages::pass::pass_first` meets its contract: 13, 14, and then what the writer says of the first message.
 use native.Mathlib.Omega.{arith}
 use Rattle.book_steps.proofs.Committed.{sound-layout, sound-size}
-use Rattle.member.proofs.PassLaws.{pass-unseated, pass-emptied, first-few, pass-done}
+use Rattle.member.proofs.PassLaws.{pass-unseated, pass-emptied, first-frame, first-few, first-lies, pass-done}
 use borrow.Author.Needs.{needs}
 use Rattle.member.proofs.messages.pass.pass_first.Statement.{statement}
 use Rattle.member.proofs.messages.pass.pass_first.Tie as tie
@@ -26,14 +26,12 @@ returns-2 c =
     let early = c .before .before .before .before in
     pass-emptied _ (early .before .before .before .before .pre) _ (early .load-seat .ensures) (c .before .before .if1 .left) _ (c .if2 .taken)
 
-add-load-frame : tie.Need-add-load-frame
-add-load-frame c = search needs
-
-load-frame-requires : tie.Need-load-frame-requires
-load-frame-requires c κs = (omega (arith, sound-size _ (c .before .before .before .before .before .before .before .before .before .pre)), first-few _ (c .before .before .before .before .before .before .before .before .before .pre) (omega arith))
-
 give-out-requires : tie.Need-give-out-requires
-give-out-requires c κs = let l = sound-layout _ (c .before .before .before .before .before .before .before .before .before .before .before .before .pre) in (omega arith, omega (arith, l .size, l .outgoing))
+give-out-requires c κs =
+    let b = c .before .before .before .before .before .before .before .before .before .before .args .b .now in
+    let pre = c .before .before .before .before .before .before .before .before .before .before .pre in
+    let l = sound-layout _ pre in
+    (omega arith, omega (arith, l .size, l .outgoing), first-few b pre (omega arith), first-lies b pre (omega arith), first-frame b pre (omega arith) _ .1)
 
 same-length-3 : tie.Need-same-length-3
 same-length-3 c = search needs
@@ -42,7 +40,7 @@ same-length-4 : tie.Need-same-length-4
 same-length-4 c = search needs
 
 returns-3 : tie.Need-returns-3
-returns-3 c = pass-done _ (c .before .before .before .before .before .before .before .before .before .before .before .before .before .before .before .before .before .pre) _ (c .before .before .before .before .before .before .before .before .before .before .before .before .before .load-seat .ensures) (c .before .before .before .before .before .before .before .before .before .before .before .if1 .left) (omega arith) _ (c .before .before .before .before .before .before .before .load-frame .ensures) _ _ _ _ (c .before .before .before .before .give-out .ensures)
+returns-3 c = pass-done _ (c .before .before .before .before .before .before .before .before .before .before .before .before .before .before .before .pre) _ (c .before .before .before .before .before .before .before .before .before .before .before .load-seat .ensures) (c .before .before .before .before .before .before .before .before .before .if1 .left) (omega arith) _ _ _ _ (c .before .before .before .before .give-out .ensures)
 
 pub pass-first-spec : {M : Type 1} → statement M
 pass-first-spec =
@@ -54,8 +52,6 @@ pass-first-spec =
     slice-read-if2
     same-length-2
     returns-2
-    add-load-frame
-    load-frame-requires
     give-out-requires
     same-length-3
     same-length-4
