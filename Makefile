@@ -165,8 +165,9 @@ target/unproved/bench: $(SOURCES)
 .PHONY: benchmark
 BENCHMARK_CXX := $(or $(shell command -v clang++),$(CXX))
 BENCHMARK_DIR := target/benchmark/$(notdir $(BENCHMARK_CXX))
-# At fixed places, for a loop's time changes by a sixth with where it happens to lie.
-BENCHMARK_PLACES := -falign-functions=64 -falign-loops=32
+# For speed: at fixed places, for a loop's time changes by a sixth with where it happens to lie; and by tests where LLVM would jump by a message's kind,
+# which is guessed wrong so often that a group of structs took four times as long.
+BENCHMARK_FLAGS := -O3 -falign-functions=64 -falign-loops=32 -fno-jump-tables
 BENCHMARK_OBJECTS := $(patsubst tests/benchmark/%.cpp,$(BENCHMARK_DIR)/%.o,$(wildcard tests/benchmark/*.cpp))
 STEADY := target/benchmark/steady.txt
 benchmark: $(BENCHMARK_DIR)/benchmark target/bin/bench reference-cpp $(STEADY)
@@ -175,7 +176,7 @@ $(BENCHMARK_DIR)/benchmark: $(BENCHMARK_OBJECTS) $(LIBRARY)
 	$(BENCHMARK_CXX) -o $@ $^
 $(BENCHMARK_DIR)/%.o: tests/benchmark/%.cpp $(wildcard tests/benchmark/*.hpp tests/benchmark/*.inc) $(OUTSIDE)
 	mkdir -p $(BENCHMARK_DIR)
-	$(BENCHMARK_CXX) $(OUTSIDE_FLAGS) -O3 $(BENCHMARK_PLACES) -c -o $@ $<
+	$(BENCHMARK_CXX) $(OUTSIDE_FLAGS) $(BENCHMARK_FLAGS) -c -o $@ $<
 $(STEADY): tests/benchmark/steady_script.py
 	mkdir -p target/benchmark
 	python3 tests/benchmark/steady_script.py 60000 > $@

@@ -152,6 +152,41 @@ void by_room() {
          times[0].best(), times[1].best(), times[2].best());
 }
 
+// The most that sound bytes can hold, which no steps lead to: eight members, 32 views made and open, every queue full
+// and every message in it an info of all of them. What is timed is a step that is refused behind refusal 4.
+void fullest() {
+  constexpr unsigned kAll = (1u << DVS_MEMBERS) - 1;
+  Ranges r(DVS_VIEWS);
+  if (r.start(DVS_MEMBERS, kAll)) fail("a start is refused");
+  for (unsigned i = 1; i < DVS_VIEWS; ++i)
+    if (r.step({DVS_STEP_CREATE, i, kAll})) fail("a view is refused");
+  const uint8_t* views = r.list.data();
+  auto fill = [=](uint8_t* queue, unsigned count) {
+    *queue++ = static_cast<uint8_t>(count);
+    for (unsigned i = 0; i < count; ++i, queue += plain::kSlotSize) {
+      queue[plain::kSlotSender] = static_cast<uint8_t>(i % DVS_MEMBERS);
+      queue[plain::kSlotKind] = DVS_INFO, queue[plain::kSlotCount] = DVS_VIEWS;
+      memcpy(queue + plain::kSlotViews, views, DVS_LIST_SIZE(DVS_VIEWS));
+    }
+  };
+  for (unsigned i = 0; i < DVS_VIEWS; ++i) {
+    fill(r.queues.data() + DVS_QUEUES_ORDER(i), DVS_ORDERED);
+    for (unsigned p = 0; p < DVS_MEMBERS; ++p) fill(r.queues.data() + DVS_QUEUES_WAITING(i, p), DVS_WAITING);
+  }
+  for (unsigned p = 0; p < DVS_MEMBERS; ++p) {
+    uint8_t* book = r.books.data() + DVS_BOOK_SIZE * p;
+    book[DVS_BOOK_OPENS] = DVS_OPEN;
+    memcpy(book + DVS_BOOK_OPENS + 1, views + DVS_VIEW_SIZE, DVS_LIST_SIZE(DVS_OPEN));
+    book[DVS_BOOK_TAKEN] = book[plain::kAtInward0] = book[plain::kAtInward1] = DVS_ORDERED;
+    fill(book + DVS_BOOK_OUTGOING, DVS_OUTGOING);
+  }
+  auto refused = [](uint32_t answer) { return uint64_t{answer == DVS_REFUSED_UNKNOWN_STEP}; };
+  std::vector<Times> times = measure(1, {[&] { return refused(r.step({0, 0, 0})); },
+                                         [&] { return refused(r.step_independent({0, 0, 0})); }});
+  printf("\nThe most that sound bytes can hold, every queue full of infos of 32 views: %.2f ms, by the plain\n"
+         "implementation over the same bytes %.2f ms\n", times[0].best() / 1e6, times[1].best() / 1e6);
+}
+
 }  // namespace
 
 void growth() {
@@ -162,6 +197,7 @@ void growth() {
   table(2);
   table(8);
   by_room();
+  fullest();
 }
 
 }  // namespace benchmark
