@@ -172,7 +172,11 @@ BENCHMARK_OBJECTS := $(patsubst tests/benchmark/%.cpp,$(BENCHMARK_DIR)/%.o,$(wil
 STEADY := target/benchmark/steady.txt
 benchmark: $(BENCHMARK_DIR)/benchmark target/bin/bench reference-cpp $(STEADY)
 	$(BENCHMARK_DIR)/benchmark $(STEADY) target/bin/bench target/reference target/reference-unchecked
-$(BENCHMARK_DIR)/benchmark: $(BENCHMARK_OBJECTS) $(LIBRARY)
+# The library too begins at a line of the cache: its shortest loop takes twice as long where it lies across two.
+$(BENCHMARK_DIR)/libdvs.a: $(LIBRARY)
+	mkdir -p $(BENCHMARK_DIR)
+	objcopy --set-section-alignment .text=64 $< $@
+$(BENCHMARK_DIR)/benchmark: $(BENCHMARK_OBJECTS) $(BENCHMARK_DIR)/libdvs.a
 	$(BENCHMARK_CXX) -o $@ $^
 $(BENCHMARK_DIR)/%.o: tests/benchmark/%.cpp $(wildcard tests/benchmark/*.hpp tests/benchmark/*.inc) $(OUTSIDE)
 	mkdir -p $(BENCHMARK_DIR)
