@@ -30,7 +30,7 @@ extern "C" {
 
 /* ---- the version: major * 10000 + minor * 100 + patch; dvs_version() gives the library's, which a host compares with this once */
 
-#define DVS_VERSION 200u
+#define DVS_VERSION 201u
 
 /* ---- limits */
 

@@ -134,8 +134,9 @@ void table(unsigned members) {
   const char* const names[] = {"order", "hand", "the structs' send"};
   printf("\nFrom 1 view with 16 messages to 32 with 128: send %.0f to %.0f ns", ns(kRows), ns(kCells - 1));
   for (size_t i = 0; i < 3; ++i) printf(", %s %.0f to %.0f", names[i], ns(kCells + 2 * i), ns(kCells + 2 * i + 1));
-  printf(";\nthe library's send is %.2f to %.2f times the structs'\n", ns(kRows) / ns(kCells + 4),
-         ns(kCells - 1) / ns(kCells + 5));
+  printf(";\nthe library's send is %.2f to %.2f times the structs'. One more view with a full order costs %.0f ns\n",
+         ns(kRows) / ns(kCells + 4), ns(kCells - 1) / ns(kCells + 5),
+         (ns(kCells - 1) - ns(kCells - kRows)) / (kMade[kRows - 1] - kMade[0]));
   fflush(stdout);
 }
 
@@ -161,24 +162,26 @@ void fullest() {
   for (unsigned i = 1; i < DVS_VIEWS; ++i)
     if (r.step({DVS_STEP_CREATE, i, kAll})) fail("a view is refused");
   const uint8_t* views = r.list.data();
-  auto fill = [=](uint8_t* queue, unsigned count) {
-    *queue++ = static_cast<uint8_t>(count);
-    for (unsigned i = 0; i < count; ++i, queue += plain::kSlotSize) {
-      queue[plain::kSlotSender] = static_cast<uint8_t>(i % DVS_MEMBERS);
-      queue[plain::kSlotKind] = DVS_INFO, queue[plain::kSlotCount] = DVS_VIEWS;
-      memcpy(queue + plain::kSlotViews, views, DVS_LIST_SIZE(DVS_VIEWS));
+  plain::Slot info;
+  info.bytes[plain::kSlotKind] = DVS_INFO, info.bytes[plain::kSlotCount] = DVS_VIEWS;
+  memcpy(info.bytes + plain::kSlotViews, views, DVS_LIST_SIZE(DVS_VIEWS));
+  auto fill = [&info](auto queue, unsigned count) {
+    while (queue.count() < count) {
+      info.bytes[plain::kSlotSender] = static_cast<uint8_t>(queue.count() % DVS_MEMBERS);
+      queue.push(info);
     }
   };
   for (unsigned i = 0; i < DVS_VIEWS; ++i) {
-    fill(r.queues.data() + DVS_QUEUES_ORDER(i), DVS_ORDERED);
-    for (unsigned p = 0; p < DVS_MEMBERS; ++p) fill(r.queues.data() + DVS_QUEUES_WAITING(i, p), DVS_WAITING);
+    fill(plain::Order{r.queues.data() + DVS_QUEUES_ORDER(i)}, DVS_ORDERED);
+    for (unsigned p = 0; p < DVS_MEMBERS; ++p)
+      fill(plain::Queue{r.queues.data() + DVS_QUEUES_WAITING(i, p)}, DVS_WAITING);
   }
   for (unsigned p = 0; p < DVS_MEMBERS; ++p) {
     uint8_t* book = r.books.data() + DVS_BOOK_SIZE * p;
     book[DVS_BOOK_OPENS] = DVS_OPEN;
     memcpy(book + DVS_BOOK_OPENS + 1, views + DVS_VIEW_SIZE, DVS_LIST_SIZE(DVS_OPEN));
     book[DVS_BOOK_TAKEN] = book[plain::kAtInward0] = book[plain::kAtInward1] = DVS_ORDERED;
-    fill(book + DVS_BOOK_OUTGOING, DVS_OUTGOING);
+    fill(plain::Queue{book + DVS_BOOK_OUTGOING}, DVS_OUTGOING);
   }
   auto refused = [](uint32_t answer) { return uint64_t{answer == DVS_REFUSED_UNKNOWN_STEP}; };
   std::vector<Times> times = measure(1, {[&] { return refused(r.step({0, 0, 0})); },

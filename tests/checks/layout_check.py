@@ -7,6 +7,7 @@ from sources import ROOT, constants
 
 LAYOUT = (ROOT / 'docs' / 'LAYOUT.md').read_text()
 book, slot, group = constants('book_bytes/src/lib.rt'), constants('slots/src/lib.rt'), constants('group_bytes/src/lib.rt')
+inward, line = constants('slots/src/inward.rt'), constants('slots/src/order.rt')
 event, record, run = constants('c_answers/src/lib.rt'), constants('wire/src/record.rt'), constants('group_run/src/lib.rt')
 sizes = constants('views/src/sizes.rt')
 view, number, identifier = sizes['VIEW'], sizes['NUMBER'], sizes['IDENTIFIER']
@@ -29,13 +30,15 @@ waits = group['HEAD'] + group['ORDER']
 wanted = {
     'A message': [0, 1, 1 + identifier, at(front, (view, 'i')), at(front + identifier, (view, 'i')), at(front, (view, 'n')), at(front + 1, (view, 'n'))],
     'A queue entry': [0, slot['KIND'], slot['NUMBER'], slot['COUNT'], at(slot['VIEWS'], (view, 'i'))],
+    'An inward list': [0, at(inward['SENDERS'], (1, 'k')), at(inward['NUMBERS'], (number, 'k'))],
+    'An order': [0] + [at(line[name], (1, 'k')) for name in ('SENDERS', 'KINDS', 'COUNTS')]
+    + [at(line['NUMBERS'], (number, 'k')), at(line['VIEWS'], (line['CARRIED'], 'k'), (view, 'i'))],
     "A member's book": [book[name] for name in ('MEMBERS', 'SELF', 'SETTLED')] + [book['CARRIER'], book['CARRIER'] + 1, book['CLIENT'], book['CLIENT'] + 1]
     + [book[name] for name in ('REGISTERED', 'HANDED', 'TOLD', 'REPORTED', 'TAKEN', 'INFOS', 'REGISTRATIONS')]
     + [at(book['TOLDS'], (1, 'q')), book['SIDE'], book['OPENS'], at(book['OPENS'] + 1, (view, 'i')), book['OUTGOING']]
-    + [at(book['OUTGOING'] + 1, (slot['SLOT'], 'i')), book['INWARD'], at(book['INWARD'] + 1, (slot['ITEM'], 'i'))]
-    + [book['INWARD'] + book['APART'], at(book['INWARD'] + book['APART'] + 1, (slot['ITEM'], 'i'))],
+    + [at(book['OUTGOING'] + 1, (slot['SLOT'], 'i')), book['INWARD'], book['INWARD'] + book['APART']],
     'The list': [behind(view, 0), behind(view, identifier)],
-    'The queues': [group['MADE'], 1, at(group['HEAD'], order), at(group['HEAD'] + 1, order, (slot['SLOT'], 'k')), at(waits, order, waiting)]
+    'The queues': [group['MADE'], 1, at(group['HEAD'], order), at(waits, order, waiting)]
     + [at(waits + 1, order, waiting, (slot['SLOT'], 'k'))],
     'A run: steps and answers': [behind(run['STEP'], 0), behind(run['STEP'], run['FIRST']), behind(run['STEP'], run['SECOND'])]
     + [behind(run['ANSWER'], 0), behind(run['ANSWER'], run['SHOWN'])],
@@ -44,7 +47,8 @@ wanted = {
 }
 lengths = {
     'A queue entry': slot['SLOT'],
-    'An inward item': slot['ITEM'],
+    'An inward list': inward['SIZE'],
+    'An order': line['SIZE'],
     "A member's book": book['SIZE'],
     'The books': group['BOOKS'],
     'An event': event['EVENT'],

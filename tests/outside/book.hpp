@@ -25,8 +25,9 @@ inline bool load(const uint8_t* b, Member& m) {
   memcpy(m.outgoing, b + kAtOutgoing + 1, sizeof m.outgoing);
   for (unsigned s = 0; s < 2; ++s) {
     const uint8_t* at = b + (s ? kAtInward1 : kAtInward0);
-    m.inward[s].count = *at++;
-    for (unsigned i = 0; i < m.inward[s].count; ++i, at += kItemSize) m.inward[s].items[i] = Item{*at, get(at + 1, 8)};
+    m.inward[s].count = *at;
+    for (unsigned i = 0; i < m.inward[s].count; ++i)
+      m.inward[s].items[i] = Item{at[kItemSenders + i], get(at + kItemNumbers + 8 * i, 8)};
   }
   return true;
 }
@@ -49,9 +50,11 @@ inline void store(const Member& m, uint8_t* b) {
   memcpy(b + kAtOutgoing + 1, m.outgoing, sizeof m.outgoing);
   for (unsigned s = 0; s < 2; ++s) {
     uint8_t* at = b + (s ? kAtInward1 : kAtInward0);
-    *at++ = static_cast<uint8_t>(m.inward[s].count);
-    for (unsigned i = 0; i < m.inward[s].count; ++i, at += kItemSize)
-      *at = m.inward[s].items[i].sender, put(at + 1, 8, m.inward[s].items[i].number);
+    *at = static_cast<uint8_t>(m.inward[s].count);
+    for (unsigned i = 0; i < m.inward[s].count; ++i) {
+      at[kItemSenders + i] = m.inward[s].items[i].sender;
+      put(at + kItemNumbers + 8 * i, 8, m.inward[s].items[i].number);
+    }
   }
 }
 

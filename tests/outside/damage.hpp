@@ -1,6 +1,8 @@
 // Damage: a few bytes of a range changed, at places where it most often matters. Both copies get the same.
 #pragma once
 
+#include <initializer_list>
+
 #include "lent.hpp"
 #include "random.hpp"
 
@@ -23,6 +25,21 @@ inline size_t queue_place(Random& r, const uint8_t* queue, unsigned limit) {
   return 1 + plain::kSlotSize * r.below(used) + (r.chance(500) ? r.below(12) : r.below(plain::kSlotSize));
 }
 
+// A place in an inward list or an order: its count, or a byte of a used place of a column, most often one of the first
+// columns, which every entry has.
+inline size_t column_place(Random& r, unsigned count, std::initializer_list<size_t> widths) {
+  unsigned used = count < plain::kOrdered ? count : plain::kOrdered;
+  if (used == 0 || r.chance(200)) return 0;
+  size_t at = 1, one_byte = 0;
+  for (size_t width : widths) one_byte += width == 1;
+  size_t which = r.chance(600) ? r.below(static_cast<unsigned>(one_byte)) : r.below(static_cast<unsigned>(widths.size()));
+  for (size_t width : widths) {
+    if (which-- == 0) return at + r.below(static_cast<unsigned>(width * used));
+    at += width * plain::kOrdered;
+  }
+  return 0;
+}
+
 // A place in a book: its small record, outgoing, or an inward list.
 inline size_t book_place(Random& r, const uint8_t* book) {
   unsigned which = r.below(10);
@@ -31,8 +48,7 @@ inline size_t book_place(Random& r, const uint8_t* book) {
   if (which < 8) return plain::kAtOutgoing + queue_place(r, book + plain::kAtOutgoing, plain::kOutgoing);
   if (which == 8) return r.below(plain::kBookSize);
   size_t list = r.chance(500) ? plain::kAtInward0 : plain::kAtInward1;
-  if (book[list] == 0 || r.chance(400)) return list;
-  return list + 1 + r.below(plain::kItemSize * (book[list] <= 128 ? book[list] : 128u));
+  return list + column_place(r, book[list], {1, 8});
 }
 
 // A place in a group's queues: the number of views made, or in a queue of a view made.
@@ -40,7 +56,7 @@ inline size_t queues_place(Random& r, const uint8_t* queues, size_t room) {
   if (r.chance(100)) return r.chance(700) ? 0 : r.below(plain::kQueuesHead);
   unsigned made = queues[0] >= 1 && queues[0] <= room ? queues[0] : static_cast<unsigned>(room);
   size_t table = plain::kQueuesHead + plain::kTableSize * r.below(made);
-  if (r.chance(400)) return table + queue_place(r, queues + table, plain::kOrdered);
+  if (r.chance(400)) return table + column_place(r, queues[table], {1, 1, 1, 8, plain::kInfoSize});
   size_t waiting = table + plain::kOrderSize + plain::kWaitingSize * r.below(8);
   return waiting + queue_place(r, queues + waiting, plain::kWaiting);
 }

@@ -95,14 +95,18 @@ inline void random_group(Random& r, plain::Range list, plain::Range books, plain
   for (unsigned i = 0; i < pool.count; ++i) plain::put_view(list.at + plain::kViewSize * i, pool.views[i]);
   queues.at[0] = static_cast<uint8_t>(pool.count);
   auto order = [&](unsigned i) { return queues.at + plain::kQueuesHead + plain::kTableSize * i; };
-  auto fill = [&](uint8_t* queue, unsigned limit) {
-    queue[0] = static_cast<uint8_t>(count_to(r, limit));
-    for (unsigned i = 0; i < queue[0]; ++i) random_slot(r, pool, plain::Queue{queue}.slots()[i]);
-  };
   for (unsigned i = 0; i < pool.count; ++i) {
-    fill(order(i), plain::kOrdered);
-    for (unsigned p = 0; p < members; ++p)
-      fill(order(i) + plain::kOrderSize + plain::kWaitingSize * p, plain::kWaiting);
+    order(i)[0] = static_cast<uint8_t>(count_to(r, plain::kOrdered));
+    for (unsigned k = 0; k < order(i)[0]; ++k) {
+      plain::Slot entry;
+      random_slot(r, pool, entry);
+      plain::Order{order(i)}.write(k, entry);
+    }
+    for (unsigned p = 0; p < members; ++p) {
+      uint8_t* queue = order(i) + plain::kOrderSize + plain::kWaitingSize * p;
+      queue[0] = static_cast<uint8_t>(count_to(r, plain::kWaiting));
+      for (unsigned k = 0; k < queue[0]; ++k) random_slot(r, pool, plain::Queue{queue}.slots()[k]);
+    }
   }
   for (unsigned p = 0; p < members; ++p) {
     uint8_t* book = books.at + plain::kBookSize * p;

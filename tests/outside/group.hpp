@@ -23,6 +23,41 @@ struct Queue {
   }
 };
 
+// A view's order: a count byte and columns. An entry that is put there writes its sender, its kind and what its kind has.
+struct Order {
+  uint8_t* at;
+
+  unsigned count() const { return at[0]; }
+
+  // The entry in a slot of its own: a told's count is the number there.
+  Slot entry(unsigned i) const {
+    Slot e;
+    uint8_t kind = at[kOrderKinds + i], count = at[kOrderCounts + i];
+    e.bytes[kSlotSender] = at[kOrderSenders + i], e.bytes[kSlotKind] = kind, e.bytes[kSlotCount] = count;
+    put(e.bytes + kSlotNumber, 8, kind == kTold ? count : get(at + kOrderNumbers + 8 * i, 8));
+    if (kind == kInfo) memcpy(e.bytes + kSlotViews, at + kOrderViews + kInfoSize * i, kInfoSize);
+    return e;
+  }
+
+  void write(unsigned i, const Slot& e) {
+    at[kOrderSenders + i] = e.sender(), at[kOrderKinds + i] = e.kind();
+    if (e.kind() == kClient) put(at + kOrderNumbers + 8 * i, 8, e.number());
+    if (e.kind() == kTold) at[kOrderCounts + i] = static_cast<uint8_t>(e.number());
+    if (e.kind() != kInfo) return;
+    at[kOrderCounts + i] = static_cast<uint8_t>(e.count());
+    memcpy(at + kOrderViews + kInfoSize * i, e.bytes + kSlotViews, e.count() * kViewSize);
+  }
+
+  void push(const Slot& e) { write(count(), e), ++at[0]; }
+
+  bool sound(const Setting& in) const {
+    if (count() > kOrdered) return false;
+    for (unsigned i = 0; i < count(); ++i)
+      if (!in.sound(entry(i))) return false;
+    return true;
+  }
+};
+
 class Group {
   Range list_, books_, queues_;
   Member m_;
@@ -32,7 +67,7 @@ class Group {
   unsigned made() const { return queues_.at[0]; }
   View view(unsigned i) const { return get_view(list_.at + kViewSize * i); }
   uint8_t* book(unsigned p) const { return books_.at + kBookSize * p; }
-  Queue order(unsigned i) const { return Queue{queues_.at + kQueuesHead + kTableSize * i}; }
+  Order order(unsigned i) const { return Order{queues_.at + kQueuesHead + kTableSize * i}; }
   Queue waiting(unsigned i, unsigned p) const { return Queue{order(i).at + kOrderSize + kWaitingSize * p}; }
 
   // The place of a made view, or the number made.
@@ -55,7 +90,7 @@ class Group {
       if (!set_fits(view(i).set, members()) || (i > 0 && view(i).id <= view(i - 1).id)) return false;
     Setting in{members(), list_.at, made()};
     for (unsigned i = 0; i < made(); ++i) {
-      if (!order(i).sound(kOrdered, in)) return false;
+      if (!order(i).sound(in)) return false;
       for (unsigned p = 0; p < members(); ++p)
         if (!waiting(i, p).sound(kWaiting, in)) return false;
     }
@@ -98,7 +133,8 @@ class Group {
   Refusal order_one(unsigned p, uint64_t id) {
     unsigned i = find(id);
     if (i == made()) return kNoSuchView;
-    Queue from = waiting(i, p), to = order(i);
+    Queue from = waiting(i, p);
+    Order to = order(i);
     if (from.count() == 0) return kNoneWaiting;
     if (to.count() == kOrdered) return kOrderFull;
     to.push(from.slots()[0]);
@@ -108,9 +144,9 @@ class Group {
 
   Refusal deliver() {
     if (!m_.has_carrier) return kNoCarrierView;
-    Queue from = order(find(m_.carrier.id));
+    Order from = order(find(m_.carrier.id));
     if (m_.taken == from.count()) return kNoneToDeliver;
-    const Slot& e = from.slots()[m_.taken];
+    Slot e = from.entry(m_.taken);
     return m_.take(e.message(m_.carrier.id), e.sender());
   }
 

@@ -11,21 +11,28 @@ namespace plain {
 constexpr unsigned kMembers = 8, kViews = 32, kOpen = 31, kOutgoing = 16, kWaiting = 8, kOrdered = 128;
 
 // Lengths of ranges and of what stands in them.
-constexpr size_t kViewSize = 5, kSlotSize = 171, kItemSize = 9, kBookSize = 5234, kEventSize = 16, kLengthSize = 4;
+constexpr size_t kViewSize = 5, kSlotSize = 171, kBookSize = 5234, kEventSize = 16, kLengthSize = 4;
 constexpr size_t kRecordSize = 174, kLongest = 167, kBooksSize = kMembers * kBookSize;
 constexpr size_t kStepSize = 13, kAnswerSize = 17;
-constexpr size_t kQueuesHead = 64, kWaitingSize = 1 + kWaiting * kSlotSize, kOrderSize = 1 + kOrdered * kSlotSize;
-constexpr size_t kTableSize = kOrderSize + kMembers * kWaitingSize;
-static_assert(kTableSize == 32841, "the queues of one view");
-
-constexpr size_t queues_size(size_t views) { return kQueuesHead + kTableSize * views; }
-
+constexpr size_t kQueuesHead = 64, kWaitingSize = 1 + kWaiting * kSlotSize;
 // Places in a book.
 enum Place : size_t {
   kAtMembers = 0, kAtOwn = 1, kAtSettled = 2, kAtCarrier = 7, kAtClient = 13, kAtRegistered = 19, kAtHanded = 20,
   kAtTold = 21, kAtReported = 22, kAtTaken = 23, kAtInfos = 24, kAtRegistrations = 25, kAtTolds = 26, kAtSide = 34,
   kAtOpen = 35, kAtOutgoing = 191, kAtInward0 = 2928, kAtInward1 = 4081
 };
+
+// The columns of an inward list and of a view's order, each behind the count: 128 places, the width of each in the next
+// line. A told's count stands where an info has its number of views.
+constexpr size_t kItemSenders = 1, kItemNumbers = kItemSenders + kOrdered, kInwardSize = kItemNumbers + 8 * kOrdered;
+constexpr size_t kOrderSenders = 1, kOrderKinds = kOrderSenders + kOrdered, kOrderCounts = kOrderKinds + kOrdered;
+constexpr size_t kOrderNumbers = kOrderCounts + kOrdered, kOrderViews = kOrderNumbers + 8 * kOrdered;
+constexpr size_t kInfoSize = kViews * kViewSize, kOrderSize = kOrderViews + kInfoSize * kOrdered;
+constexpr size_t kTableSize = kOrderSize + kMembers * kWaitingSize;
+static_assert(kInwardSize == kAtInward1 - kAtInward0 && kAtInward1 + kInwardSize == kBookSize, "the inward lists");
+static_assert(kTableSize == 32841, "the queues of one view");
+
+constexpr size_t queues_size(size_t views) { return kQueuesHead + kTableSize * views; }
 
 // Places in a queue entry's slot, and in a message's record.
 constexpr size_t kSlotSender = 0, kSlotKind = 1, kSlotNumber = 2, kSlotCount = 10, kSlotViews = 11;

@@ -40,12 +40,15 @@ INWARD = (2928, 4081)
 # Sizes, and offsets in a queue entry.
 VIEW_SIZE = 5
 ENTRY_SIZE = 171
-ITEM_SIZE = 9
 ENTRY_SENDER = 0
 ENTRY_KIND = 1
 ENTRY_NUMBER = 2
 ENTRY_VIEWS = 10
 KINDS = {1: "client", 2: "info", 3: "registered", 4: "told"}
+
+# In an inward list, behind its count: the senders of all items, then their entry numbers.
+SENDERS = 1
+NUMBERS = 129
 
 
 class Reading:
@@ -96,8 +99,7 @@ class Reading:
 
     def items(self, at):
         count = self.count(at, MOST_TAKEN)
-        places = [at + 1 + ITEM_SIZE * i for i in range(count)]
-        return [(self.number(place), self.number(place + 1, 8)) for place in places]
+        return [(self.number(at + SENDERS + i), self.number(at + NUMBERS + 8 * i, 8)) for i in range(count)]
 
     def member(self):
         refuse_if(len(self.data) != SIZE, RECORDS_UNSOUND)
@@ -167,8 +169,8 @@ class Writing:
     def items(self, at, items):
         self.number(at, len(items))
         for i, (sender, entry) in enumerate(items):
-            self.number(at + 1 + ITEM_SIZE * i, sender)
-            self.number(at + 2 + ITEM_SIZE * i, entry, 8)
+            self.number(at + SENDERS + i, sender)
+            self.number(at + NUMBERS + 8 * i, entry, 8)
 
     def member(self, m):
         self.number(MEMBERS, m.members)

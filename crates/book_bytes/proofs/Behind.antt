@@ -3,16 +3,18 @@ use mathlib.Core.Path.{_≡_, _∙_}
 use mathlib.Core.Bool.{true}
 use mathlib.Core.Logic.{inl, inr}
 use mathlib.Core.List.{List}
-use Prim.Native.Nat.{ℕ, zero, suc, _+_, _-_, _*_, _≤_, _<_}
+use Prim.Native.Nat.{ℕ, zero, suc, _+_, _-_, _≤_, _<_}
 use native.Mathlib.Decide.{decLt, ℕ-discrete}
 use native.Mathlib.Omega.{arith}
 use lib.ListN.{getD}
 use Rattle.views.specs.Limits.{maxOutgoing, maxOrdered}
 use Rattle.rules.specs.Data.{Entry, Item}
 use Rattle.rules.specs.Member.{outgoes}
-use Rattle.slots.specs.Slots.{itemSize, slotsFit}
+use Rattle.slots.specs.Slots.{slotsFit}
+use Rattle.slots.specs.Columns.{inwardSize}
 use Rattle.slots.proofs.Same.{byte-same}
-use Rattle.slots.proofs.Outside.{Changed, Apart, apart-same, view-apart, entries-apart, slots-apart, items-apart}
+use Rattle.slots.proofs.Outside.{Changed, Apart, apart-same, view-apart, entries-apart, slots-apart}
+use Rattle.slots.proofs.Items.{items-kept, items-past}
 use Rattle.book_bytes.specs.Places.{membersAt, selfAt, settledAt, carrierAt, clientAt, registeredAt, handedAt, toldAt, reportedAt, takenAt, infosAt, registrationsAt, sideAt, opensAt, outgoingAt, inwardAt}
 use Rattle.book_bytes.specs.Records.{recordIn, meaning}
 use Rattle.book_bytes.specs.Books.{outgoingIn, inwardIn, bookIn}
@@ -22,10 +24,6 @@ use Rattle.book_bytes.proofs.RecordReads.{flag-apart, seat-apart, opens
 -- a count and 16 slots
 abbrev pub outgoingSize : ℕ
 outgoingSize = inwardAt 0 - outgoingAt
-
--- a count and 128 items
-abbrev pub inwardSize : ℕ
-inwardSize = inwardAt 1 - inwardAt 0
 
 -- ---- a change behind the record
 
@@ -79,7 +77,7 @@ module _ {b d : List ℕ} (x : Changed b d outgoingAt outgoingSize) (l : Layout 
   inward-count k = x .past (inwardAt k) (omega arith)
 
   inward-past : (k : ℕ) → inwardIn d k ≡ inwardIn b k
-  inward-past k = rw (inward-count k) (items-apart x (inwardAt k + 1) (getD b (inwardAt k) 0) (inr (omega arith)))
+  inward-past k = items-past x (inwardAt k) (omega arith)
 
   pub outgoing-book : (out : List Entry) → outgoingIn d ≡ out → bookIn d ≡ outgoes out (bookIn b)
   unfolding bookIn
@@ -111,17 +109,14 @@ module _ {b d : List ℕ} (k j : ℕ) (sides : k + j ≡ 1) (x : Changed b d (in
   slots-ahead : slotsFit d (outgoingAt + 1) (getD d outgoingAt 0) ≡ true
   slots-ahead = rw outgoing-count (slots-apart x (outgoingAt + 1) (getD b outgoingAt 0) (inl (omega (arith, l .outgoing))) ∙ l .slots)
 
-  other-apart : (from n : ℕ) → inwardAt j ≤ from → from + n ≤ inwardAt j + inwardSize → Apart (inwardAt k) inwardSize from n
-  other-apart from n h g = elim (decLt j k) [ yes p ↦ inl (omega arith) | no p ↦ inr (omega arith) ]
+  other-apart : Apart (inwardAt k) inwardSize (inwardAt j) inwardSize
+  other-apart = elim (decLt j k) [ yes p ↦ inl (omega arith) | no p ↦ inr (omega arith) ]
 
   other-count : getD d (inwardAt j) 0 ≡ getD b (inwardAt j) 0
-  other-count = byte-same d b (inwardAt j) (inwardAt j) 1 (omega arith) (apart-same x (inwardAt j) 1 (other-apart (inwardAt j) 1 (omega arith) (omega arith)))
+  other-count = byte-same d b (inwardAt j) (inwardAt j) inwardSize (omega arith) (apart-same x (inwardAt j) inwardSize other-apart)
 
   other-list : inwardIn d j ≡ inwardIn b j
-  other-list =
-      rw other-count
-      (items-apart x (inwardAt j + 1) (getD b (inwardAt j) 0)
-      (other-apart (inwardAt j + 1) (itemSize * getD b (inwardAt j) 0) (omega arith) (omega (arith, inward-few b j (omega arith) l))))
+  other-list = items-kept b d (inwardAt j) (apart-same x (inwardAt j) inwardSize other-apart) (inward-few b j (omega arith) l)
 
   pub inward-layout : getD d (inwardAt k) 0 ≤ maxOrdered → Layout d
   inward-layout h =

@@ -8,7 +8,8 @@ use lib.ListN.{getD, replicate}
 use Rattle.views.specs.Sets.{has}
 use Rattle.views.proofs.SetLaws.{has-none}
 use Rattle.wire.proofs.TripViews.{AreBytes}
-use Rattle.slots.specs.Slots.{entriesIn, itemsIn, slotsFit}
+use Rattle.slots.specs.Slots.{entriesIn, slotsFit}
+use Rattle.slots.specs.Columns.{firsts, itemsIn}
 
 pub none-noted : has 0 ≡ (λ q. false)
 none-noted = fun-ext has-none
@@ -34,6 +35,6 @@ pub no-slots : (b : List ℕ) (at k : ℕ) → k ≡ 0 → slotsFit b at k ≡ t
 unfolding slotsFit
 no-slots b at k e = rw e
 
-pub no-items : (b : List ℕ) (at k : ℕ) → k ≡ 0 → itemsIn b at k ≡ []
-unfolding itemsIn
-no-items b at k e = rw e
+pub no-items : (b : List ℕ) (c : ℕ) → getD b c 0 ≡ 0 → itemsIn b c ≡ []
+unfolding firsts
+no-items b c e = rw e

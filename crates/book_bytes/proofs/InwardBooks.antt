@@ -2,49 +2,47 @@
 -- stay. The sides are 0 and 1: one is the client view's, the other that of a carrier view not attempted.
 use mathlib.Core.Path.{_≡_, refl}
 use mathlib.Core.List.{List, [], _∷_, _++_}
-use Prim.Native.Nat.{ℕ, _+_, _-_, _*_, _^_, _≤_, _<_}
+use Prim.Native.Nat.{ℕ, _+_, _-_, _^_, _≤_, _<_}
 use native.Mathlib.Omega.{arith}
 use lib.ListN.{length, getD, set, drop}
 use lib.Seq.{getD-set-same}
 use Rattle.views.specs.Limits.{maxOrdered}
 use Rattle.rules.specs.Data.{item}
-use Rattle.slots.specs.Slots.{itemSize, itemIn, itemsIn}
+use Rattle.slots.specs.Columns.{inwardSize, itemIn}
 use Rattle.slots.specs.Changes.{gained}
-use Rattle.slots.proofs.Outside.{Changed, changed-within, set-changed, queue-whole}
-use Rattle.slots.proofs.Lists.{length-items, items-next}
-use Rattle.slots.proofs.Queues.{gain-changed, gain-count, gain-appends}
+use Rattle.slots.proofs.Outside.{Changed, changed-within, set-changed}
+use Rattle.slots.proofs.Items.{length-items, items-next, gain-changed, gain-count, gain-appends}
 use Rattle.book_bytes.specs.Places.{membersAt, selfAt, sideAt, inwardAt}
 use Rattle.book_bytes.specs.Records.{recordIn, meaning}
 use Rattle.book_bytes.specs.Books.{outgoingIn, inwardIn, bookIn}
+use Rattle.book_bytes.proofs.Blank.{no-items}
 use Rattle.book_bytes.proofs.LayoutLaws.{Layout}
-use Rattle.book_bytes.proofs.Behind.{inwardSize, behind-members, behind-self, behind-record, inward-layout, own-book, new-book}
+use Rattle.book_bytes.proofs.Behind.{behind-members, behind-self, behind-record, inward-layout, own-book, new-book}
 
 -- ---- one item after the other
 
 pub length-inward : (b : List ℕ) (k : ℕ) → length (inwardIn b k) ≡ getD b (inwardAt k) 0
-length-inward b k = length-items b (inwardAt k + 1) (getD b (inwardAt k) 0)
+length-inward b k = length-items b (inwardAt k)
 
 -- what is left of a list from its j-th item on begins with the item at that place
 pub items-at : (b : List ℕ) (k j : ℕ) → j < getD b (inwardAt k) 0
-    → drop j (inwardIn b k)
-    ≡ itemIn b (inwardAt k + 1 + itemSize * j) ∷ itemsIn b (inwardAt k + 1 + itemSize * (j + 1)) (getD b (inwardAt k) 0 - (j + 1))
-items-at b k j h = items-next b (inwardAt k + 1) (getD b (inwardAt k) 0) j h
+    → drop j (inwardIn b k) ≡ itemIn b (inwardAt k) j ∷ drop (j + 1) (inwardIn b k)
+items-at b k j h = items-next b (inwardAt k) j h
 
 -- ---- an item more, on the side k
 
 module _ (b : List ℕ) (l : Layout b) (k : ℕ) (either : k ≤ 1) (q x : ℕ) (fits : x < 256 ^ 8) (room : getD b (inwardAt k) 0 < maxOrdered) where
-  gain-inside : inwardAt k + 1 + itemSize * (getD b (inwardAt k) 0 + 1) ≤ length b
+  gain-inside : inwardAt k + inwardSize ≤ length b
   gain-inside = omega (arith, l .size)
 
   gain-within : Changed b (gained b (inwardAt k) q x) (inwardAt k) inwardSize
-  gain-within =
-      queue-whole (gain-changed b (inwardAt k) q x fits gain-inside) (inwardAt k) inwardSize (omega arith) (omega arith) (omega arith) (omega arith)
+  gain-within = gain-changed b (inwardAt k) q x fits room gain-inside
 
   count-gained : getD (gained b (inwardAt k) q x) (inwardAt k) 0 ≡ getD b (inwardAt k) 0 + 1
-  count-gained = gain-count b (inwardAt k) q x fits gain-inside
+  count-gained = gain-count b (inwardAt k) q x fits room gain-inside
 
   pub inward-gained : inwardIn (gained b (inwardAt k) q x) k ≡ inwardIn b k ++ (item q x ∷ [])
-  inward-gained = rw count-gained (gain-appends b (inwardAt k) q x fits gain-inside)
+  inward-gained = gain-appends b (inwardAt k) q x fits room gain-inside
 
   pub gain-record : recordIn (gained b (inwardAt k) q x) ≡ recordIn b
   gain-record = behind-record gain-within (omega arith) l
@@ -86,8 +84,7 @@ module _ (b : List ℕ) (l : Layout b) (k : ℕ) (either : k ≤ 1) where
   empty-count = getD-set-same b (inwardAt k) 0 0 (omega (arith, l .size))
 
   pub inward-emptied : inwardIn (set b (inwardAt k) 0) k ≡ []
-  unfolding itemsIn
-  inward-emptied = rw empty-count
+  inward-emptied = no-items (set b (inwardAt k) 0) (inwardAt k) empty-count
 
   pub empty-record : recordIn (set b (inwardAt k) 0) ≡ recordIn b
   empty-record = behind-record empty-within (omega arith) l

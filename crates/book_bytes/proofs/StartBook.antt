@@ -121,7 +121,7 @@ module _ (n S p : ℕ) (b : List ℕ) (size : length b ≡ bookSize) (byte : S <
   empty-out = no-entries seat (outgoingAt + 1) _ (blank outgoingAt (omega arith))
 
   empty-inward : (side : ℕ) → inwardIn seat side ≡ []
-  empty-inward side = no-items seat (inwardAt side + 1) _ (blank (inwardAt side) (omega arith))
+  empty-inward side = no-items seat (inwardAt side) (blank (inwardAt side) (omega arith))
 
   pub start-book : bookIn (startBytes n S p b) ≡ fresh S p
   unfolding startBytes

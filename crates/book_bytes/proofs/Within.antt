@@ -8,7 +8,8 @@ use native.Mathlib.Omega.{arith}
 use lib.ListN.{getD}
 use Rattle.views.specs.Limits.{maxOpen}
 use Rattle.slots.specs.Slots.{slotsFit}
-use Rattle.slots.proofs.Outside.{Changed, entries-apart, slots-apart, items-apart}
+use Rattle.slots.proofs.Outside.{Changed, entries-apart, slots-apart}
+use Rattle.slots.proofs.Items.{items-past}
 use Rattle.book_bytes.specs.declared.Record.{Record}
 use Rattle.book_bytes.specs.Places.{membersAt, selfAt, settledAt, carrierAt, clientAt, registeredAt, sideAt, opensAt, outgoingAt, inwardAt}
 use Rattle.book_bytes.specs.Records.{recordIn, meaning}
@@ -39,7 +40,7 @@ module _ {b d : List ℕ} (x : Changed b d settledAt recordSize) where
   within-inward-count side = x .past (inwardAt side) (omega arith)
 
   pub within-inward : (side : ℕ) → inwardIn d side ≡ inwardIn b side
-  within-inward side = rw (within-inward-count side) (items-apart x (inwardAt side + 1) (getD b (inwardAt side) 0) (inr (omega arith)))
+  within-inward side = items-past x (inwardAt side) (omega arith)
 
   -- the side is part of the record
   pub within-book : (h : Record) → recordIn d ≡ h → bookIn d ≡ meaning h (outgoingIn b) (inwardIn b (h .side)) (inwardIn b (1 - h .side))

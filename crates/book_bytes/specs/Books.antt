@@ -9,7 +9,8 @@ use Rattle.rules.specs.Data as R
 use Rattle.rules.specs.Data.{Entry, Item, Member}
 use Rattle.rules.specs.Sound.{conditions}
 use Rattle.rules.specs.Alone.{bookSound}
-use Rattle.slots.specs.Slots.{queueIn, itemsIn, slotsFit}
+use Rattle.slots.specs.Slots.{queueIn, slotsFit}
+use Rattle.slots.specs.Columns.{itemsIn}
 use Rattle.book_bytes.specs.Places.{membersAt, carrierAt, clientAt, registeredAt, sideAt, opensAt, outgoingAt}
 use Rattle.book_bytes.specs.Places.{inwardAt, bookSize, selfAt}
 use Rattle.book_bytes.specs.Records.{recordIn, meaning}
@@ -26,7 +27,7 @@ outgoingIn b = queueIn b outgoingAt (outgoingAt + 1)
 
 -- the inward list of a side
 abbrev pub inwardIn : List ℕ → ℕ → List (Item ℕ)
-inwardIn b side = itemsIn b (inwardAt side + 1) (getD b (inwardAt side) 0)
+inwardIn b side = itemsIn b (inwardAt side)
 
 unfoldable pub bookIn : List ℕ → R.Book
 bookIn b = meaning (recordIn b) (outgoingIn b) (inwardIn b (getD b sideAt 0)) (inwardIn b (1 - getD b sideAt 0))

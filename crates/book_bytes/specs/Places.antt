@@ -1,8 +1,9 @@
 -- Where each thing of a book stands in its bytes, behind the one before it: docs/LAYOUT.md has the table.
 use Prim.Native.Nat.{ℕ, _+_, _*_}
 use Rattle.views.specs.Sizes.{viewSize}
-use Rattle.views.specs.Limits.{maxMembers, maxOpen, maxOutgoing, maxOrdered}
-use Rattle.slots.specs.Slots.{slotSize, itemSize}
+use Rattle.views.specs.Limits.{maxMembers, maxOpen, maxOutgoing}
+use Rattle.slots.specs.Slots.{slotSize}
+use Rattle.slots.specs.Columns.{inwardSize}
 
 -- a view or none: 1 or 0 for one or none, then the view
 abbrev pub seatSize : ℕ
@@ -64,10 +65,6 @@ opensAt = sideAt + 1
 -- outgoing: its count, then 16 slots
 abbrev pub outgoingAt : ℕ
 outgoingAt = opensAt + 1 + viewSize * maxOpen
-
--- an inward list: its count, then 128 places for items
-abbrev pub inwardSize : ℕ
-inwardSize = 1 + itemSize * maxOrdered
 
 -- the two inward lists
 abbrev pub inwardAt : ℕ → ℕ

@@ -98,8 +98,8 @@ pub const OUTGOING: usize = OPENS + 1 + sizes::VIEW * limits::OPEN;
 
 pub const INWARD: usize = OUTGOING + 1 + slots::SLOT * limits::OUTGOING as usize;
 
-// Bytes of an inward list: the second stands so far behind the first.
-pub const APART: usize = 1 + slots::ITEM * limits::ORDERED as usize;
+// The second inward list stands so far behind the first.
+pub const APART: usize = slots::inward::SIZE;
 
 pub const SIZE: usize = INWARD + APART * 2;
 

@@ -3,13 +3,13 @@ use mathlib.Core.Path.{_≡_, refl, sym, ap, ap₂, _∙_}
 use mathlib.Core.Bool.{Bool, true, false, cond}
 use mathlib.Core.Option.{Option, none, some}
 use mathlib.Core.List.{List, [], _∷_}
-use Prim.Native.Nat.{ℕ, zero, suc, _+_, _-_, _≤_, min}
+use Prim.Native.Nat.{ℕ, zero, suc, _+_, _-_, _≤_, _<_, min}
 use native.Mathlib.Omega.{arith}
 use borrow.Author.Tests.{le-leb}
 use lib.Dec.{eqb, leb}
 use lib.ListN.{length, getD}
 use Rattle.views.specs.declared.View.{View}
-use Rattle.views.specs.Limits.{maxOpen, maxOutgoing, maxOrdered}
+use Rattle.views.specs.Limits.{maxMembers, maxOpen, maxOutgoing, maxOrdered}
 use Rattle.views.specs.Sets.{both}
 use Rattle.views.specs.Lists.{listOf}
 use Rattle.views.proofs.SetLaws.{both-true}
@@ -20,8 +20,9 @@ use Rattle.rules.specs.Data.{Entry, Item, rank}
 use Rattle.rules.specs.Member.{all}
 use Rattle.rules.specs.Sound.{conditions, countFits, limitAt, bookCounts, opensRise, fromMember, itemFromMember}
 use Rattle.rules.specs.Alone.{limitIf, setsFit, bookSound}
-use Rattle.rules.proofs.TestLaws.{_and_, both-from, conditions-say, conditions-from, all-at, all-from}
-use Rattle.slots.proofs.Lists.{length-entries, length-items}
+use Rattle.rules.proofs.TestLaws.{_and_, both-from, within-says, conditions-say, conditions-from, all-at, all-from}
+use Rattle.slots.proofs.Lists.{length-entries}
+use Rattle.slots.proofs.Items.{length-items}
 use Rattle.book_bytes.specs.declared.Record.{Record}
 use Rattle.book_bytes.specs.Places.{membersAt, sideAt, opensAt, outgoingAt, inwardAt}
 use Rattle.book_bytes.specs.Records.{seated, meaning, recordIn}
@@ -162,8 +163,8 @@ module _ (b : List ℕ) (fits : layoutFits b ≡ true) where
   bytes-parts =
       let n = getD b membersAt 0 in
       let s = getD b sideAt 0 in
-      let k : length (inwardIn b s) ≡ getD b (inwardAt s) 0 = length-items b (inwardAt s + 1) (getD b (inwardAt s) 0) in
-      let m : length (inwardIn b (1 - s)) ≡ getD b (inwardAt (1 - s)) 0 = length-items b (inwardAt (1 - s) + 1) (getD b (inwardAt (1 - s)) 0) in
+      let k : length (inwardIn b s) ≡ getD b (inwardAt s) 0 = length-items b (inwardAt s) in
+      let m : length (inwardIn b (1 - s)) ≡ getD b (inwardAt (1 - s)) 0 = length-items b (inwardAt (1 - s)) in
       let out : length (outgoingIn b) ≤ maxOutgoing = rw (length-entries b (outgoingAt + 1) (getD b outgoingAt 0)) (layout .outgoing) in
       let own : length (inwardIn b s) ≤ maxOrdered = rw k (inward-few b layout s (layout .side)) in
       let new : length (inwardIn b (1 - s)) ≤ maxOrdered = rw m (inward-few b layout (1 - s) (omega arith)) in
@@ -173,6 +174,10 @@ module _ (b : List ℕ) (fits : layoutFits b ≡ true) where
 
   abbrev answer : Bool
   answer = recordSound (getD b membersAt 0) (recordIn b) (getD b (inwardAt (getD b sideAt 0)) 0) (getD b (inwardAt (1 - getD b sideAt 0)) 0)
+
+  pub record-members : answer ≡ true → 0 < getD b membersAt 0
+  unfolding recordSound
+  record-members e = within-says 1 (getD b membersAt 0) maxMembers (conditions-say _ e .0) .0
 
   pub record-stops : answer ≡ false → bytesSound b ≡ false
   record-stops e = bytes-parts ∙ rw e

@@ -2,11 +2,13 @@
 use wire::format;
 ghost use mathlib.Core.Bool.{true};
 ghost use mathlib.Core.Path.{_≡_};
-ghost use Prim.Native.Nat.{_+_, _≤_, _*_};
-ghost use lib.ListN.{length};
+ghost use Prim.Native.Nat.{_+_, _≤_, _<_, _*_};
+ghost use lib.ListN.{length, getD};
+ghost use Rattle.views.specs.Limits.{maxOrdered};
 ghost use Rattle.rules.specs.Member.{all};
 ghost use Rattle.rules.specs.Sound.{itemFromMember};
-ghost use Rattle.slots.specs.Slots.{slotSize, entryIn, slotFits, slotsFit, entriesIn, itemSize, itemsIn};
+ghost use Rattle.slots.specs.Slots.{slotSize, entryIn, slotFits, slotsFit, entriesIn};
+ghost use Rattle.slots.specs.Columns.{inwardSize, itemsIn};
 ghost use Rattle.book_sound.specs.EntryParts.{entrySound};
 
 // An entry: its sender is a member, a told's count and an info's views are within their limits.
@@ -57,17 +59,18 @@ pub fn entries_sound(b: &[u8], at: usize, count: usize, n: u8) -> bool
     true
 }
 
-// The senders of an inward list are members.
-pub fn items_sound(b: &[u8], at: usize, count: usize, n: u8) -> bool
-    requires { ⌜ at + itemSize * count ≤ length (now b) ⌝ }
-    ensures { λ r. ⌜ r ≡ all (itemFromMember n) (itemsIn (now (b .entry)) at count) ⌝ }
+// The senders of the inward list at c are members: the highest of them is. A loop without an exit goes 16 at a time.
+pub fn items_sound(b: &[u8], c: usize, n: u8) -> bool
+    requires { ⌜ (c + inwardSize ≤ length (now b)) × (getD (now b) c 0 ≤ maxOrdered) × (0 < n) ⌝ }
+    ensures { λ r. ⌜ r ≡ all (itemFromMember n) (itemsIn (now (b .entry)) c) ⌝ }
 {
+    let count = b[c] as usize;
+    let mut highest = 0;
     let mut i = 0;
     while i < count {
-        if n <= b[at + slots::ITEM * i] {
-            return false;
-        }
+        let sender = b[c + slots::inward::SENDERS + i];
+        highest = if highest < sender { sender } else { highest };
         i += 1;
     }
-    true
+    highest < n
 }

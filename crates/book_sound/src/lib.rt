@@ -6,7 +6,7 @@ pub mod views_at;
 
 ghost use mathlib.Core.Bool.{true};
 ghost use mathlib.Core.Path.{_≡_};
-ghost use Prim.Native.Nat.{_≤_};
+ghost use Prim.Native.Nat.{_≤_, _<_};
 ghost use Rattle.rules.specs.Member.{all};
 ghost use Rattle.rules.specs.Sound.{itemFromMember};
 ghost use Rattle.book_sound.specs.Parts.{queuesSound};
@@ -14,16 +14,15 @@ ghost use Rattle.book_bytes.specs.Books.{inwardIn, layoutFits, bytesSound};
 
 // The inward list of a side.
 fn inward_sound(b: &[u8], side: usize, n: u8) -> bool
-    requires { ⌜ (layoutFits (now b) ≡ true) × (side ≤ 1) ⌝ }
+    requires { ⌜ (layoutFits (now b) ≡ true) × (side ≤ 1) × (0 < n) ⌝ }
     ensures { λ r. ⌜ r ≡ all (itemFromMember n) (inwardIn (now (b .entry)) side) ⌝ }
 {
-    let at = book_bytes::INWARD + book_bytes::APART * side;
-    crate::entries_at::items_sound(b, at + 1, b[at] as usize, n)
+    crate::entries_at::items_sound(b, book_bytes::INWARD + book_bytes::APART * side, n)
 }
 
 // The outgoing entries and both inward lists.
 fn queues_sound(b: &[u8], n: u8) -> bool
-    requires { ⌜ layoutFits (now b) ≡ true ⌝ }
+    requires { ⌜ (layoutFits (now b) ≡ true) × (0 < n) ⌝ }
     ensures { λ r. ⌜ r ≡ queuesSound n (now (b .entry)) ⌝ }
 {
     if !crate::entries_at::entries_sound(

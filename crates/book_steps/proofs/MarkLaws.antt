@@ -2,10 +2,9 @@
 use mathlib.Core.Path.{_≡_, refl, sym, ap, _∙_}
 use mathlib.Core.Bool.{true}
 use mathlib.Core.List.{List, [], _∷_}
-use Prim.Native.Nat.{ℕ, zero, suc, _+_, _-_, _*_, _≤_, _<_}
+use Prim.Native.Nat.{ℕ, zero, suc, _+_, _-_, _≤_, _<_}
 use native.Mathlib.Omega.{arith}
 use lib.ListN.{length, getD, set, take, drop, length-drop, length-take}
-use Rattle.numbers.specs.Number.{get}
 use Rattle.views.specs.declared.View.{View}
 use Rattle.views.specs.declared.refusal.Refusal.{Refusal}
 use Rattle.views.specs.declared.refusal.Verdict.{Verdict}
@@ -17,7 +16,7 @@ use Rattle.views.specs.Refusals.{left}
 use Rattle.rules.specs.Data.{Member, Item, hand, safe}
 use Rattle.rules.specs.Member.{Done, hands, safes, collects}
 use Rattle.rules.proofs.Holding.{Holds, gives, need-holds, view-holds, first-holds}
-use Rattle.slots.specs.Slots.{itemSize, itemIn}
+use Rattle.slots.specs.Columns.{inwardSize, itemIn}
 use Rattle.book_bytes.specs.declared.Record.{Record}
 use Rattle.book_bytes.specs.declared.Current.{Current}
 use Rattle.book_bytes.specs.Places.{handedAt, reportedAt, sideAt, inwardAt}
@@ -31,7 +30,7 @@ use Rattle.record_steps.proofs.MeaningVerdicts.{hand-verdict, safe-verdict, col
 use Rattle.record_steps.proofs.MeaningMarks.{seated-view}
 use Rattle.events.specs.declared.Event.{Event}
 use Rattle.events.specs.declared.Reply.{Reply}
-use Rattle.events.specs.Replies.{noEvent, eventOf, outwardOf, happened, named, replied, replyOf, verdictOf}
+use Rattle.events.specs.Replies.{noEvent, eventOf, outwardOf, replied, replyOf, verdictOf}
 use Rattle.book_steps.specs.Acts.{handBytes, safeBytes, collectBytes}
 use Rattle.book_steps.specs.Parts.{itemEvent}
 use Rattle.book_steps.proofs.Committed.{sound-layout, current-side, record-few, stepped-few, accepted-holds, refused-by, accepted-by, committed, hand-some, safe-some}
@@ -42,8 +41,8 @@ module _ (b : List ℕ) (sound : bytesSound b ≡ true) (h : Current) (loaded : 
   pub item-small : k < maxOrdered
   item-small = omega (arith, there, inward-few b (h .side) (current-side b sound h loaded) (sound-layout b sound))
 
-  pub item-inside : inwardAt (h .side) + 1 + itemSize * (k + 1) ≤ length b
-  item-inside = omega (arith, item-small, current-side b sound h loaded, sound-layout b sound .size)
+  pub item-inside : (inwardAt (h .side) + inwardSize ≤ length b) × (k < maxOrdered)
+  item-inside = (omega (arith, current-side b sound h loaded, sound-layout b sound .size), item-small)
 
 -- the first of what is left of a list's front is the first of what is left of the list
 first-of-front : {A : Type 0} (j n : ℕ) (l : List A) (x : A) (rest : List A) → drop j (take n l) ≡ x ∷ rest → (r : List A) × (drop j l ≡ x ∷ r)
@@ -62,7 +61,7 @@ module _ (b : List ℕ) (h : Current) (k j : ℕ) (x : Item ℕ) (rest : List (I
       let n : length (drop j (inwardIn b k)) ≡ suc (length rest) = ap length e in
       omega (arith, n, length-drop j (inwardIn b k), length-inward b k)
 
-  item-is : x ≡ itemIn b (inwardAt k + 1 + itemSize * j)
+  item-is : x ≡ itemIn b (inwardAt k) j
   item-is = let f = items-at b k j item-there in let g = sym e ∙ f in cc
 
   pub hand-item : outwardOf (hand (selfIn b) (idOf (h .client .view)) x) ≡ itemEvent b (inwardAt k) j 9 h
@@ -72,12 +71,6 @@ module _ (b : List ℕ) (h : Current) (k j : ℕ) (x : Item ℕ) (rest : List (I
   pub safe-item : outwardOf (safe (selfIn b) (idOf (h .client .view)) x) ≡ itemEvent b (inwardAt k) j 11 h
   unfolding itemEvent
   safe-item = rw item-is
-
--- the code's reading of it
-pub item-found : (b : List ℕ) (c k kind : ℕ) (h : Current) (y : ℕ) → y ≡ get b (c + 1 + itemSize * k + 1) 8
-    → happened kind (selfIn b) (named (idOf (h .client .view))) (getD b (c + 1 + itemSize * k) 0) y ≡ itemEvent b c k kind h
-unfolding itemEvent
-item-found b c k kind h y e = rw e
 
 -- ---- the rules
 

@@ -16,7 +16,8 @@ use Rattle.rules.proofs.Holding.{Holds, given}
 use Rattle.slots.specs.Changes.{storeMessage, pushed, popped, gained}
 use Rattle.slots.proofs.Outside.{Changed}
 use Rattle.slots.proofs.Stored.{MessageFits}
-use Rattle.slots.proofs.BytesKept.{SetsAreBytes, set-bytes, storeMessage-bytes, pushed-bytes, popped-bytes, gained-bytes}
+use Rattle.slots.proofs.BytesKept.{SetsAreBytes, set-bytes, storeMessage-bytes, pushed-bytes, popped-bytes}
+use Rattle.slots.proofs.Items.{gained-bytes}
 use Rattle.book_bytes.specs.declared.Record.{Record}
 use Rattle.book_bytes.specs.Places.{settledAt, sideAt, outgoingAt, inwardAt, bookSize}
 use Rattle.book_bytes.specs.Records.{recordIn, meaning, storeRecord}

@@ -17,7 +17,7 @@ use Rattle.rules.specs.Member.{clientIsCarrier, learned, received, delivered}
 use Rattle.rules.specs.Sound.{limitAt, carrierInward, bookCounts}
 use Rattle.rules.specs.Alone.{viewsOf, bookSound}
 use Rattle.rules.proofs.TestLaws.{conditions-say}
-use Rattle.slots.proofs.Stored.{MessageFits}
+use Rattle.slots.proofs.Stored.{MessageFits, toldOf}
 use Rattle.slots.proofs.BytesKept.{SetsAreBytes}
 use Rattle.book_bytes.specs.declared.Seat.{Seat}
 use Rattle.book_bytes.specs.declared.Record.{Record}
@@ -34,13 +34,6 @@ use Rattle.book_steps.proofs.Committed.{sound-layout}
 use Rattle.book_steps.proofs.Means.{Means, means-as, sound-fits, ownIn, newIn, Stands, queues-kept, gains-own, gains-new}
 use Rattle.book_steps.proofs.MeansRecord.{more-stands, info-stands, registration-stands, told-stands, held-stands}
 use Rattle.book_steps.proofs.TurnFits.{opens-each, with-fits, learned-fits}
-
--- the count that a message tells, 0 for none
-abbrev pub toldOf : Message → ℕ
-toldOf (client x) = 0
-toldOf (info v l) = 0
-toldOf registered = 0
-toldOf (told k) = k
 
 -- a position's limit where there is a view
 limit-there : {A : Type 0} (s : Seat) (l : List A) → s .there ≡ true → limitAt (seated s) l ≡ length l

@@ -2,7 +2,7 @@
 use mathlib.Core.Path.{_≡_, refl, ap, ap₂, _∙_}
 use mathlib.Core.Bool.{Bool, true, false, cond}
 use mathlib.Core.List.{List}
-use Prim.Native.Nat.{ℕ, _+_, _-_, _*_, _≤_, _<_}
+use Prim.Native.Nat.{ℕ, _+_, _-_, _≤_, _<_}
 use native.Mathlib.Omega.{arith}
 use borrow.Author.Tests.{leb-true, eq-eqb}
 use lib.Dec.{eqb}
@@ -13,7 +13,7 @@ use Rattle.rules.specs.Member.{clientIsCarrier}
 use Rattle.rules.specs.Sound.{limitAt, carrierInward, bookCounts}
 use Rattle.rules.specs.Alone.{bookSound}
 use Rattle.rules.proofs.TestLaws.{conditions-say}
-use Rattle.slots.specs.Slots.{itemSize}
+use Rattle.slots.specs.Columns.{inwardSize}
 use Rattle.book_bytes.specs.declared.Seat.{Seat}
 use Rattle.book_bytes.specs.Places.{carrierAt, clientAt, takenAt, sideAt, inwardAt, bookSize}
 use Rattle.book_bytes.specs.Records.{seated, seatIn, recordIn}
@@ -31,11 +31,11 @@ gaining-is b client carrier t r e f g h =
     h ∙ ap (λ (x : Bool). inwardAt (cond x (getD b sideAt 0) (1 - getD b sideAt 0))) (g ∙ ap₂ (λ (x y : Seat). eqb (rank (seated x)) (rank (seated y))) e f)
 
 -- either inward list lies within the book
-side-fits : (t : Bool) (s : ℕ) → s ≤ 1 → inwardAt (cond t s (1 - s)) + 1 + itemSize * maxOrdered ≤ bookSize
+side-fits : (t : Bool) (s : ℕ) → s ≤ 1 → inwardAt (cond t s (1 - s)) + inwardSize ≤ bookSize
 side-fits true s h = omega arith
 side-fits false s h = omega arith
 
-pub gaining-fits : (b : List ℕ) → getD b sideAt 0 ≤ 1 → gaining b + 1 + itemSize * maxOrdered ≤ bookSize
+pub gaining-fits : (b : List ℕ) → getD b sideAt 0 ≤ 1 → gaining b + inwardSize ≤ bookSize
 gaining-fits b s = side-fits (clientIsCarrier (bookIn b)) (getD b sideAt 0) s
 
 -- ---- how long it is

@@ -3,7 +3,7 @@ use mathlib.Core.Path.{_≡_, refl, sym, ap, _∙_}
 use mathlib.Core.Logic.{⊎-elim}
 use mathlib.Core.Bool.{true, false}
 use mathlib.Core.List.{List, []}
-use Prim.Native.Nat.{ℕ, zero, suc, _+_, _-_, _*_, _≤_, _<_, min}
+use Prim.Native.Nat.{ℕ, zero, suc, _+_, _-_, _≤_, _<_, min}
 use native.Mathlib.Nat.{add-zero}
 use native.Mathlib.Omega.{arith}
 use borrow.Author.Tests.{le-leb, lt-leb}
@@ -28,7 +28,7 @@ use Rattle.rules.specs.Member.{clientIsCarrier, settledBy, learned, delivered}
 use Rattle.rules.specs.Alone.{infoOf, messageOf}
 use Rattle.book_bytes.specs.declared.Held.{Held}
 use Rattle.slots.specs.Changes.{gained}
-use Rattle.slots.specs.Slots.{itemSize}
+use Rattle.slots.specs.Columns.{itemSender, itemNumber}
 use Rattle.slots.proofs.Outside.{set-changed, put-changed, storeView-changed, storeViews-changed}
 use Rattle.book_bytes.specs.Places.{settledAt, takenAt, infosAt, registrationsAt, toldsAt, opensAt, bookSize}
 use Rattle.book_bytes.specs.Records.{recordIn, heldIn, storeOpens, storeHeld}
@@ -70,11 +70,12 @@ module _ (b d : List ℕ) (r : Ready b) where
   pub gained-ready : (c q x : ℕ) → takenAt < c → d ≡ gained b c q x → Ready d
   unfolding gained
   gained-ready c q x l e =
-      let place = c + 1 + itemSize * getD b c 0 in
-      let sent = set b place q in
-      let wrote = put sent (place + 1) 8 x in
-      let first = set-changed b place q in
-      let second = put-changed sent (place + 1) 8 x in
+      let sender = itemSender c (getD b c 0) in
+      let number = itemNumber c (getD b c 0) in
+      let sent = set b sender q in
+      let wrote = put sent number 8 x in
+      let first = set-changed b sender q in
+      let second = put-changed sent number 8 x in
       let third = set-changed wrote c (getD b c 0 + 1) in
       rw e (ready-kept b (set wrote c (getD b c 0 + 1)) (third .long ∙ second .long ∙ first .long)
       (third .below takenAt l ∙ second .below takenAt (omega arith) ∙ first .below takenAt (omega arith)) r)

@@ -13,7 +13,8 @@ use Rattle.views.specs.Sizes.{numberSize}
 use Rattle.events.specs.Kinds.{attemptKind}
 use Rattle.views.specs.Lists.{idOf}
 use Rattle.rules.specs.Data.{Member}
-use Rattle.slots.specs.Slots.{slotSize, itemSize, itemNumber}
+use Rattle.slots.specs.Slots.{slotSize}
+use Rattle.slots.specs.Columns.{itemSender, itemNumber}
 use Rattle.slots.specs.Changes.{storeShort}
 use Rattle.book_bytes.specs.declared.Record.{Record}
 use Rattle.book_bytes.specs.declared.Current.{Current}
@@ -39,8 +40,8 @@ saidBytes m b =
 -- the event of item k of the inward list with its count at c, in the client view
 unfoldable pub itemEvent : List ℕ → ℕ → ℕ → ℕ → Current → Event
 itemEvent b c k kind h =
-    let i = c + 1 + itemSize * k in
-    happened kind (selfIn b) (named (idOf (h .client .view))) (getD b i 0) (get b (i + itemNumber) numberSize)
+    happened kind (selfIn b) (named (idOf (h .client .view))) (getD b (itemSender c k) 0)
+    (get b (itemNumber c k) numberSize)
 
 unfoldable pub attemptEvent : Record → Member → Event
 attemptEvent h p = happened attemptKind p (h .carrier .view) 0 0

@@ -13,12 +13,13 @@ use views::sizes;
 use wire::format;
 ghost use mathlib.Core.Path.{_≡_};
 ghost use mathlib.Core.Bool.{true};
-ghost use Prim.Native.Nat.{_+_, _*_, _≤_};
+ghost use Prim.Native.Nat.{_+_, _≤_, _<_};
 ghost use lib.ListN.{length};
+ghost use Rattle.views.specs.Limits.{maxOrdered};
 ghost use Rattle.views.specs.Refusals.{left};
 ghost use Rattle.events.specs.Replies.{happened, named, replyOf, verdictOf};
 ghost use Rattle.rules.specs.Member.{registers, sends, hands, tells, safes};
-ghost use Rattle.slots.specs.Slots.{itemSize};
+ghost use Rattle.slots.specs.Columns.{inwardSize};
 ghost use Rattle.book_bytes.specs.Books.{bookIn, bytesSound, selfIn, membersIn};
 ghost use Rattle.book_steps.specs.Parts.{spoken, itemEvent};
 ghost use Rattle.book_steps.specs.Acts.{registerBytes, sendBytes, handBytes, tellBytes, safeBytes};
@@ -98,13 +99,17 @@ pub fn send(b: &mut [u8], entry: u64) -> Reply
 
 // The event of item k of the inward list with its count at a place.
 fn of_item(b: &[u8], at: usize, k: Position, kind: u8, h: Current) -> Event
-    requires { ⌜ at + 1 + itemSize * (k .0 + 1) ≤ length (now b) ⌝ }
+    requires { ⌜ (at + inwardSize ≤ length (now b)) × (k .0 < maxOrdered) ⌝ }
     ensures { λ r. ⌜ r ≡ itemEvent (now (b .entry)) at (k .0) kind h ⌝ }
 {
-    let i = at + 1 + slots::ITEM * (k.0 as usize);
+    let i = k.0 as usize;
     let member = Member(b[book_bytes::SELF]);
-    let sender = Member(b[i]);
-    let entry = numbers::get_number(b, i + slots::ITEM_NUMBER, sizes::NUMBER);
+    let sender = Member(b[at + slots::inward::SENDERS + i]);
+    let entry = numbers::get_number(
+        b,
+        at + slots::inward::NUMBERS + sizes::NUMBER * i,
+        sizes::NUMBER,
+    );
     let id = h.client.view.id;
     let view = View { id, set: 0 };
     Event {

@@ -75,7 +75,7 @@ fn receive(b: &mut [u8], q: Member, x: u64) -> Reply
     ensures { λ r. ⌜ Took (q .0) (client x) (now (b .entry)) (now (b .exit)) r ⌝ }
 {
     let c = gaining(b);
-    slots::gain(b, c, q, x);
+    slots::inward::gain(b, c, q, x);
     count(b)
 }
 

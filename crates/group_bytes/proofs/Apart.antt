@@ -7,12 +7,15 @@ use Prim.Native.Nat.{ℕ, _+_, _*_, _≤_, _<_}
 use native.Mathlib.Decide.{decLt, ℕ-discrete}
 use native.Mathlib.Omega.{arith}
 use lib.ListN.{getD}
+use Rattle.numbers.proofs.NumberLaws.{Same}
 use Rattle.views.specs.Limits.{maxMembers}
 use Rattle.slots.specs.Slots.{slotSize, queueIn, slotsFit}
+use Rattle.slots.specs.Columns.{orderSize, entriesOrdered}
 use Rattle.slots.proofs.Same.{byte-same}
+use Rattle.slots.proofs.Orders.{kind-kept, views-kept, order-kept}
 use Rattle.slots.proofs.Outside.{Changed, Apart, apart-same, entries-apart, slots-apart}
-use Rattle.group_bytes.specs.Places.{orderSize, waitingSize, orderAt, waitingAt}
-use Rattle.group_bytes.proofs.RangesLaws.{Queued}
+use Rattle.group_bytes.specs.Places.{waitingSize, orderAt, waitingAt}
+use Rattle.group_bytes.proofs.RangesLaws.{Queued, Columned}
 
 -- ---- places
 
@@ -52,3 +55,23 @@ module _ {q d : List ℕ} {at n : ℕ} (x : Changed q d at n) (limit c : ℕ) (k
 
   pub queued-still : Queued d limit c
   queued-still = record { few = rw count-still (k .few); slots = slots-still }
+
+-- ---- an order apart from a change
+
+module _ {q d : List ℕ} {at n : ℕ} (x : Changed q d at n) (c : ℕ) (o : Columned q c) (a : Apart at n c orderSize) where
+  same : Same d c q c orderSize
+  same = apart-same x c orderSize a
+
+  pub ordered-still : entriesOrdered d c ≡ entriesOrdered q c
+  ordered-still = order-kept q d c same (o .few)
+
+  pub columned-still : Columned d c
+  columned-still =
+      let count : getD d c 0 ≡ getD q c 0 = byte-same d q c c orderSize (omega arith) same in
+      record {
+        few = rw count (o .few);
+        kinds = λ k h.
+            let l : k < getD q c 0 = omega (arith, count) in
+            let low : k < 128 = omega (arith, o .few) in
+            rw (kind-kept q d c same k low, views-kept q d c same k low) (o .kinds k l);
+      }

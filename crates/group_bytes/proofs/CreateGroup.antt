@@ -10,7 +10,7 @@ use lib.Dec.{ltb}
 use lib.ListN.{length, getD, set}
 use lib.Seq.{getD-set-same}
 use Rattle.views.specs.declared.View.{View}
-use Rattle.views.specs.Limits.{maxWaiting, maxOrdered}
+use Rattle.views.specs.Limits.{maxWaiting}
 use Rattle.views.specs.Sizes.{viewSize}
 use Rattle.views.specs.Lists.{viewOf}
 use Rattle.wire.specs.Reader.{viewIn}
@@ -18,6 +18,7 @@ use Rattle.wire.proofs.ReaderLaws.{viewsIn-snoc}
 use Rattle.rules.specs.Data.{accepted}
 use Rattle.rules.specs.Group.{Next, fresh, creates}
 use Rattle.slots.specs.Slots.{slotSize, entriesIn, queueIn, slotsFit}
+use Rattle.slots.specs.Columns.{orderSize, entriesOrdered}
 use Rattle.slots.proofs.Outside.{Changed, view-apart, views-apart, set-changed, storeView-changed}
 use Rattle.slots.proofs.Stored.{view-stored}
 use Rattle.slots.proofs.BytesKept.{set-bytes, storeView-bytes}
@@ -27,9 +28,9 @@ use Rattle.book_steps.proofs.Means.{gave}
 use Rattle.group_bytes.specs.Places.{roomOf, bookBytes, madeAt, headSize, tableSize, orderAt, waitingAt}
 use Rattle.group_bytes.specs.Groups.{Ranges, membersOf, madeOf, viewsMade, placeOf, waitingIn, orderIn, bookOf, groupIn}
 use Rattle.group_bytes.specs.Moves.{tableCleared, createRanges}
-use Rattle.group_bytes.proofs.RangesLaws.{RangesBytes, Queued, Tabled, Ranged, MeansGroup}
+use Rattle.group_bytes.proofs.RangesLaws.{RangesBytes, Queued, Columned, no-order, Tabled, Ranged, MeansGroup}
 use Rattle.group_bytes.proofs.PlaceLaws.{length-made, place-most, snoc-place-old, snoc-place-new, snoc-place-none}
-use Rattle.group_bytes.proofs.Apart.{queue-still, queued-still}
+use Rattle.group_bytes.proofs.Apart.{queue-still, queued-still, ordered-still, columned-still}
 use Rattle.group_bytes.proofs.Cleared.{cleared-changed, cleared-order, cleared-waiting, cleared-bytes}
 use Rattle.group_bytes.proofs.Tables.{waiting-at, waiting-nobody, waiting-unmade, order-at, order-unmade, group-as}
 use Rattle.group_bytes.proofs.Creating.{Creating, created, create-holds}
@@ -87,9 +88,14 @@ module _ (r : Ranges) (fits : Ranged r) (g S : ℕ) where
         let l = queued-still clears limit at k (inl high) in
         (queued-still counts limit at l (inr (omega arith)), queue-still counts limit at l (inr (omega arith)) ∙ queue-still clears limit at k (inl high))
 
-    old-order : (j : ℕ) (h : j < made)
-        → Queued queues maxOrdered (orderAt j) × (queueIn queues (orderAt j) (orderAt j + 1) ≡ queueIn (r .queues) (orderAt j) (orderAt j + 1))
-    old-order j h = old-queued maxOrdered (orderAt j) (omega arith) (omega arith) (fits .tables j h .order)
+    old-order : (j : ℕ) (h : j < made) → Columned queues (orderAt j) × (entriesOrdered queues (orderAt j) ≡ entriesOrdered (r .queues) (orderAt j))
+    old-order j h =
+        let k = fits .tables j h .order in
+        let below : orderAt j + orderSize ≤ orderAt made = omega arith in
+        let l = columned-still clears (orderAt j) k (inl below) in (
+          columned-still counts (orderAt j) l (inr (omega arith)),
+          ordered-still counts (orderAt j) l (inr (omega arith)) ∙ ordered-still clears (orderAt j) k (inl below),
+        )
 
     old-waiting : (j : ℕ) → j < made → (q : ℕ) → q < membersOf r
         → Queued queues maxWaiting (waitingAt j q) × (queueIn queues (waitingAt j q) (waitingAt j q + 1) ≡ queueIn (r .queues) (waitingAt j q) (waitingAt j q + 1))
@@ -101,8 +107,8 @@ module _ (r : Ranges) (fits : Ranged r) (g S : ℕ) where
         let z : getD queues at 0 ≡ 0 = counts .past at (omega arith) ∙ e in
         (record { few = omega (arith, z); slots = rw z }, rw z)
 
-    new-order : Queued queues maxOrdered (orderAt made) × (queueIn queues (orderAt made) (orderAt made + 1) ≡ [])
-    new-order = new-queued maxOrdered (orderAt made) (omega arith) (cleared-order (r .queues) made (c .table))
+    new-order : Columned queues (orderAt made) × (entriesOrdered queues (orderAt made) ≡ [])
+    new-order = no-order queues (orderAt made) (counts .past (orderAt made) (omega arith) ∙ cleared-order (r .queues) made (c .table))
 
     new-waiting : (q : ℕ) → q < membersOf r → Queued queues maxWaiting (waitingAt made q) × (queueIn queues (waitingAt made q) (waitingAt made q + 1) ≡ [])
     new-waiting q m =

@@ -1,41 +1,38 @@
 -- Deliver in a sound group: the entry that is next of the carrier view's order can be taken, and the ranges then are the rule's group.
-use mathlib.Core.Path.{_≡_, sym, ap, _∙_}
+use mathlib.Core.Path.{_≡_, refl, sym, ap, _∙_}
 use mathlib.Core.Logic.{⊎-elim}
 use mathlib.Core.Bool.{Bool, true, false, cond}
 use mathlib.Core.Option.{some}
 use mathlib.Core.List.{List, [], _∷_}
-use Prim.Native.Nat.{ℕ, zero, suc, _+_, _*_, _^_, _≤_, _<_, min}
+use Prim.Native.Nat.{ℕ, _≤_, _<_}
 use native.Mathlib.Omega.{arith}
-use borrow.Author.Tests.{eqb-true}
-use lib.Dec.{eqb, ltb}
+use borrow.Author.Tests.{eqb-true, ltb-true}
+use lib.Dec.{ltb}
 use lib.ListN.{length, getD, drop}
 use lib.Seq.{drop-nil}
 use Rattle.views.specs.declared.View.{View}
-use Rattle.views.specs.Limits.{maxViews, maxOpen, maxOrdered}
-use Rattle.views.specs.Lists.{idOf, noView}
+use Rattle.views.specs.Limits.{maxOpen, maxOrdered}
+use Rattle.views.specs.Lists.{idOf}
 use Rattle.views.proofs.SetLaws.{known}
-use Rattle.wire.proofs.ReaderLaws.{length-viewsIn}
-use Rattle.wire.proofs.TripViews.{EachFits, AreBytes, get-fits, views-fit}
 use Rattle.rules.specs.Data.{Member, Message, client, info, registered, told, Entry, entry, Book, Group, ok, accepted}
 use Rattle.rules.specs.Member.{does, clientIsCarrier, delivered}
 use Rattle.rules.specs.Sound.{sound}
-use Rattle.rules.specs.Alone.{viewsOf, infoOf}
 use Rattle.rules.specs.Group.{Next, booked, takeFrom, deliverStep}
-use Rattle.rules.proofs.Sound.{Sound, EntrySound, entry-from, told-sound}
+use Rattle.rules.proofs.Sound.{Sound, EntrySound, entry-from}
 use Rattle.rules.proofs.Holding.{Holds, gives, view-holds, first-holds}
 use Rattle.rules.proofs.Sound.QueueLaws.{next-below}
 use Rattle.rules.proofs.Alone.Peculiar.{next-sound, info-short}
-use Rattle.slots.specs.Slots.{slotSize, kindIn, numberIn, countIn, infoIn, messageIn, entryIn, entriesIn}
-use Rattle.slots.proofs.Stored.{MessageFits, client-fits, info-fits, registered-fits, told-fits}
-use Rattle.slots.proofs.BytesKept.{SetsAreBytes}
-use Rattle.slots.proofs.Lists.{length-entries, entries-next}
+use Rattle.slots.specs.Slots.{kindFits}
+use Rattle.slots.specs.Columns.{orderSender, orderKind, orderCount, orderMessage, orderEntry, entriesOrdered}
+use Rattle.slots.proofs.Stored.{toldOf}
+use Rattle.slots.proofs.Orders.{length-order, order-next}
 use Rattle.book_bytes.specs.declared.Seat.{Seat}
 use Rattle.book_bytes.specs.Places.{carrierAt, takenAt}
 use Rattle.book_bytes.specs.Records.{seated, recordIn}
 use Rattle.book_bytes.specs.Books.{bookIn}
 use Rattle.book_steps.specs.Acts.{taking, takeBytes}
 use Rattle.book_steps.proofs.Means.{gave}
-use Rattle.book_steps.proofs.MeansTake.{toldOf, take-means}
+use Rattle.book_steps.proofs.MeansTake.{take-means}
 use Rattle.group_bytes.specs.Places.{bookBytes, orderAt}
 use Rattle.group_bytes.specs.Groups.{Ranges, membersOf, madeOf, viewsMade, placeOf, orderIn, groupIn}
 use Rattle.group_bytes.specs.Moves.{deliverRanges}
@@ -44,41 +41,11 @@ use Rattle.group_bytes.proofs.BookBytes.{book-bytes}
 use Rattle.group_bytes.proofs.BookSounds.{book-is, sound-book}
 use Rattle.group_bytes.proofs.RebookLaws.{rebook}
 use Rattle.group_bytes.proofs.BookSteps.{facts, few-given}
-
--- ---- a message in a slot of bytes is within its widths
-
-pub record InWidths (m : Message) : Type 0 where
-  pub message : MessageFits m
-  pub sets : SetsAreBytes (viewsOf m)
-
-info-widths : (l : List View) → length l ≤ maxViews → EachFits l → InWidths (infoOf l)
-info-widths [] few f =
-    let each : EachFits (noView ∷ []) = λ j. elim j [ zero ↦ f 0 | suc k ↦ f k ] in
-    record { message = info-fits noView [] (omega arith) (λ j. each j .id); sets = λ j. each j .set }
-info-widths (v ∷ l) few f = record { message = info-fits v l (omega arith) (λ j. f j .id); sets = λ j. f j .set }
-
-either : (c : Bool) (m k : Message) → InWidths m → InWidths k → InWidths (cond c m k)
-either true m k f g = f
-either false m k f g = g
-
-pub message-widths : (b : List ℕ) (at : ℕ) → AreBytes b → InWidths (messageIn b at)
-unfolding messageIn infoIn
-message-widths b at y =
-    let x : numberIn b at < 256 ^ 8 = get-fits b (at + 2) 8 y in
-    let n = min (countIn b at) maxViews in
-    either (eqb (kindIn b at) 1) _ _ (record { message = client-fits (numberIn b at) x; sets = λ j. omega arith })
-    (either (eqb (kindIn b at) 2) _ _ (info-widths (infoIn b at) (omega (arith, length-viewsIn b (at + 11) n)) (views-fit b (at + 11) n y))
-    (either (eqb (kindIn b at) 3) _ _ (record { message = registered-fits; sets = λ j. omega arith }) (record { message = told-fits (numberIn b at) x; sets = λ j. omega arith })))
+use Rattle.group_bytes.proofs.Widths.{InWidths, order-widths, told-byte}
 
 -- ---- over a group of the rules: what taking a sound entry leaves
 
 module _ (s : Group) (h : Sound s) where
-  told-byte : (q : Member) (m : Message) → EntrySound s (entry q m) → toldOf m < 256
-  told-byte q (client x) e = omega arith
-  told-byte q (info v l) e = omega arith
-  told-byte q registered e = omega arith
-  told-byte q (told k) e = omega (arith, told-sound e .1)
-
   took-few : (p : Member) → p < s .members → (q : Member) (m : Message) → EntrySound s (entry q m) → length (delivered q m (s .books p) .held .opens) ≤ maxOpen
   unfolding delivered
   took-few p i q (client x) e =
@@ -97,22 +64,23 @@ seat-there x v e =
     (λ (t : x .there ≡ false). let k = rw t at e in let z : _≡_ {A = ℕ} 0 1 = cc in absurd (omega arith))
     (known (x .there))
 
-entry-next : (q : List ℕ) (at n k : ℕ) (c : Bool) (e : Entry) (rest : List Entry) → drop k (cond c (entriesIn q at n) []) ≡ e ∷ rest
-    → e ≡ entryIn q (at + slotSize * k)
-entry-next q at n k true e rest d =
-    let l : k < n = omega (arith, next-below k (entriesIn q at n) e rest d, length-entries q at n) in
-    let f = sym d ∙ entries-next q at n k l in
-    cc
-entry-next q at n k false e rest d =
+entry-next : (q : List ℕ) (c k : ℕ) (t : Bool) (e : Entry) (rest : List Entry) → drop k (cond t (entriesOrdered q c) []) ≡ e ∷ rest
+    → (t ≡ true) × (k < getD q c 0) × (e ≡ orderEntry q c k)
+entry-next q c k true e rest d =
+    let l : k < getD q c 0 = omega (arith, next-below k (entriesOrdered q c) e rest d, length-order q c) in
+    let f = sym d ∙ order-next q c k l in
+    (refl, l, cc)
+entry-next q c k false e rest d =
     let f = sym (drop-nil k) ∙ d in
     let z : _≡_ {A = ℕ} 0 1 = cc in
     absurd (omega arith)
 
--- where the entry that the member p takes next stands
-abbrev pub nextAt : Ranges → Member → ℕ
-nextAt r p =
-    let b = bookBytes (r .books) p in
-    orderAt (placeOf (idOf (recordIn b .carrier .view)) (viewsMade r)) + 1 + slotSize * getD b takenAt 0
+-- where the order of the member's carrier view stands, and the number of the entry that the member takes next
+abbrev pub orderOf : Ranges → Member → ℕ
+orderOf r p = orderAt (placeOf (idOf (recordIn (bookBytes (r .books) p) .carrier .view)) (viewsMade r))
+
+abbrev pub takenOf : Ranges → Member → ℕ
+takenOf r p = getD (bookBytes (r .books) p) takenAt 0
 
 -- the message m of q is next for the member p, and can be taken: 16 and 43 do not show
 pub record Takes (r : Ranges) (p : Member) (q : Member) (m : Message) : Type 0 where
@@ -121,7 +89,9 @@ pub record Takes (r : Ranges) (p : Member) (q : Member) (m : Message) : Type 0 w
   pub widths : InWidths m
   pub count : toldOf m < 256
   pub there : getD (bookBytes (r .books) p) carrierAt 0 ≡ 1
-  pub room : getD (bookBytes (r .books) p) takenAt 0 < maxOrdered
+  pub inside : takenOf r p < getD (r .queues) (orderOf r p) 0
+  pub kind : kindFits (getD (r .queues) (orderKind (orderOf r p) (takenOf r p)) 0) (getD (r .queues) (orderCount (orderOf r p) (takenOf r p)) 0) ≡ true
+  pub room : takenOf r p < maxOrdered
   pub few : length (delivered q m (groupIn r .books p) .held .opens) ≤ maxOpen
 
 pub takes-accepted : (r : Ranges) (p q : Member) (m : Message) → Takes r p q m → taking q m (groupIn r .books p) ≡ does ok (delivered q m (groupIn r .books p))
@@ -138,10 +108,10 @@ module _ (r : Ranges) (fits : Ranged r) (bytes : RangesBytes r) (sounds : sound 
   B = groupIn r .books p
 
   abbrev q : Member
-  q = getD (r .queues) (nextAt r p) 0
+  q = getD (r .queues) (orderSender (orderOf r p) (takenOf r p)) 0
 
   abbrev m : Message
-  m = messageIn (r .queues) (nextAt r p)
+  m = orderMessage (r .queues) (orderOf r p) (takenOf r p)
 
   -- the carrier view and the position, as the bytes have them
   carrier-in : (v : View) → B .carrier .view ≡ some v → (getD b carrierAt 0 ≡ 1) × (recordIn b .carrier .view ≡ v)
@@ -154,13 +124,19 @@ module _ (r : Ranges) (fits : Ranged r) (bytes : RangesBytes r) (sounds : sound 
   unfolding bookIn recordIn
   taken-in = ap (λ (C : Book). C .carrier .taken) (book-is r fits p member)
 
+  record IsNext (e : Entry) : Type 0 where
+    made : placeOf (idOf (recordIn b .carrier .view)) (viewsMade r) < madeOf r
+    inside : takenOf r p < getD (r .queues) (orderOf r p) 0
+    entry : e ≡ entry q m
+
   next-entry : (v : View) (e : Entry) (rest : List Entry) → B .carrier .view ≡ some v → drop (B .carrier .taken) (groupIn r .order (idOf v)) ≡ e ∷ rest
-      → e ≡ entry q m
+      → IsNext e
   unfolding groupIn orderIn
   next-entry v e rest c d =
-      let i = placeOf (idOf v) (viewsMade r) in
-      let f = entry-next (r .queues) (orderAt i + 1) (getD (r .queues) (orderAt i) 0) (B .carrier .taken) (ltb i (madeOf r)) e rest d in
-      rw (carrier-in v c .1, ← taken-in) f
+      let g : drop (takenOf r p) (orderIn r (idOf (recordIn b .carrier .view))) ≡ e ∷ rest = rw (carrier-in v c .1, ← taken-in) d in
+      let i = placeOf (idOf (recordIn b .carrier .view)) (viewsMade r) in
+      let f = entry-next (r .queues) (orderOf r p) (takenOf r p) (ltb i (madeOf r)) e rest g in
+      record { made = ltb-true _ _ (f .0); inside = f .1; entry = f .2 }
 
   next-takes : (v : View) (e : Entry) (rest : List Entry) → B .carrier .view ≡ some v → drop (B .carrier .taken) (groupIn r .order (idOf v)) ≡ e ∷ rest
       → Takes r p q m
@@ -169,13 +145,16 @@ module _ (r : Ranges) (fits : Ranged r) (bytes : RangesBytes r) (sounds : sound 
       let h : Sound (groupIn r) = facts r fits bytes sounds in
       let i : p < groupIn r .members = member in
       let (x, room) = next-sound (groupIn r) h p i v e rest c d in
-      let y : EntrySound (groupIn r) (entry q m) = rw (← next-entry v e rest c d) x in
+      let n = next-entry v e rest c d in
+      let y : EntrySound (groupIn r) (entry q m) = rw (← n .entry) x in
       record {
         entry = y;
         sender = entry-from y;
-        widths = message-widths (r .queues) (nextAt r p) (bytes .queues);
-        count = told-byte (groupIn r) h q m y;
+        widths = order-widths (r .queues) (orderOf r p) (takenOf r p) (bytes .queues);
+        count = told-byte (groupIn r) q m y;
         there = carrier-in v c .0;
+        inside = n .inside;
+        kind = fits .tables _ (n .made) .order .kinds (takenOf r p) (n .inside);
         room = rw (← taken-in) room;
         few = took-few (groupIn r) h p i q m y;
       }
@@ -194,10 +173,11 @@ module _ (r : Ranges) (fits : Ranged r) (bytes : RangesBytes r) (sounds : sound 
   delivers =
       view-holds _ _ _ (λ v c. first-holds _ _ _ (λ e rest d.
       let t = next-takes v e rest c d in
-      gives (t, means-group-as (ap (λ (x : Entry). booked (groupIn r) p (takeFrom x B)) (sym (next-entry v e rest c d))) (deliver-means t))))
+      gives (t, means-group-as (ap (λ (x : Entry). booked (groupIn r) p (takeFrom x B)) (sym (next-entry v e rest c d .entry))) (deliver-means t))))
 
   -- an accepted deliver takes the next entry
-  pub deliver-takes : (x : Next) → deliverStep (groupIn r) p ≡ accepted x → Takes r p (getD (r .queues) (nextAt r p) 0) (messageIn (r .queues) (nextAt r p))
+  pub deliver-takes : (x : Next) → deliverStep (groupIn r) p ≡ accepted x
+      → Takes r p (getD (r .queues) (orderSender (orderOf r p) (takenOf r p)) 0) (orderMessage (r .queues) (orderOf r p) (takenOf r p))
   deliver-takes x e = gave (deliverStep (groupIn r) p) x delivers e .0
 
   pub deliver-group : (x : Next) → deliverStep (groupIn r) p ≡ accepted x → MeansGroup (deliverRanges r p) (x .state)

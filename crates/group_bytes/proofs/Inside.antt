@@ -8,7 +8,8 @@ use lib.ListN.{length, drop}
 use Rattle.wire.proofs.TripMessages.{both-first}
 use Rattle.rules.specs.Data.{Entry}
 use Rattle.slots.specs.Slots.{slotSize, entryIn, entriesIn, slotFits, slotsFit}
-use Rattle.group_bytes.specs.Places.{orderSize, waitingSize, orderAt, waitingAt}
+use Rattle.group_bytes.specs.Places.{waitingSize, orderAt, waitingAt}
+use Rattle.slots.specs.Columns.{orderSize}
 use Rattle.group_bytes.specs.Groups.{Ranges, membersOf, madeOf}
 use Rattle.group_bytes.proofs.RangesLaws.{Ranged}
 

@@ -5,6 +5,7 @@ pub mod SlotLaws
 pub mod Apart
 pub mod Inside
 pub mod Tables
+pub mod Widths
 pub mod OrderGroup
 pub mod BookBytes
 pub mod BookSounds

@@ -7,28 +7,37 @@ use native.Mathlib.Omega.{arith}
 use borrow.Author.Tests.{ltb-true}
 use lib.Dec.{ltb}
 use lib.ListN.{length, getD, drop}
+use Rattle.views.specs.declared.View.{View}
+use Rattle.views.specs.declared.list.Lookup.the-variants.{Found}
 use Rattle.views.specs.Limits.{maxWaiting, maxOrdered}
 use Rattle.views.specs.Lists.{findOf}
+use Rattle.views.proofs.ListLaws.{find-in}
+use Rattle.views.proofs.Members.{top}
+use Rattle.wire.specs.Format.{toldKind}
 use Rattle.wire.proofs.TripViews.{AreBytes}
-use Rattle.rules.specs.Data.{Entry, Group, accepted}
+use Rattle.rules.specs.Data.{Message, Entry, entry, Group, accepted}
+use Rattle.rules.specs.Sound.{sound}
 use Rattle.rules.specs.Group.{Next, orderStep}
+use Rattle.rules.proofs.Sound.{EntrySound, sound-says}
 use Rattle.rules.proofs.Holding.{Holds, gives, need-holds, first-holds, listed-holds}
-use Rattle.slots.specs.Slots.{slotSize, entryIn, queueIn, slotFits}
-use Rattle.slots.specs.Changes.{popped}
+use Rattle.slots.specs.Slots.{slotSize, kindIn, numberIn, messageIn, entryIn, queueIn, slotFits}
+use Rattle.slots.specs.Columns.{orderSize, entriesOrdered}
+use Rattle.slots.specs.Changes.{popped, ordered}
+use Rattle.slots.proofs.Stored.{toldOf}
+use Rattle.slots.proofs.Orders.{length-order, order-changed, order-count, order-appends, order-kinds, ordered-bytes}
 use Rattle.slots.proofs.Outside.{Changed, Apart, queue-whole}
-use Rattle.slots.proofs.Lists.{length-entries}
 use Rattle.slots.proofs.Queues.{pop-changed, pop-count, pop-drops, pop-fits}
 use Rattle.slots.proofs.BytesKept.{popped-bytes}
 use Rattle.book_steps.proofs.Means.{gave}
-use Rattle.group_bytes.specs.Places.{madeAt, orderSize, waitingSize, orderAt, waitingAt}
+use Rattle.group_bytes.specs.Places.{madeAt, waitingSize, orderAt, waitingAt}
 use Rattle.group_bytes.specs.Groups.{Ranges, membersOf, madeOf, viewsMade, placeOf, waitingIn, orderIn, groupIn}
-use Rattle.group_bytes.specs.Moves.{slotAdded, orderRanges}
-use Rattle.group_bytes.proofs.RangesLaws.{RangesBytes, Queued, Ranged, MeansGroup}
+use Rattle.group_bytes.specs.Moves.{orderRanges}
+use Rattle.group_bytes.proofs.RangesLaws.{RangesBytes, Queued, Columned, Ranged, MeansGroup}
 use Rattle.group_bytes.proofs.PlaceLaws.{length-made, place-found}
-use Rattle.group_bytes.proofs.SlotLaws.{add-changed, add-count, add-appends, add-fits, add-bytes}
 use Rattle.group_bytes.proofs.Apart.{waiting-off-order, count-still, queue-still, queued-still}
 use Rattle.group_bytes.proofs.Inside.{order-inside, waiting-inside, entries-first, first-fits}
 use Rattle.group_bytes.proofs.Tables.{waiting-at, order-at, place-still, requeued, rewaited, reordered, orders, waits, group-as}
+use Rattle.group_bytes.proofs.Widths.{InWidths, message-widths, told-byte, told-number}
 
 -- what is known where order is accepted: the view is made and i its place, something waits, the order has room
 pub record Ordering (r : Ranges) (p i : ℕ) : Type 0 where
@@ -37,24 +46,32 @@ pub record Ordering (r : Ranges) (p i : ℕ) : Type 0 where
   pub few : getD (r .queues) (waitingAt i p) 0 ≤ maxWaiting
   pub room : getD (r .queues) (orderAt i) 0 < maxOrdered
   pub first : slotFits (r .queues) (waitingAt i p + 1) ≡ true
+  pub told : toldOf (messageIn (r .queues) (waitingAt i p + 1)) < 256
+  pub count : kindIn (r .queues) (waitingAt i p + 1) ≡ toldKind → numberIn (r .queues) (waitingAt i p + 1) < 256
   pub waiting : waitingAt i p + waitingSize ≤ length (r .queues)
   pub order : orderAt i + orderSize ≤ length (r .queues)
 
 -- the group that order leaves, by what stands in the bytes
-abbrev ordered : Ranges → ℕ → ℕ → ℕ → Group
-ordered r p g i =
+abbrev after : Ranges → ℕ → ℕ → ℕ → Group
+after r p g i =
     rewaited (reordered (groupIn r) g (orderIn r g ++ (entryIn (r .queues) (waitingAt i p + 1) ∷ []))) p g
     (drop 1 (queueIn (r .queues) (waitingAt i p) (waitingAt i p + 1)))
 
--- the bytes with the entry copied to the order, and still waiting
+-- the bytes with the entry in the order, and still waiting
 abbrev pub orderAdded : Ranges → ℕ → ℕ → List ℕ
-orderAdded r p i = slotAdded (r .queues) (orderAt i) (r .queues) (waitingAt i p + 1)
+orderAdded r p i = ordered (r .queues) (orderAt i) (getD (r .queues) (waitingAt i p + 1) 0) (messageIn (r .queues) (waitingAt i p + 1))
 
 -- ---- the queues
 
-module _ (r : Ranges) (fits : Ranged r) (p : ℕ) (member : p < membersOf r) (i : ℕ) (o : Ordering r p i) where
+module _ (r : Ranges) (fits : Ranged r) (bytes : RangesBytes r) (p : ℕ) (member : p < membersOf r) (i : ℕ) (o : Ordering r p i) where
   abbrev w : ℕ
   w = waitingAt i p
+
+  abbrev q : ℕ
+  q = getD (r .queues) (w + 1) 0
+
+  abbrev m : Message
+  m = messageIn (r .queues) (w + 1)
 
   abbrev added : List ℕ
   added = orderAdded r p i
@@ -62,27 +79,22 @@ module _ (r : Ranges) (fits : Ranged r) (p : ℕ) (member : p < membersOf r) (i 
   abbrev left : List ℕ
   left = popped added w (w + 1)
 
-  inside : w + 1 + slotSize ≤ length (r .queues)
-  inside = omega (arith, o .waiting)
-
-  space : orderAt i + 1 + slotSize * (getD (r .queues) (orderAt i) 0 + 1) ≤ length (r .queues)
-  space = omega (arith, o .order, o .room)
+  widths : InWidths m
+  widths = message-widths (r .queues) (w + 1) (bytes .queues)
 
   add-within : Changed (r .queues) added (orderAt i) orderSize
-  add-within =
-      queue-whole (add-changed (r .queues) (orderAt i) (r .queues) (w + 1) inside space) (orderAt i) orderSize
-      (omega arith) (omega arith) (omega arith) (omega (arith, o .room))
+  add-within = order-changed (r .queues) (orderAt i) q m (widths .message) (o .room) (o .order)
 
-  added-queued : Queued added maxOrdered (orderAt i)
-  added-queued = record {
-    few = omega (arith, add-count (r .queues) (orderAt i) (r .queues) (w + 1) inside space, o .room);
-    slots = add-fits (r .queues) (orderAt i) (r .queues) (w + 1) inside space (fits .tables i (o .there) .order .slots) (o .first);
+  added-columned : Columned added (orderAt i)
+  added-columned = record {
+    few = omega (arith, order-count (r .queues) (orderAt i) q m (widths .message) (o .room) (o .order), o .room);
+    kinds = order-kinds (r .queues) (orderAt i) q m (widths .message) (o .room) (o .order) (fits .tables i (o .there) .order .kinds);
   }
 
-  added-bytes : RangesBytes r → AreBytes added
-  added-bytes bytes = add-bytes (r .queues) (orderAt i) (r .queues) (w + 1) (bytes .queues) (bytes .queues) (omega (arith, o .room))
+  added-bytes : AreBytes added
+  added-bytes = ordered-bytes (r .queues) (orderAt i) q m (bytes .queues) (bytes .queues (w + 1)) (widths .sets) (widths .message .few) (o .told) (o .room)
 
-  -- what waits is not seen by the copy
+  -- what waits is not seen by that
   off : Apart (orderAt i) orderSize w waitingSize
   off = waiting-off-order i i p (omega (arith, fits .members .1))
 
@@ -92,7 +104,7 @@ module _ (r : Ranges) (fits : Ranged r) (p : ℕ) (member : p < membersOf r) (i 
   same : getD added w 0 ≡ getD (r .queues) w 0
   same = count-still add-within maxWaiting w still off
 
-  -- what the pop asks after the copy
+  -- what the pop asks after it
   pub order-some : 0 < getD (orderAdded r p i) (waitingAt i p) 0
   order-some = omega (arith, same, o .some)
 
@@ -117,27 +129,35 @@ module _ (r : Ranges) (fits : Ranged r) (p : ℕ) (member : p < membersOf r) (i 
 
   -- ---- the group
 
-  module _ (bytes : RangesBytes r) (g : ℕ) (place : placeOf g (viewsMade r) ≡ i) where
+  module _ (g : ℕ) (place : placeOf g (viewsMade r) ≡ i) where
     added-means : MeansGroup (requeued r added) (reordered (groupIn r) g (orderIn r g ++ (entryIn (r .queues) (w + 1) ∷ [])))
     added-means =
-        orders r fits bytes added g i place (o .there) add-within added-queued (added-bytes bytes) _
-        (add-appends (r .queues) (orderAt i) (r .queues) (w + 1) inside space
+        orders r fits bytes added g i place (o .there) add-within added-columned added-bytes _
+        (order-appends (r .queues) (orderAt i) q m (widths .message) (o .room) (o .order)
         ∙ ap (λ (l : List Entry). l ++ (entryIn (r .queues) (w + 1) ∷ [])) (sym (order-at r g i place (o .there))))
 
-    left-means : MeansGroup (requeued r left) (ordered r p g i)
+    left-means : MeansGroup (requeued r left) (after r p g i)
     left-means =
         let made : getD added madeAt 0 ≡ madeOf r = add-within .below madeAt (omega arith) in
         group-as (ap (λ (s : Group). rewaited s p g (drop 1 (queueIn (r .queues) w (w + 1)))) (added-means .group))
         (waits (requeued r added) (added-means .fits) (added-means .bytes) left g i (place-still r added made g i place) (rw made (o .there)) p member
-        pop-within left-queued (popped-bytes added w (w + 1) (added-bytes bytes)) _ left-is)
+        pop-within left-queued (popped-bytes added w (w + 1) added-bytes) _ left-is)
 
 -- ---- the step
 
 module _ (r : Ranges) (fits : Ranged r) where
-  order-holds : (p g : ℕ) → p < membersOf r → (i : ℕ) → placeOf g (viewsMade r) ≡ i
-      → Holds (λ (x : Next). Ordering r p i × (x .state ≡ ordered r p g i)) (orderStep (groupIn r) p g)
+  -- what waits is sound
+  first-sound : sound (groupIn r) ≡ true → (p g : ℕ) → p < membersOf r → (v : View) → findOf g (viewsMade r) ≡ Found v
+      → (e : Entry) (rest : List Entry) → waitingIn r p g ≡ e ∷ rest → EntrySound (groupIn r) e
+  unfolding groupIn
+  first-sound sounds p g member v found e rest d =
+      let (listed, same) = find-in g (viewsMade r) v found in
+      sound-says (groupIn r) sounds .waiting p member v listed .entries e (rw (same, d) top)
+
+  order-holds : sound (groupIn r) ≡ true → (p g : ℕ) → p < membersOf r → (i : ℕ) → placeOf g (viewsMade r) ≡ i
+      → Holds (λ (x : Next). Ordering r p i × (x .state ≡ after r p g i)) (orderStep (groupIn r) p g)
   unfolding orderStep groupIn
-  order-holds p g member i place =
+  order-holds sounds p g member i place =
       listed-holds (findOf g (viewsMade r)) _ (λ v found.
       first-holds (waitingIn r p g) _ _ (λ e rest d.
       need-holds (ltb (length (orderIn r g)) maxOrdered) _ _ (λ k.
@@ -145,27 +165,32 @@ module _ (r : Ranges) (fits : Ranged r) where
       let there : i < madeOf r = omega (arith, length-made r, place, place-found g (viewsMade r) v found .0) in
       let queued = fits .tables i there .waiting p member in
       let one = entries-first (r .queues) (w + 1) (getD (r .queues) w 0) e rest (sym (waiting-at r g i place p member there) ∙ d) in
-      let room : length (queueIn (r .queues) (orderAt i) (orderAt i + 1)) < maxOrdered = rw (← order-at r g i place there) (ltb-true _ _ k) in
+      let told : toldOf (messageIn (r .queues) (w + 1)) < 256 =
+      told-byte (groupIn r) (getD (r .queues) (w + 1) 0) (messageIn (r .queues) (w + 1)) (rw (← one .entry) (first-sound sounds p g member v found e rest d)) in
+      let room : length (entriesOrdered (r .queues) (orderAt i)) < maxOrdered = rw (← order-at r g i place there) (ltb-true _ _ k) in
       gives (
         record {
           there = there;
           some = one .some;
           few = queued .few;
-          room = omega (arith, room, length-entries (r .queues) (orderAt i + 1) (getD (r .queues) (orderAt i) 0));
+          room = omega (arith, room, length-order (r .queues) (orderAt i));
           first = first-fits (r .queues) (w + 1) (getD (r .queues) w 0) (one .some) (queued .slots);
+          told = told;
+          count = told-number (r .queues) (w + 1) told;
           waiting = waiting-inside r fits i there p member;
           order = order-inside r fits i there;
         },
         ap₂ (λ (y : Entry) (l : List Entry). rewaited (reordered (groupIn r) g (orderIn r g ++ (y ∷ []))) p g l) (one .entry) (one .behind),
       ))))
 
-  pub order-says : (p g : ℕ) → p < membersOf r → (x : Next) → orderStep (groupIn r) p g ≡ accepted x → Ordering r p (placeOf g (viewsMade r))
-  order-says p g member x e = gave (orderStep (groupIn r) p g) x (order-holds p g member _ refl) e .0
+  pub order-says : sound (groupIn r) ≡ true → (p g : ℕ) → p < membersOf r → (x : Next) → orderStep (groupIn r) p g ≡ accepted x
+      → Ordering r p (placeOf g (viewsMade r))
+  order-says sounds p g member x e = gave (orderStep (groupIn r) p g) x (order-holds sounds p g member _ refl) e .0
 
-  pub order-group : RangesBytes r → (p g : ℕ) → p < membersOf r → (x : Next) → orderStep (groupIn r) p g ≡ accepted x
+  pub order-group : RangesBytes r → sound (groupIn r) ≡ true → (p g : ℕ) → p < membersOf r → (x : Next) → orderStep (groupIn r) p g ≡ accepted x
       → MeansGroup (orderRanges r p g) (x .state)
   unfolding orderRanges
-  order-group bytes p g member x e =
+  order-group bytes sounds p g member x e =
       let i = placeOf g (viewsMade r) in
-      let t = gave (orderStep (groupIn r) p g) x (order-holds p g member i refl) e in
-      group-as (sym (t .1)) (left-means r fits p member i (t .0) bytes g refl)
+      let t = gave (orderStep (groupIn r) p g) x (order-holds sounds p g member i refl) e in
+      group-as (sym (t .1)) (left-means r fits bytes p member i (t .0) g refl)

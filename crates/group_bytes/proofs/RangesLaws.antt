@@ -1,8 +1,9 @@
 -- What ranges that fit say, in words of numbers, both ways.
 use mathlib.Core.Path.{_≡_}
 use mathlib.Core.Bool.{true}
-use mathlib.Core.List.{List}
+use mathlib.Core.List.{List, []}
 use Prim.Native.Nat.{ℕ, _+_, _%_, _≤_, _<_}
+use native.Mathlib.Omega.{arith}
 use borrow.Author.Tests.{eqb-true, leb-true, eq-eqb, le-leb}
 use lib.Dec.{leb}
 use lib.ListN.{length, getD}
@@ -11,7 +12,8 @@ use Rattle.views.specs.Sizes.{viewSize}
 use Rattle.views.proofs.SetLaws.{both-true}
 use Rattle.rules.specs.Data.{Group}
 use Rattle.rules.proofs.TestLaws.{_and_, both-from, within-says, within-from, every-at, every-from, conditions-say, conditions-from}
-use Rattle.slots.specs.Slots.{slotsFit}
+use Rattle.slots.specs.Slots.{slotsFit, kindFits}
+use Rattle.slots.specs.Columns.{firsts, orderKind, orderCount, entriesOrdered, orderFits}
 use Rattle.book_bytes.specs.Places.{membersAt, selfAt}
 use Rattle.book_bytes.proofs.LayoutLaws.{Layout, layout-says, layout-from}
 use Rattle.group_bytes.specs.Places.{roomOf, booksSize, bookBytes, orderAt, waitingAt, queuesSize}
@@ -30,21 +32,40 @@ queue-says q limit c h = let t = both-true (leb (getD q c 0) limit) (slotsFit q 
 pub queue-from : (q : List ℕ) (limit c : ℕ) → Queued q limit c → queueFits q limit c ≡ true
 queue-from q limit c h = both-from _ _ (le-leb _ _ (h .few)) (h .slots)
 
+-- ---- an order with its count at c
+
+pub record Columned (q : List ℕ) (c : ℕ) : Type 0 where
+  pub few : getD q c 0 ≤ maxOrdered
+  pub kinds : (k : ℕ) → k < getD q c 0 → kindFits (getD q (orderKind c k) 0) (getD q (orderCount c k) 0) ≡ true
+
+pub order-says : (q : List ℕ) (c : ℕ) → orderFits q c ≡ true → Columned q c
+unfolding orderFits
+order-says q c h = let t = both-true (leb (getD q c 0) maxOrdered) _ h in record { few = leb-true _ _ (t .0); kinds = every-at (getD q c 0) _ (t .1) }
+
+pub order-from : (q : List ℕ) (c : ℕ) → Columned q c → orderFits q c ≡ true
+unfolding orderFits
+order-from q c h = both-from _ _ (le-leb _ _ (h .few)) (every-from (getD q c 0) _ (h .kinds))
+
+-- with nothing in it
+pub no-order : (q : List ℕ) (c : ℕ) → getD q c 0 ≡ 0 → Columned q c × (entriesOrdered q c ≡ [])
+unfolding firsts
+no-order q c z = (record { few = omega (arith, z); kinds = λ k h. absurd (omega (arith, z)) }, rw z)
+
 -- ---- the queues of the view at place i
 
 pub record Tabled (q : List ℕ) (n i : ℕ) : Type 0 where
-  pub order : Queued q maxOrdered (orderAt i)
+  pub order : Columned q (orderAt i)
   pub waiting : (p : ℕ) → p < n → Queued q maxWaiting (waitingAt i p)
 
 pub table-says : (q : List ℕ) (n i : ℕ) → tableFits q n i ≡ true → Tabled q n i
 unfolding tableFits
 table-says q n i h =
     let t = both-true _ _ h in
-    record { order = queue-says q maxOrdered (orderAt i) (t .0); waiting = λ p k. queue-says q maxWaiting (waitingAt i p) (every-at n _ (t .1) p k) }
+    record { order = order-says q (orderAt i) (t .0); waiting = λ p k. queue-says q maxWaiting (waitingAt i p) (every-at n _ (t .1) p k) }
 
 pub table-from : (q : List ℕ) (n i : ℕ) → Tabled q n i → tableFits q n i ≡ true
 unfolding tableFits
-table-from q n i t = both-from _ _ (queue-from q maxOrdered (orderAt i) (t .order)) (every-from n _ (λ p k. queue-from q maxWaiting (waitingAt i p) (t .waiting p k)))
+table-from q n i t = both-from _ _ (order-from q (orderAt i) (t .order)) (every-from n _ (λ p k. queue-from q maxWaiting (waitingAt i p) (t .waiting p k)))
 
 -- ---- the book of p, of n members
 

@@ -13,7 +13,7 @@ use lib.Seq.{getD-set-same, getD-set-other}
 use Rattle.numbers.specs.Number.{put}
 use Rattle.numbers.proofs.NumberLaws.{length-put}
 use Rattle.views.specs.declared.View.{View}
-use Rattle.views.specs.Limits.{maxMembers, maxViews, maxWaiting, maxOrdered}
+use Rattle.views.specs.Limits.{maxMembers, maxViews, maxWaiting}
 use Rattle.views.specs.Sizes.{viewSize}
 use Rattle.views.specs.Sets.{both, fits}
 use Rattle.views.proofs.SetLaws.{known}
@@ -30,7 +30,7 @@ use Rattle.book_bytes.proofs.StartBook.{fits-byte, start-size, start-layout, st
 use Rattle.group_bytes.specs.Places.{roomOf, booksSize, bookBytes, madeAt, orderAt, waitingAt, queuesSize}
 use Rattle.group_bytes.specs.Groups.{Ranges, membersOf, madeOf, viewsMade, placeOf, bookOf, waitingIn, orderIn, groupIn}
 use Rattle.group_bytes.specs.Starts.{startBooks, startRanges}
-use Rattle.group_bytes.proofs.RangesLaws.{RangesBytes, Queued, Tabled, InPlace, Ranged, MeansGroup}
+use Rattle.group_bytes.proofs.RangesLaws.{RangesBytes, Queued, no-order, Tabled, InPlace, Ranged, MeansGroup}
 use Rattle.group_bytes.proofs.BookBytes.{first-members, book-size, with-bytes, with-size, with-own, with-other}
 
 -- what start asks: 4 for ranges not of their lengths, then 1, 2, 3
@@ -158,7 +158,7 @@ module _ (n S : ℕ) (r : Ranges) (asks : Startable n S r) where
   order-are g =
       let i = placeOf g (viewsMade after) in
       let o = orderAt i in
-      none-either (ltb i (madeOf after)) _ (no-entries (after .queues) (o + 1) (getD (after .queues) o 0) (queues-zero o (omega arith)))
+      none-either (ltb i (madeOf after)) _ (no-order (after .queues) o (queues-zero o (omega arith)) .1)
 
   group-is : groupIn after ≡ started n S (roomOf (r .list))
   unfolding groupIn started
@@ -186,7 +186,10 @@ module _ (n S : ℕ) (r : Ranges) (asks : Startable n S r) where
       }
 
   table-is : (i : ℕ) → Tabled (after .queues) n i
-  table-is i = record { order = none-queued maxOrdered (orderAt i) (omega arith); waiting = λ p h. none-queued maxWaiting (waitingAt i p) (omega arith) }
+  table-is i = record {
+    order = no-order (after .queues) (orderAt i) (queues-zero (orderAt i) (omega arith)) .0;
+    waiting = λ p h. none-queued maxWaiting (waitingAt i p) (omega arith);
+  }
 
   length-books : length (after .books) ≡ booksSize
   unfolding startRanges

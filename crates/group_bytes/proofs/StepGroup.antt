@@ -85,7 +85,7 @@ module _ (r : Ranges) (fits : Ranged r) (bytes : RangesBytes r) (sounds : sound 
       next (from-accepted _ _ (λ x e. create-group r fits bytes (c .first) (c .second) (width .first) x e)) (
       next (by-leaves _ _ _ join-leaves) (
       next (by-leaves _ _ _ (λ i. from-accepted _ _ (λ x e. pass-group r fits bytes sounds (rebook r fits bytes) p i x e))) (
-      next (by-leaves _ _ _ (λ i. from-accepted _ _ (λ x e. order-group r fits bytes p (c .second) i x e))) (
+      next (by-leaves _ _ _ (λ i. from-accepted _ _ (λ x e. order-group r fits bytes sounds p (c .second) i x e))) (
       next (by-leaves _ _ _ (λ i. from-accepted _ _ (λ x e. deliver-group r fits bytes sounds p i x e))) (
       next (by-leaves _ _ _ (λ i. own-leaves r p _ _ (λ d e. attempt-group r fits bytes sounds p i one d e))) (
       next (by-leaves _ _ _ (λ i. own-leaves r p _ _ (λ d e. register-group r fits bytes sounds p i d e))) (

@@ -7,19 +7,20 @@ use native.Mathlib.Decide.{decLt, ℕ-discrete}
 use native.Mathlib.Omega.{arith}
 use borrow.Author.Tests.{lt-ltb, le-ltb}
 use lib.ListN.{length, getD}
-use Rattle.views.specs.Limits.{maxMembers, maxWaiting, maxOrdered}
+use Rattle.views.specs.Limits.{maxMembers, maxWaiting}
 use Rattle.views.specs.Points.{at, at2}
 use Rattle.views.proofs.PointLaws.{upd-ind, upd2-ind}
 use Rattle.wire.specs.Reader.{viewsIn}
 use Rattle.wire.proofs.TripViews.{AreBytes}
 use Rattle.rules.specs.Data.{Identifier, Member, Entry, Group}
 use Rattle.slots.specs.Slots.{queueIn}
+use Rattle.slots.specs.Columns.{orderSize, entriesOrdered}
 use Rattle.slots.proofs.Outside.{Changed, Apart}
-use Rattle.group_bytes.specs.Places.{roomOf, madeAt, orderSize, waitingSize, orderAt, waitingAt}
+use Rattle.group_bytes.specs.Places.{roomOf, madeAt, waitingSize, orderAt, waitingAt}
 use Rattle.group_bytes.specs.Groups.{Ranges, membersOf, madeOf, viewsMade, placeOf, waitingIn, orderIn, bookOf, groupIn}
-use Rattle.group_bytes.proofs.RangesLaws.{RangesBytes, Queued, Tabled, Ranged, MeansGroup}
+use Rattle.group_bytes.proofs.RangesLaws.{RangesBytes, Queued, Columned, Tabled, Ranged, MeansGroup}
 use Rattle.group_bytes.proofs.PlaceLaws.{length-made, place-one}
-use Rattle.group_bytes.proofs.Apart.{orders-apart, waiting-off-order, order-off-waiting, waiting-apart, queue-still, queued-still}
+use Rattle.group_bytes.proofs.Apart.{orders-apart, waiting-off-order, order-off-waiting, waiting-apart, queue-still, queued-still, ordered-still, columned-still}
 
 -- ---- what waits and what is ordered, by the view's place
 
@@ -40,7 +41,7 @@ module _ (r : Ranges) (g i : ℕ) (place : placeOf g (viewsMade r) ≡ i) where
         | no k ↦ rw (le-ltb p (membersOf r) (omega arith))
       ]
 
-  pub order-at : i < madeOf r → orderIn r g ≡ queueIn (r .queues) (orderAt i) (orderAt i + 1)
+  pub order-at : i < madeOf r → orderIn r g ≡ entriesOrdered (r .queues) (orderAt i)
   unfolding orderIn
   order-at h = rw (place, lt-ltb i (madeOf r) h)
 
@@ -69,7 +70,7 @@ module _ (r : Ranges) (d : List ℕ) (made : getD d madeAt 0 ≡ madeOf r) (h j 
   pub place-still : placeOf h (viewsMade (requeued r d)) ≡ j
   place-still = rw made place
 
-  pub order-still : (j < madeOf r → queueIn d (orderAt j) (orderAt j + 1) ≡ queueIn (r .queues) (orderAt j) (orderAt j + 1))
+  pub order-still : (j < madeOf r → entriesOrdered d (orderAt j) ≡ entriesOrdered (r .queues) (orderAt j))
       → orderIn (requeued r d) h ≡ orderIn r h
   order-still e =
       elim (decLt j (madeOf r)) [
@@ -148,9 +149,9 @@ module _ (r : Ranges) (fits : Ranged r) (bytes : RangesBytes r) (d : List ℕ) w
           = λ q h n. let j = placeOf h (viewsMade r) in waiting-still r d made h j refl q (λ m k.
           queue-still x maxWaiting (waitingAt j q) (fits .tables j k .waiting q m) (waiting-off j q m (λ t. n (t .0, alone h (t .1))))) in
           let order : (h : ℕ) → orderIn (requeued r d) h ≡ orderIn r h
-          = λ h. let j = placeOf h (viewsMade r) in order-still r d made h j refl (λ k. queue-still x maxOrdered (orderAt j) (fits .tables j k .order) (order-off j)) in
+          = λ h. let j = placeOf h (viewsMade r) in order-still r d made h j refl (λ k. ordered-still x (orderAt j) (fits .tables j k .order) (order-off j)) in
           means (x .long) made
-          (λ j h. record { order = queued-still x maxOrdered (orderAt j) (fits .tables j h .order) (order-off j); waiting = waiting-queued k j h })
+          (λ j h. record { order = columned-still x (orderAt j) (fits .tables j h .order) (order-off j); waiting = waiting-queued k j h })
           y (at2 p g l (waitingIn r)) (orderIn r)
           (fun-ext (λ q. fun-ext (λ h. upd2-ind p g l (waitingIn r) (λ q h c. waitingIn (requeued r d) q h ≡ c) here other q h)))
           (fun-ext order)
@@ -161,14 +162,14 @@ module _ (r : Ranges) (fits : Ranged r) (bytes : RangesBytes r) (d : List ℕ) w
       waiting-behind : (j q : ℕ) → q < membersOf r → Apart (orderAt i) orderSize (waitingAt j q) waitingSize
       waiting-behind j q m = waiting-off-order i j q (omega (arith, members-few))
 
-      order-queued : Queued d maxOrdered (orderAt i) → (j : ℕ) → j < madeOf r → Queued d maxOrdered (orderAt j)
-      order-queued k j h =
+      order-columned : Columned d (orderAt i) → (j : ℕ) → j < madeOf r → Columned d (orderAt j)
+      order-columned k j h =
           elim (ℕ-discrete j i) [
             | yes f ↦ rw f k
-            | no f ↦ queued-still x maxOrdered (orderAt j) (fits .tables j h .order) (orders-apart i j f)
+            | no f ↦ columned-still x (orderAt j) (fits .tables j h .order) (orders-apart i j f)
           ]
 
-      pub orders : Queued d maxOrdered (orderAt i) → AreBytes d → (l : List Entry) → queueIn d (orderAt i) (orderAt i + 1) ≡ l
+      pub orders : Columned d (orderAt i) → AreBytes d → (l : List Entry) → entriesOrdered d (orderAt i) ≡ l
           → MeansGroup (requeued r d) (reordered (groupIn r) g l)
       unfolding groupIn
       orders k y l e =
@@ -176,13 +177,13 @@ module _ (r : Ranges) (fits : Ranged r) (bytes : RangesBytes r) (d : List ℕ) w
           let here : orderIn (requeued r d) g ≡ l = order-at (requeued r d) g i (place-still r d made g i place) (rw made there) ∙ e in
           let other : (h : ℕ) → h ≢ g → orderIn (requeued r d) h ≡ orderIn r h
           = λ h n. let j = placeOf h (viewsMade r) in order-still r d made h j refl (λ k.
-          queue-still x maxOrdered (orderAt j) (fits .tables j k .order) (orders-apart i j (λ t. n (alone h t)))) in
+          ordered-still x (orderAt j) (fits .tables j k .order) (orders-apart i j (λ t. n (alone h t)))) in
           let waiting : (q h : ℕ) → waitingIn (requeued r d) q h ≡ waitingIn r q h
           = λ q h. let j = placeOf h (viewsMade r) in waiting-still r d made h j refl q (λ m k.
           queue-still x maxWaiting (waitingAt j q) (fits .tables j k .waiting q m) (waiting-behind j q m)) in
           means (x .long) made
           (λ j h. record {
-            order = order-queued k j h;
+            order = order-columned k j h;
             waiting = λ q m. queued-still x maxWaiting (waitingAt j q) (fits .tables j h .waiting q m) (waiting-behind j q m);
           })
           y (waitingIn r) (at g l (orderIn r))

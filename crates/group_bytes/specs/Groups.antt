@@ -5,7 +5,7 @@ use Prim.Native.Nat.{ℕ, suc, _+_, _%_}
 use lib.Dec.{eqb, ltb, leb}
 use lib.ListN.{length, getD}
 use Rattle.views.specs.declared.View.{View}
-use Rattle.views.specs.Limits.{maxMembers, maxViews, maxWaiting, maxOrdered}
+use Rattle.views.specs.Limits.{maxMembers, maxViews, maxWaiting}
 use Rattle.views.specs.Sizes.{viewSize}
 use Rattle.views.specs.Sets.{both}
 use Rattle.views.specs.Lists.{idOf}
@@ -15,6 +15,7 @@ use Rattle.rules.specs.Member.{every}
 use Rattle.rules.specs.Sound.{within, conditions, sound}
 use Rattle.rules.specs.Group.{fresh}
 use Rattle.slots.specs.Slots.{queueIn, slotsFit}
+use Rattle.slots.specs.Columns.{entriesOrdered, orderFits}
 use Rattle.book_bytes.specs.Places.{membersAt, selfAt}
 use Rattle.book_bytes.specs.Books.{bookIn, layoutFits}
 use Rattle.group_bytes.specs.Places.{roomOf, booksSize, bookBytes, madeAt, orderAt, waitingAt, queuesSize}
@@ -51,7 +52,7 @@ waitingIn r p g = let i = placeOf g (viewsMade r) in
 
 unfoldable pub orderIn : Ranges → Identifier → List Entry
 orderIn r g =
-    let i = placeOf g (viewsMade r) in cond (ltb i (madeOf r)) (queueIn (r .queues) (orderAt i) (orderAt i + 1)) []
+    let i = placeOf g (viewsMade r) in cond (ltb i (madeOf r)) (entriesOrdered (r .queues) (orderAt i)) []
 
 -- the book of the member p; of no member the book that a start gives one outside the first view
 unfoldable pub bookOf : Ranges → Member → Book
@@ -75,7 +76,7 @@ queueFits q limit c = both (leb (getD q c 0) limit) (slotsFit q (c + 1) (getD q 
 
 -- the queues of the view at place i, of n members
 unfoldable pub tableFits : List ℕ → ℕ → ℕ → Bool
-tableFits q n i = both (queueFits q maxOrdered (orderAt i)) (every n (λ p. queueFits q maxWaiting (waitingAt i p)))
+tableFits q n i = both (orderFits q (orderAt i)) (every n (λ p. queueFits q maxWaiting (waitingAt i p)))
 
 -- the book of p is one of n members, and p's own
 unfoldable pub seatFits : List ℕ → ℕ → ℕ → Bool

@@ -9,7 +9,8 @@ use Rattle.views.specs.Sizes.{viewSize}
 use Rattle.views.specs.Lists.{idOf, noView}
 use Rattle.rules.specs.Data.{Identifier, Member}
 use Rattle.slots.specs.Slots.{slotSize, messageIn}
-use Rattle.slots.specs.Changes.{popped}
+use Rattle.slots.specs.Columns.{orderSender, orderMessage}
+use Rattle.slots.specs.Changes.{popped, ordered}
 use Rattle.wire.specs.Writer.{storeView}
 use Rattle.book_bytes.specs.Places.{takenAt, outgoingAt}
 use Rattle.book_bytes.specs.Records.{recordIn}
@@ -67,12 +68,13 @@ passRanges r p =
 
 unfoldable pub orderRanges : Ranges → Member → Identifier → Ranges
 orderRanges r p g =
+    let q = r .queues in
     let i = placeOf g (viewsMade r) in
     let w = waitingAt i p in
     record {
       list = r .list;
       books = r .books;
-      queues = popped (slotAdded (r .queues) (orderAt i) (r .queues) (w + 1)) w (w + 1);
+      queues = popped (ordered q (orderAt i) (getD q (w + 1) 0) (messageIn q (w + 1))) w (w + 1);
     }
 
 -- ---- 5. deliver: the next entry of the carrier view's order is taken
@@ -81,5 +83,5 @@ unfoldable pub deliverRanges : Ranges → Member → Ranges
 deliverRanges r p =
     let b = bookBytes (r .books) p in
     let i = placeOf (idOf (recordIn b .carrier .view)) (viewsMade r) in
-    let at = orderAt i + 1 + slotSize * getD b takenAt 0 in
-    rebooked r p (takeBytes (getD (r .queues) at 0) (messageIn (r .queues) at) b)
+    let k = getD b takenAt 0 in
+    rebooked r p (takeBytes (getD (r .queues) (orderSender (orderAt i) k) 0) (orderMessage (r .queues) (orderAt i) k) b)

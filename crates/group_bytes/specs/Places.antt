@@ -2,9 +2,10 @@
 use mathlib.Core.List.{List, _++_}
 use Prim.Native.Nat.{ℕ, _+_, _*_, _/_}
 use lib.ListN.{length, take, drop}
-use Rattle.views.specs.Limits.{maxMembers, maxWaiting, maxOrdered}
+use Rattle.views.specs.Limits.{maxMembers, maxWaiting}
 use Rattle.views.specs.Sizes.{viewSize}
 use Rattle.slots.specs.Slots.{slotSize}
+use Rattle.slots.specs.Columns.{orderSize}
 use Rattle.book_bytes.specs.Places.{bookSize}
 
 -- ---- the list: whole view records
@@ -34,10 +35,7 @@ madeAt = 0
 abbrev pub headSize : ℕ
 headSize = 64
 
--- a queue is a count and its slots
-abbrev pub orderSize : ℕ
-orderSize = 1 + slotSize * maxOrdered
-
+-- what waits for a member: a count and slots
 abbrev pub waitingSize : ℕ
 waitingSize = 1 + slotSize * maxWaiting
 

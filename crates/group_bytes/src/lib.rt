@@ -25,9 +25,8 @@ pub const MADE: usize = 0;
 
 pub const HEAD: usize = 64;
 
-// A queue is a count and its slots. The bytes of a view's order, of what waits for a member in the view, and of all the
-// view's queues.
-pub const ORDER: usize = 1 + slots::SLOT * limits::ORDERED as usize;
+// The bytes of a view's order, of what waits for a member in the view, a count and slots, and of all the view's queues.
+pub const ORDER: usize = slots::order::SIZE;
 
 pub const WAITING: usize = 1 + slots::SLOT * limits::WAITING as usize;
 

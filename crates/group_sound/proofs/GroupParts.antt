@@ -8,7 +8,7 @@ use native.Mathlib.Omega.{arith}
 use borrow.Author.Tests.{leb-true, le-leb}
 use lib.ListN.{length, getD}
 use Rattle.views.specs.declared.View.{View}
-use Rattle.views.specs.Limits.{maxMembers, maxOutgoing, maxOrdered}
+use Rattle.views.specs.Limits.{maxMembers, maxOutgoing, maxWaiting, maxOrdered}
 use Rattle.views.specs.Lists.{idOf}
 use Rattle.views.proofs.Members.{In}
 use Rattle.rules.specs.Data.{Entry, entry, Book, Group}
@@ -19,10 +19,12 @@ use Rattle.rules.proofs.TestLaws.{_and_, conditions-say, conditions-from, all-a
 use Rattle.rules.proofs.Sound.Books.{EntryFacts, QueueFacts, BookSound, entry-says, entry-tests, book-says, book-tests}
 use Rattle.rules.proofs.Sound.{Listed, inGroup, QueueSound}
 use Rattle.slots.specs.Slots.{queueIn}
+use Rattle.slots.specs.Columns.{orderEntry, entriesOrdered}
 use Rattle.slots.proofs.Lists.{length-entries}
+use Rattle.slots.proofs.Columns.{length-firsts}
 use Rattle.book_sound.specs.EntryParts.{entrySound}
-use Rattle.group_bytes.proofs.RangesLaws.{Queued}
-use Rattle.group_sound.specs.Parts.{queueSound}
+use Rattle.group_bytes.proofs.RangesLaws.{Queued, Columned, order-says, order-from}
+use Rattle.group_sound.specs.Parts.{queueSound, orderSound}
 use Rattle.group_sound.proofs.Infos.{carried-listed}
 
 -- ---- entries of n members
@@ -62,26 +64,44 @@ module _ (views : List View) (n : ℕ) (fits : (v : View) → In v views → set
   optional-fits none h = refl
   optional-fits (some v) h = fits v (h v refl)
 
--- ---- queues in bytes
+-- ---- what waits, in bytes by rows, and an order, by columns
 
-module _ (views : List View) (n : ℕ) (q : List ℕ) (limit c : ℕ) where
+module _ (views : List View) (n : ℕ) (q : List ℕ) (c : ℕ) where
   abbrev entries : List Entry
   entries = queueIn q c (c + 1)
 
-  pub queue-in : queueSound views n q limit c ≡ true → Queued q limit c × QueueFacts n (Listed views) limit entries
+  pub queue-in : queueSound views n q c ≡ true → Queued q maxWaiting c × QueueFacts n (Listed views) maxWaiting entries
   unfolding queueSound
   queue-in h =
       let (few, (slots, (each, (carried, _)))) = conditions-say _ h in
-      let k : getD q c 0 ≤ limit = leb-true _ _ few in
+      let k : getD q c 0 ≤ maxWaiting = leb-true _ _ few in
       (record { few = k; slots = slots }, record { short = omega (arith, k, length-entries q (c + 1) (getD q c 0)); entries = entries-in views n entries each carried })
 
-  pub queue-out : ((v : View) → In v views → setFits n v ≡ true) → Queued q limit c → QueueFacts n (Listed views) limit entries → queueSound views n q limit c ≡ true
+  pub queue-out : ((v : View) → In v views → setFits n v ≡ true) → Queued q maxWaiting c → QueueFacts n (Listed views) maxWaiting entries → queueSound views n q c ≡ true
   unfolding queueSound
   queue-out fits h k = conditions-from _ (
       le-leb _ _ (h .few)
       and h .slots
       and entries-out views n fits entries (k .entries)
       and entries-listed views n entries (k .entries)
+      and tt)
+
+  abbrev ordered : List Entry
+  ordered = entriesOrdered q c
+
+  pub order-in : orderSound views n q c ≡ true → Columned q c × QueueFacts n (Listed views) maxOrdered ordered
+  unfolding orderSound
+  order-in h =
+      let (kinds, (each, (carried, _))) = conditions-say _ h in
+      let k = order-says q c kinds in
+      (k, record { short = omega (arith, k .few, length-firsts (orderEntry q c) (getD q c 0)); entries = entries-in views n ordered each carried })
+
+  pub order-out : ((v : View) → In v views → setFits n v ≡ true) → Columned q c → QueueFacts n (Listed views) maxOrdered ordered → orderSound views n q c ≡ true
+  unfolding orderSound
+  order-out fits h k = conditions-from _ (
+      order-from q c h
+      and entries-out views n fits ordered (k .entries)
+      and entries-listed views n ordered (k .entries)
       and tt)
 
 -- ---- books

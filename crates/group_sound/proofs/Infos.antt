@@ -1,12 +1,13 @@
--- The views that an entry carries rise and are listed: of the entry, and of its slot.
+-- What is asked of an entry, by its kind: that it is a member's, a told's count, and of an info that its views rise and are listed. First of the
+-- message that is read from a kind, a number, views and a count, wherever these stand; then of a slot.
 use mathlib.Core.Path.{_≡_, refl, sym, ap, ap₂, _∙_}
 use mathlib.Core.Logic.{⊎-elim}
 use mathlib.Core.Bool.{Bool, true, false, cond, true≢false}
 use mathlib.Core.List.{List, [], _∷_}
 use Prim.Native.Nat.{ℕ, _+_, _<_, _≤_, min}
 use native.Mathlib.Omega.{arith}
-use borrow.Author.Tests.{eqb-true, eqb-false}
-use lib.Dec.{eqb, leb, ltb}
+use borrow.Author.Tests.{eq-eqb, ne-eqb, lt-ltb, le-leb, le-ltb}
+use lib.Dec.{eqb, ltb}
 use lib.ListN.{length, getD}
 use Rattle.views.specs.declared.View.{View}
 use Rattle.views.specs.Limits.{maxViews, maxOrdered}
@@ -19,14 +20,14 @@ use Rattle.wire.proofs.ReaderLaws.{length-viewsIn}
 use Rattle.wire.proofs.TripMessages.{Kind, kind-of-known}
 use Rattle.rules.specs.Data.{Message, client, info, registered, told, Entry, entry}
 use Rattle.rules.specs.Member.{all}
-use Rattle.rules.specs.Sound.{conditions, setFits, opensRise, listed, infoListed}
+use Rattle.rules.specs.Sound.{within, conditions, setFits, opensRise, listed, infoListed}
 use Rattle.rules.specs.Alone.{viewsOf, infoOf}
-use Rattle.slots.specs.Slots.{kindIn, numberIn, countIn, infoIn, messageIn, entryIn, slotFits}
-use Rattle.rules.proofs.TestLaws.{all-at, all-from, listed-in}
-use Rattle.rules.proofs.Truth.{both-unit, stopped, three}
+use Rattle.slots.specs.Slots.{kindIn, numberIn, countIn, infoIn, messageBy, messageIn, entryIn, kindFits, slotFits}
+use Rattle.rules.proofs.TestLaws.{within-says, all-at, all-from, listed-in}
+use Rattle.rules.proofs.Truth.{both-unit, stopped}
 use Rattle.book_sound.specs.EntryParts.{entrySound}
-use Rattle.book_sound.proofs.Entries.{info-count, foreign, entry-told, entry-other, entry-info}
 use Rattle.group_sound.specs.Parts.{viewsKnown, infoKnown, entryKnown}
+use Rattle.group_sound.specs.OrderParts.{headFits}
 use Rattle.group_sound.proofs.ListedLaws.{known-end}
 
 -- ---- an entry
@@ -62,116 +63,164 @@ carried-info : (l : List View) → 1 ≤ length l → viewsOf (infoOf {M = ℕ} 
 carried-info [] h = absurd (omega arith)
 carried-info (v ∷ l) h = refl
 
+-- ---- the message of a kind, with the number x, the count k, and c views from a place on
+
+both-none : (t : Bool) → both t false ≡ false
+both-none true = refl
+both-none false = refl
+
+-- of a fitting list of views that it rises and is listed: then its sets fit
+sets-given : (f r t a : Bool) → (a ≡ true → f ≡ true) → conditions (true ∷ conditions (true ∷ f ∷ r ∷ t ∷ []) ∷ a ∷ []) ≡ both t (both r a)
+unfolding conditions
+sets-given true true true a h = both-unit a
+sets-given true true false a h = refl
+sets-given true false true a h = refl
+sets-given true false false a h = refl
+sets-given false r t true h = absurd (true≢false (sym (h refl)))
+sets-given false true true false h = refl
+sets-given false true false false h = refl
+sets-given false false true false h = refl
+sets-given false false false false h = refl
+
+told-given : (c t : Bool) → conditions (true ∷ conditions (c ∷ true ∷ true ∷ t ∷ []) ∷ true ∷ []) ≡ both (conditions (t ∷ true ∷ c ∷ [])) true
+unfolding conditions
+told-given true true = refl
+told-given true false = refl
+told-given false true = refl
+told-given false false = refl
+
+module _ (b : List ℕ) (from c x k : ℕ) where
+  abbrev carried : List View
+  carried = viewsIn b from c
+
+  abbrev message : ℕ → Message
+  message kind = messageBy kind x (viewsIn b from (min c maxViews)) k
+
+  framed : within 1 c maxViews ≡ true → (viewsIn b from (min c maxViews) ≡ carried) × (1 ≤ length carried) × (length carried ≤ maxViews)
+  framed h =
+      let t = within-says 1 c maxViews h in
+      let e : min c maxViews ≡ c = omega (arith, t .1) in
+      let z : length carried ≡ c = length-viewsIn b from c in
+      (ap (viewsIn b from) e, omega (arith, t .0), omega (arith, t .1))
+
+  views-of : (kind : ℕ) → Kind kind → kindFits kind c ≡ true → viewsOf (message kind) ≡ cond (eqb kind 2) carried []
+  unfolding isKnown
+  views-of kind Kind.client h = refl
+  views-of kind Kind.info h = let t = framed h in ap (λ (l : List View). viewsOf (infoOf {M = ℕ} l)) (t .0) ∙ carried-info carried (t .1)
+  views-of kind Kind.registered h = refl
+  views-of kind Kind.told h = refl
+
+  pub message-views : (kind : ℕ) → kindFits kind c ≡ true → viewsOf (message kind) ≡ cond (eqb kind 2) carried []
+  message-views kind h = views-of kind (kind-of-known kind (both-true (isKnown kind) _ h .0)) h
+
+  module _ (views : List View) (n : ℕ) (sets : all (setFits n) views ≡ true) (s : ℕ) where
+    abbrev asked : ℕ → Bool
+    asked kind = conditions (kindFits kind c ∷ entrySound n (entry s (message kind)) ∷ infoListed views (entry s (message kind)) ∷ [])
+
+    abbrev left : ℕ → Bool
+    left kind = cond (eqb kind 2) (both (within 1 c maxViews) (viewsKnown views carried)) true
+
+    info-given : (l : List View) → 1 ≤ length l → length l ≤ maxViews
+        → conditions (true ∷ entrySound n (entry s (infoOf l)) ∷ infoListed views (entry s (infoOf {M = ℕ} l)) ∷ []) ≡ both (ltb s n) (viewsKnown views l)
+    unfolding entrySound isRising
+    info-given [] h m = absurd (omega arith)
+    info-given (v ∷ l) h m =
+        let few : length l + 1 ≤ maxViews = omega arith in
+        rw (le-leb (length l + 1) maxViews few) (sets-given (all (setFits n) (v ∷ l)) _ (ltb s n) (all (listed views) (v ∷ l)) (listed-fit views n sets (v ∷ l)))
+
+    info-asked : (t : Bool) → within 1 c maxViews ≡ t → asked 2 ≡ both (headFits n s 2 k) (left 2)
+    unfolding isKnown headFits conditions
+    info-asked true h =
+        let f = framed h in
+        rw (h, f .0, both-unit (ltb s n)) (info-given carried (f .1) (f .2))
+    info-asked false h = rw (h, both-none (both (ltb s n) true))
+
+    kind-asked : (kind : ℕ) → Kind kind → asked kind ≡ both (headFits n s kind k) (left kind)
+    unfolding isKnown headFits entrySound all
+    kind-asked kind Kind.client = told-given true (ltb s n)
+    kind-asked kind Kind.info = info-asked (within 1 c maxViews) refl
+    kind-asked kind Kind.registered = told-given true (ltb s n)
+    kind-asked kind Kind.told = told-given (within 1 k maxOrdered) (ltb s n)
+
+    pub entry-asked : (kind : ℕ) → asked kind ≡ both (headFits n s kind k) (left kind)
+    unfolding headFits
+    entry-asked kind =
+        ⊎-elim (λ (e : isKnown kind ≡ true). kind-asked kind (kind-of-known kind e))
+        (λ (e : isKnown kind ≡ false).
+        let u : kindFits kind c ≡ false = rw e in
+        stopped _ 0 u ∙ sym (ap (λ (t : Bool). both t (left kind)) (stopped _ 1 e)))
+        (known (isKnown kind))
+
+-- ---- what is left of the head, where the code has asked a part of it
+
+module _ (n s k : ℕ) where
+  head-foreign : (kind : ℕ) → n ≤ s → headFits n s kind k ≡ false
+  unfolding headFits
+  head-foreign kind h = stopped _ 0 (le-ltb s n h)
+
+  head-client : s < n → headFits n s 1 k ≡ true
+  unfolding headFits conditions isKnown
+  head-client h = rw (lt-ltb s n h)
+
+  head-told : s < n → headFits n s 4 k ≡ within 1 k maxOrdered
+  unfolding headFits conditions isKnown
+  head-told h = rw (lt-ltb s n h) (both-unit (within 1 k maxOrdered))
+
+  head-other : (kind : ℕ) → s < n → (kind ≡ 4 → ⊥) → headFits n s kind k ≡ isKnown kind
+  unfolding headFits conditions
+  head-other kind h i = rw (lt-ltb s n h, ne-eqb kind 4 i) (both-unit (isKnown kind))
+
 -- ---- the slot at a place
 
--- as a slot holds it
-abbrev held : ℕ → ℕ → List View → Message
-held k x l = cond (eqb k 1) (client x) (cond (eqb k 2) (infoOf l) (cond (eqb k 3) registered (told x)))
+-- that it is of known kind and fits its places is asked before its views
+fits-first : (a e w v i : Bool) → (both a (cond e w true) ≡ true → i ≡ cond e v true) → both a (cond e (both w v) true) ≡ both (both a (cond e w true)) i
+fits-first false e w v i h = refl
+fits-first true false w v i h = sym (h refl)
+fits-first true true true v i h = sym (h refl)
+fits-first true true false v i h = refl
 
-held-info : (k x : ℕ) (l : List View) → k ≡ 2 → infoOf l ≡ held k x l
-held-info k x l i = rw i
+any-known : (views : List View) (t : Bool) (l : List View) → viewsKnown views (cond t l []) ≡ cond t (viewsKnown views l) true
+any-known views true l = refl
+any-known views false l = known-end views
 
-held-other : (k x : ℕ) (l : List View) → Kind k → (k ≡ 2 → ⊥) → viewsOf (held k x l) ≡ []
-held-other k x l Kind.client i = refl
-held-other k x l Kind.info i = absurd (i refl)
-held-other k x l Kind.registered i = refl
-held-other k x l Kind.told i = refl
+module _ (b : List ℕ) (at : ℕ) where
+  module _ (fits : slotFits b at ≡ true) (views : List View) where
+    slot-known : infoKnown views (entryIn b at) ≡ cond (eqb (kindIn b at) 2) (viewsKnown views (viewsIn b (at + 11) (countIn b at))) true
+    unfolding slotFits messageIn infoIn
+    slot-known =
+        carried-known views (getD b at 0) (messageIn b at)
+        ∙ ap (viewsKnown views) (message-views b (at + 11) (countIn b at) (numberIn b at) (numberIn b at) (kindIn b at) fits)
+        ∙ any-known views (eqb (kindIn b at) 2) (viewsIn b (at + 11) (countIn b at))
 
-module _ (b : List ℕ) (at : ℕ) (fits : slotFits b at ≡ true) where
-  views-other : (kindIn b at ≡ 2 → ⊥) → viewsOf (messageIn b at) ≡ []
-  unfolding slotFits messageIn
-  views-other i =
-      let kind : Kind (kindIn b at) = kind-of-known (kindIn b at) (both-true (isKnown (kindIn b at)) _ fits .0) in
-      held-other (kindIn b at) (numberIn b at) (infoIn b at) kind i
-
-  views-info : kindIn b at ≡ 2 → viewsOf (messageIn b at) ≡ viewsIn b (at + 11) (countIn b at)
-  unfolding messageIn infoIn
-  views-info i =
-      let t = info-count b at 0 fits i in
-      let c = countIn b at in
-      let m : min c maxViews ≡ c = omega (arith, t .1) in
-      let w = viewsIn b (at + 11) c in
-      let z : length w ≡ c = length-viewsIn b (at + 11) c in
-      let f : infoIn b at ≡ w = ap (viewsIn b (at + 11)) m in
-      ap viewsOf (sym (held-info (kindIn b at) (numberIn b at) (infoIn b at) i)) ∙ ap (λ (l : List View). viewsOf (infoOf {M = ℕ} l)) f ∙ carried-info w (omega (arith, t .0))
-
-  module _ (views : List View) where
     pub slot-other : (kindIn b at ≡ 2 → ⊥) → infoKnown views (entryIn b at) ≡ true
-    slot-other i = carried-known views (getD b at 0) (messageIn b at) ∙ ap (viewsKnown views) (views-other i) ∙ known-end views
+    slot-other i = rw (ne-eqb _ _ i) at slot-known
 
     pub slot-info : kindIn b at ≡ 2 → viewsKnown views (viewsIn b (at + 11) (countIn b at)) ≡ infoKnown views (entryIn b at)
-    slot-info i = ap (viewsKnown views) (sym (views-info i)) ∙ sym (carried-known views (getD b at 0) (messageIn b at))
+    slot-info i = sym (rw (eq-eqb _ _ i) at slot-known)
 
-    other-listed : (kindIn b at ≡ 2 → ⊥) → infoListed views (entryIn b at) ≡ true
-    other-listed i = both-true (opensRise (entryIn b at)) _ (slot-other i) .1
+  module _ (views : List View) (n : ℕ) (sets : all (setFits n) views ≡ true) where
+    slot-asked : entryKnown views n b at ≡ both (headFits n (getD b at 0) (kindIn b at) (numberIn b at))
+        (cond (eqb (kindIn b at) 2) (both (within 1 (countIn b at) maxViews) (viewsKnown views (viewsIn b (at + 11) (countIn b at)))) true)
+    unfolding entryKnown slotFits messageIn infoIn
+    slot-asked = entry-asked b (at + 11) (countIn b at) (numberIn b at) (numberIn b at) views n sets (getD b at 0) (kindIn b at)
 
-    info-listed : kindIn b at ≡ 2 → all (listed views) (viewsIn b (at + 11) (countIn b at)) ≡ infoListed views (entryIn b at)
-    info-listed i = ap (all (listed views)) (sym (views-info i)) ∙ sym (carried-listed views (getD b at 0) (messageIn b at))
+    -- of any entry the sender, of a client message no more, of a told its count
 
--- of a client message only the sender is asked
+    pub foreign-known : n ≤ getD b at 0 → entryKnown views n b at ≡ false
+    foreign-known h = rw (slot-asked, head-foreign n (getD b at 0) (numberIn b at) (kindIn b at) h)
 
-held-client : (k x : ℕ) (l : List View) → k ≡ 1 → client x ≡ held k x l
-held-client k x l e = rw e
+    pub client-known : getD b at 0 < n → kindIn b at ≡ 1 → entryKnown views n b at ≡ true
+    client-known h e = rw (slot-asked, e, head-client n (getD b at 0) (numberIn b at) h)
 
-client-fits : (k : ℕ) (t : Bool) → k ≡ 1 → both (isKnown k) (cond (eqb k 2) t true) ≡ true
-unfolding isKnown
-client-fits k t e = rw e
+    pub told-known : getD b at 0 < n → kindIn b at ≡ 4 → entryKnown views n b at ≡ within 1 (numberIn b at) maxOrdered
+    told-known h e = rw (slot-asked, e, head-told n (getD b at 0) (numberIn b at) h) (both-unit _)
 
-sender-asked : (views : List View) (n q x : ℕ) → conditions (true ∷ entrySound n (entry q (client x)) ∷ infoListed views (entry q (client x)) ∷ []) ≡ ltb q n
-unfolding conditions entrySound all
-sender-asked views n q x = rw (both-unit (ltb q n), both-unit (ltb q n))
+    -- of an info that its views rise and are listed, of a registered no more
 
-pub client-known : (views : List View) (n : ℕ) (b : List ℕ) (at : ℕ) → kindIn b at ≡ 1 → entryKnown views n b at ≡ ltb (getD b at 0) n
-unfolding entryKnown slotFits messageIn
-client-known views n b at e =
-    let k = kindIn b at in
-    let c = countIn b at in
-    rw (client-fits k (both (leb 1 c) (leb c maxViews)) e, ← held-client k (numberIn b at) (infoIn b at) e) (sender-asked views n (getD b at 0) (numberIn b at))
-
--- of any entry the sender, and of a told its count
-
-pub foreign-known : (views : List View) (n : ℕ) (b : List ℕ) (at : ℕ) → n ≤ getD b at 0 → entryKnown views n b at ≡ false
-unfolding entryKnown
-foreign-known views n b at h = stopped _ 1 (foreign n (getD b at 0) (messageIn b at) h)
-
-told-fits : (k : ℕ) (t : Bool) → k ≡ 4 → both (isKnown k) (cond (eqb k 2) t true) ≡ true
-unfolding isKnown
-told-fits k t e = rw e
-
-pub told-known : (views : List View) (n : ℕ) (b : List ℕ) (at : ℕ) → getD b at 0 < n → kindIn b at ≡ 4
-    → both (leb 1 (numberIn b at)) (leb (numberIn b at) maxOrdered) ≡ entryKnown views n b at
-unfolding entryKnown slotFits
-told-known views n b at h e =
-    let c = countIn b at in
-    let fits : slotFits b at ≡ true = told-fits (kindIn b at) (both (leb 1 c) (leb c maxViews)) e in
-    let other : kindIn b at ≡ 2 → ⊥ = λ i. omega arith in
-    sym (three _ _ _ ∙ rw (fits, ← entry-told b at n fits h e, other-listed b at fits views other) (both-unit _))
-
--- of an info that its views rise and are listed, of a registered no more
-
-sets-given : (f l a : Bool) → (a ≡ true → f ≡ true) → both l a ≡ both (both f l) a
-sets-given true l a h = refl
-sets-given false l true h = absurd (true≢false (sym (h refl)))
-sets-given false true false h = refl
-sets-given false false false h = refl
-
-module _ (views : List View) (n : ℕ) (sets : all (setFits n) views ≡ true) (b : List ℕ) (at : ℕ) (sender : getD b at 0 < n) (no-told : kindIn b at ≡ 4 → ⊥) where
-  fitting-known : slotFits b at ≡ true → infoKnown views (entryIn b at) ≡ both (entrySound n (entryIn b at)) (infoListed views (entryIn b at))
-  fitting-known fits =
-      ⊎-elim
-      (λ (e : eqb (kindIn b at) 2 ≡ true).
-      let i = eqb-true (kindIn b at) 2 e in
-      let w = viewsIn b (at + 11) (countIn b at) in
-      sym (slot-info b at fits views i) ∙ sets-given (all (setFits n) w) (isRising w) (all (listed views) w) (listed-fit views n sets w)
-      ∙ ap₂ both (entry-info b at n fits sender i) (info-listed b at fits views i))
-      (λ (e : eqb (kindIn b at) 2 ≡ false).
-      let i = eqb-false (kindIn b at) 2 e in
-      slot-other b at fits views i ∙ ap₂ both (entry-other b at n fits sender i no-told) (sym (other-listed b at fits views i)))
-      (known (eqb (kindIn b at) 2))
-
-  pub other-known : both (slotFits b at) (infoKnown views (entryIn b at)) ≡ entryKnown views n b at
-  unfolding entryKnown
-  other-known =
-      ⊎-elim (λ (fits : slotFits b at ≡ true). sym (three _ _ _ ∙ rw fits (sym (fitting-known fits))))
-      (λ (e : slotFits b at ≡ false). ap (λ (t : Bool). both t (infoKnown views (entryIn b at))) e ∙ sym (stopped _ 0 e))
-      (known (slotFits b at))
+    pub other-known : getD b at 0 < n → (kindIn b at ≡ 4 → ⊥) → entryKnown views n b at ≡ both (slotFits b at) (infoKnown views (entryIn b at))
+    unfolding slotFits
+    other-known h i =
+        let c = countIn b at in
+        slot-asked ∙ rw (head-other n (getD b at 0) (numberIn b at) (kindIn b at) h i)
+        (fits-first (isKnown (kindIn b at)) (eqb (kindIn b at) 2) (within 1 c maxViews) (viewsKnown views (viewsIn b (at + 11) c))
+        (infoKnown views (entryIn b at)) (λ f. slot-known f views))

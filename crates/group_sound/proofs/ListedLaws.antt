@@ -19,7 +19,7 @@ use Rattle.wire.proofs.ReaderLaws.{length-viewsIn}
 use Rattle.rules.specs.Member.{all}
 use Rattle.rules.specs.Sound.{listed}
 use Rattle.rules.proofs.TestLaws.{both-from, all-at, all-from, listed-in, listed-from}
-use Rattle.rules.proofs.Truth.{alike, unmet}
+use Rattle.rules.proofs.Truth.{alike, unmet, both-unit}
 use Rattle.group_bytes.specs.Groups.{placeOf}
 use Rattle.group_bytes.proofs.PlaceLaws.{place-id, place-in}
 use Rattle.group_bytes.proofs.PlaceTurns.{in-at, views-at}
@@ -68,6 +68,11 @@ known-from l r h f = both-from (isRising r) (all (listed l) r) h (all-from (list
 
 pub known-end : (l : List View) → viewsKnown l [] ≡ true
 known-end l = known-from l [] (unfold isRising in refl) (λ x i. absurd (in-nil i))
+
+-- one alone rises
+pub known-single : (l : List View) (v : View) → listed l v ≡ viewsKnown l (v ∷ [])
+unfolding isRising risesAbove all
+known-single l v = sym (both-unit (listed l v))
 
 pub known-none : (v : View) (r : List View) → viewsKnown [] (v ∷ r) ≡ false
 known-none v r = unmet (viewsKnown [] (v ∷ r)) (λ t. in-nil (known-says [] (v ∷ r) t .1 v top))

@@ -2,7 +2,7 @@
 use mathlib.Core.Path.{_≡_, refl, ap₂, _∙_}
 use mathlib.Core.Logic.{⊎-elim}
 use mathlib.Core.Bool.{Bool, true, false}
-use mathlib.Core.List.{List, [], _∷_}
+use mathlib.Core.List.{List}
 use Prim.Native.Nat.{ℕ, zero, suc, _+_, _-_, _*_, _<_, _≤_}
 use native.Mathlib.Omega.{arith}
 use borrow.Author.Tests.{eqb-true, eqb-false}
@@ -11,7 +11,7 @@ use Rattle.views.specs.declared.View.{View}
 use Rattle.views.specs.Sets.{both}
 use Rattle.views.proofs.SetLaws.{known}
 use Rattle.rules.specs.Member.{every, all}
-use Rattle.rules.specs.Sound.{conditions, infoListed}
+use Rattle.rules.specs.Sound.{infoListed}
 use Rattle.rules.proofs.TestLaws.{every-from}
 use Rattle.rules.proofs.Truth.{three}
 use Rattle.slots.specs.Slots.{slotSize, entryIn, entriesIn, slotFits, slotsFit}
@@ -61,7 +61,7 @@ module _ (views : List View) (m : ℕ) (q : List ℕ) (at n : ℕ) where
   known-end z = rw z
 
 -- three tests of each are each test of all
-together : (a b c x y z : Bool) → both (both a (both b c)) (both x (both y z)) ≡ both (both a x) (both (both b y) (both c z))
+pub together : (a b c x y z : Bool) → both (both a (both b c)) (both x (both y z)) ≡ both (both a x) (both (both b y) (both c z))
 together false b c x y z = refl
 together true false c false y z = refl
 together true false c true y z = refl

@@ -7,7 +7,7 @@ use Prim.Native.Nat.{ℕ, zero, suc, _+_, _%_, _/_}
 use lib.Dec.{eqb, leb}
 use lib.ListN.{length, getD}
 use Rattle.views.specs.declared.View.{View}
-use Rattle.views.specs.Limits.{maxMembers, maxViews, maxWaiting, maxOrdered}
+use Rattle.views.specs.Limits.{maxMembers, maxViews, maxWaiting}
 use Rattle.views.specs.Sizes.{viewSize}
 use Rattle.views.specs.Sets.{both}
 use Rattle.views.specs.Lists.{idOf, isRising, listOf}
@@ -15,6 +15,7 @@ use Rattle.rules.specs.Data.{Entry}
 use Rattle.rules.specs.Member.{every, all}
 use Rattle.rules.specs.Sound.{within, conditions, setFits, opensRise, listed, listedIf, infoListed}
 use Rattle.slots.specs.Slots.{slotSize, entryIn, queueIn, slotFits, slotsFit}
+use Rattle.slots.specs.Columns.{entriesOrdered, orderFits}
 use Rattle.book_bytes.specs.declared.Record.{Record}
 use Rattle.book_bytes.specs.Places.{membersAt, selfAt}
 use Rattle.book_bytes.specs.Records.{seated, recordIn}
@@ -88,21 +89,29 @@ unfoldable pub entriesKnown : List View → ℕ → List ℕ → ℕ → ℕ →
 entriesKnown views n q at zero = true
 entriesKnown views n q at (suc k) = both (entryKnown views n q at) (entriesKnown views n q (at + slotSize) k)
 
--- the queue with its count at c
-unfoldable pub queueSound : List View → ℕ → List ℕ → ℕ → ℕ → Bool
-queueSound views n q limit c = conditions (
-    leb (getD q c 0) limit
+-- what waits for a member, with its count at c
+unfoldable pub queueSound : List View → ℕ → List ℕ → ℕ → Bool
+queueSound views n q c = conditions (
+    leb (getD q c 0) maxWaiting
     ∷ slotsFit q (c + 1) (getD q c 0)
     ∷ all (entrySound n) (queueIn q c (c + 1))
     ∷ all (infoListed views) (queueIn q c (c + 1))
     ∷ [])
 
+-- the order with its count at c
+unfoldable pub orderSound : List View → ℕ → List ℕ → ℕ → Bool
+orderSound views n q c = conditions (
+    orderFits q c
+    ∷ all (entrySound n) (entriesOrdered q c)
+    ∷ all (infoListed views) (entriesOrdered q c)
+    ∷ [])
+
 -- what waits in the view at place i, and all its queues
 unfoldable pub waitingSound : List View → ℕ → List ℕ → ℕ → Bool
-waitingSound views n q i = every n (λ p. queueSound views n q maxWaiting (waitingAt i p))
+waitingSound views n q i = every n (λ p. queueSound views n q (waitingAt i p))
 
 unfoldable pub tableSound : List View → ℕ → List ℕ → ℕ → Bool
-tableSound views n q i = both (queueSound views n q maxOrdered (orderAt i)) (waitingSound views n q i)
+tableSound views n q i = both (orderSound views n q (orderAt i)) (waitingSound views n q i)
 
 -- the list, the books and the queues
 unfoldable pub recordsSound : List View → ℕ → List ℕ → List ℕ → Bool

@@ -1,6 +1,7 @@
 // Whether three ranges are a sound group: refusal 4 of the group. Only what is used is looked at, where it lies.
 mod listed;
 mod members;
+mod orders;
 mod tables;
 
 use views::limits;

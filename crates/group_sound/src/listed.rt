@@ -17,7 +17,7 @@ ghost use Rattle.book_bytes.specs.Records.{seated, seatIn, recordIn};
 ghost use Rattle.group_sound.specs.Parts.{viewsKnown, infoKnown, recordListed};
 
 // The view at a place.
-fn view_listed(list: &[u8], b: &[u8], made: u8, at: usize) -> bool
+pub fn view_listed(list: &[u8], b: &[u8], made: u8, at: usize) -> bool
     requires { ⌜ (viewSize * made ≤ length (now list)) × (at + viewSize ≤ length (now b))
         × (isRising (viewsIn (now list) 0 made) ≡ true) ⌝ }
     ensures { λ r. ⌜ r ≡ listed (viewsIn (now (list .entry)) 0 made) (viewIn (now (b .entry)) at) ⌝ }
@@ -32,7 +32,7 @@ fn view_listed(list: &[u8], b: &[u8], made: u8, at: usize) -> bool
 
 // The views from a place on, one or more, rise and each is listed: as both lists rise, one walk along the list meets
 // them all.
-fn views_known(list: &[u8], b: &[u8], made: u8, from: usize, count: usize) -> bool
+pub fn views_known(list: &[u8], b: &[u8], made: u8, from: usize, count: usize) -> bool
     requires { ⌜ (viewSize * made ≤ length (now list)) × (from + viewSize * count ≤ length (now b))
         × (isRising (viewsIn (now list) 0 made) ≡ true) × (0 < count) ⌝ }
     ensures { λ r. ⌜ r ≡ viewsKnown (viewsIn (now (list .entry)) 0 made) (viewsIn (now (b .entry)) from count) ⌝ }

@@ -1,4 +1,4 @@
-// The queues of the views made: each view's order, and what waits in it for each member. An entry is looked at once.
+// The queues of the views made: each view's order, and what waits in it for each member.
 use views::limits;
 use wire::format;
 ghost use mathlib.Core.Bool.{true};
@@ -12,7 +12,7 @@ ghost use Rattle.views.specs.Sets.{both};
 ghost use Rattle.wire.specs.Reader.{viewsIn};
 ghost use Rattle.rules.specs.Member.{every};
 ghost use Rattle.slots.specs.Slots.{slotSize, entryIn, slotFits};
-ghost use Rattle.group_bytes.specs.Places.{orderAt};
+ghost use Rattle.group_bytes.specs.Places.{orderAt, waitingSize};
 ghost use Rattle.group_sound.specs.Parts.{listSound, infoKnown, entryKnown, entriesKnown, queueSound};
 ghost use Rattle.group_sound.specs.Parts.{waitingSound, tableSound};
 
@@ -65,13 +65,13 @@ fn entries_known(list: &[u8], q: &[u8], made: u8, at: usize, count: usize, n: u8
     true
 }
 
-// The queue with its count at a place.
-fn queue_sound(list: &[u8], q: &[u8], made: u8, at: usize, limit: u8, n: u8) -> bool
-    requires { ⌜ (viewSize * made ≤ length (now list)) × (at + 1 + slotSize * limit ≤ length (now q))
+// What waits for a member, with its count at a place.
+fn queue_sound(list: &[u8], q: &[u8], made: u8, at: usize, n: u8) -> bool
+    requires { ⌜ (viewSize * made ≤ length (now list)) × (at + waitingSize ≤ length (now q))
         × (listSound n (viewsIn (now list) 0 made) ≡ true) ⌝ }
-    ensures { λ r. ⌜ r ≡ queueSound (viewsIn (now (list .entry)) 0 made) n (now (q .entry)) limit at ⌝ }
+    ensures { λ r. ⌜ r ≡ queueSound (viewsIn (now (list .entry)) 0 made) n (now (q .entry)) at ⌝ }
 {
-    if limit < q[at] {
+    if limits::WAITING < q[at] {
         return false;
     }
     entries_known(list, q, made, at + 1, q[at] as usize, n)
@@ -86,14 +86,7 @@ fn waiting_sound(list: &[u8], q: &[u8], made: u8, i: usize, n: u8) -> bool
     let from = group_bytes::HEAD + group_bytes::TABLE * i + group_bytes::ORDER;
     let mut p: u8 = 0;
     while p < n {
-        if !queue_sound(
-            list,
-            q,
-            made,
-            from + group_bytes::WAITING * (p as usize),
-            limits::WAITING,
-            n,
-        ) {
+        if !queue_sound(list, q, made, from + group_bytes::WAITING * (p as usize), n) {
             return false;
         }
         p += 1;
@@ -108,7 +101,7 @@ fn table_sound(list: &[u8], q: &[u8], made: u8, i: usize, n: u8) -> bool
     ensures { λ r. ⌜ r ≡ tableSound (viewsIn (now (list .entry)) 0 made) n (now (q .entry)) i ⌝ }
 {
     let at = group_bytes::HEAD + group_bytes::TABLE * i;
-    if !queue_sound(list, q, made, at, limits::ORDERED, n) {
+    if !crate::orders::order_sound(list, q, made, at, n) {
         return false;
     }
     waiting_sound(list, q, made, i, n)

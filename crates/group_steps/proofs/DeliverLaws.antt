@@ -11,6 +11,7 @@ use Rattle.views.specs.declared.View.{View}
 use Rattle.views.specs.declared.refusal.Refusal.the-variants.{NoSuchMember, NoCarrierView, NoneToDeliver}
 use Rattle.views.specs.declared.refusal.Verdict.the-variants.{Refused}
 use Rattle.views.specs.Limits.{maxViews, maxMembers, maxOrdered}
+use Rattle.views.specs.Sizes.{viewSize}
 use Rattle.views.specs.Lists.{idOf}
 use Rattle.views.specs.Refusals.{left}
 use Rattle.wire.specs.declared.Message.{Message as Carried}
@@ -21,18 +22,16 @@ use Rattle.rules.specs.Member.{does, delivered}
 use Rattle.rules.specs.Alone.{messageOf}
 use Rattle.rules.specs.Group.{booked, takeFrom, deliverStep}
 use Rattle.rules.proofs.Sound.{sound-says}
-use Rattle.slots.specs.Slots.{slotSize, kindIn, numberIn, messageIn, entriesIn, slotFits}
-use Rattle.slots.specs.FrameParts.{framed, carriedAt, messageAt}
-use Rattle.slots.proofs.Lists.{length-entries, entries-next, slots-at}
-use Rattle.slots.proofs.CodeLaws.{fits-framed}
-use Rattle.slots.proofs.Frames.{EntryOk, info-framed, message-at}
+use Rattle.slots.specs.Slots.{kindFits}
+use Rattle.slots.specs.Columns.{orderSize, orderSender, orderKind, orderCount, orderViews, orderMessage, entriesOrdered}
+use Rattle.slots.specs.FrameParts.{orderFramed, orderCarried}
+use Rattle.slots.proofs.Orders.{length-order, order-next, order-message, order-framed, order-info}
 use Rattle.book_bytes.specs.Places.{membersAt, carrierAt, takenAt, bookSize}
 use Rattle.book_bytes.specs.Records.{seatIn, recordIn}
 use Rattle.book_bytes.specs.Books.{bookIn, bytesSound}
 use Rattle.events.specs.declared.Reply.{Reply}
 use Rattle.events.specs.Replies.{noEvent, replied, replyOf, verdictOf}
 use Rattle.book_steps.specs.Acts.{taking, takeBytes}
-use Rattle.book_steps.proofs.MeansTake.{toldOf}
 use Rattle.group_bytes.specs.Places.{bookBytes, orderAt}
 use Rattle.group_bytes.specs.Groups.{Ranges, membersOf, madeOf, viewsMade, placeOf, groupIn, rangesSound}
 use Rattle.group_bytes.specs.Moves.{deliverRanges}
@@ -48,42 +47,38 @@ use Rattle.group_steps.proofs.Rows.{ranged, group-sound}
 use Rattle.group_steps.specs.VisitParts.{delivering, Delivered}
 use Rattle.group_steps.proofs.JoinLaws.{desk-of, of-member}
 
--- ---- a told's number is a byte
+-- ---- an entry of an order as it was loaded, its views from `at` on
 
-told-number : (b : List ℕ) (at : ℕ) → toldOf (messageIn b at) < 256 → kindIn b at ≡ 4 → numberIn b at < 256
-unfolding messageIn
-told-number b at h e = rw e at h
+module _ (queues : List ℕ) (c k : ℕ) (fits : kindFits (getD queues (orderKind c k) 0) (getD queues (orderCount c k) 0) ≡ true)
+    (w : Carried) (loaded : w ≡ orderCarried queues c k) (n : ℕ) (counted : n ≡ orderFramed queues c k) (at : ℕ) (place : at ≡ orderViews c k) where
+  pub entry-asks : c + orderSize ≤ length queues → k < maxOrdered → (at + viewSize * n ≤ length queues) × (n ≤ maxViews) × (w ≡ Info → 1 ≤ n)
+  entry-asks inside low =
+      let few : n ≤ maxViews = rw counted (order-framed queues c k fits) in
+      (omega arith, few, λ i. rw counted (order-info queues c k fits (sym loaded ∙ i)))
 
--- ---- an entry as it was loaded from its slot
-
-pub entry-asks : (queues : List ℕ) (at : ℕ) (w : Carried) (n : ℕ) → slotFits queues at ≡ true → at + slotSize ≤ length queues → w ≡ carriedAt queues at
-    → n ≡ framed queues at → (at + 11 + 5 * n ≤ length queues) × (n ≤ maxViews) × (w ≡ Info → 1 ≤ n)
-entry-asks queues at w n fits inside e f =
-    let few : n ≤ maxViews = rw f (fits-framed queues at fits) in
-    (omega arith, few, λ i. rw f (info-framed queues at fits (sym e ∙ i)))
+  -- a byte for the count is enough: then it is the message that the order has
+  pub entry-is : getD queues (orderCount c k) 0 < 256 → messageOf w (viewsIn queues at n) ≡ orderMessage queues c k
+  entry-is byte = (λ i. messageOf (loaded i) (viewsIn queues (place i) (counted i))) ∙ order-message queues c k byte fits
 
 -- ---- the part of the books that is the member's book
 
-module _ (books : List ℕ) (p : Member) (there : p < getD books membersAt 0) (m : ℕ) (size : m ≡ bookSize) where
+module _ (books : List ℕ) (p : Member) (there : p < getD books membersAt 0) (n : ℕ) (size : n ≡ bookSize) where
   abbrev part : List ℕ
-  part = take m (drop (bookSize * p) books)
+  part = take n (drop (bookSize * p) books)
 
   pub part-asks : HasBook books p → (q : Member) → q < maxMembers → getD (bookBytes books p) takenAt 0 < maxOrdered → getD (bookBytes books p) carrierAt 0 ≡ 1
       → (bytesSound part ≡ true) × (getD part takenAt 0 < maxOrdered) × (getD part carrierAt 0 ≡ 1) × (q < maxMembers)
   unfolding bookBytes
   part-asks desk q from room carrier = rw size (desk .sound there, room, carrier, from)
 
-  -- the message as it was loaded from the slot
-  pub part-taken : (queues : List ℕ) (at q : ℕ) (w : Carried) (n : ℕ) → w ≡ carriedAt queues at → n ≡ framed queues at → (x : Reply) (c exit : List ℕ)
-      → (x ≡ replyOf (taking q (messageOf w (viewsIn queues (at + 11) n)) (bookIn part)))
-      × (c ≡ left (verdictOf (taking q (messageOf w (viewsIn queues (at + 11) n)) (bookIn part))) (takeBytes q (messageOf w (viewsIn queues (at + 11) n)) part) part)
-      → exit ≡ take (bookSize * p) books ++ (c ++ drop m (drop (bookSize * p) books))
-      → OwnStep p (ofMember books p (λ b. taking q (messageAt queues at) (bookIn b))) (takeBytes q (messageAt queues at)) books exit x
-  part-taken queues at q w n e f x c exit y z =
-      let k = messageOf w (viewsIn queues (at + 11) n) in
-      let is : k ≡ messageAt queues at = λ i. messageOf (e i) (viewsIn queues (at + 11) (f i)) in
+  -- under another name of the message
+  pub part-taken : (q : Member) (z m : Message) → z ≡ m → (x : Reply) (c exit : List ℕ)
+      → (x ≡ replyOf (taking q z (bookIn part))) × (c ≡ left (verdictOf (taking q z (bookIn part))) (takeBytes q z part) part)
+      → exit ≡ take (bookSize * p) books ++ (c ++ drop n (drop (bookSize * p) books))
+      → OwnStep p (ofMember books p (λ b. taking q m (bookIn b))) (takeBytes q m) books exit x
+  part-taken q z m is x c exit y e =
       subst (λ (z : Message). OwnStep p (ofMember books p (λ b. taking q z (bookIn b))) (takeBytes q z) books exit x) is
-      (desk-done books p (λ b. taking q k (bookIn b)) (takeBytes q k) x there m size c exit y z)
+      (desk-done books p (λ b. taking q z (bookIn b)) (takeBytes q z) x there n size c exit y e)
 
   pub part-seat : seatIn part carrierAt ≡ seatIn (bookBytes books p) carrierAt
   unfolding bookBytes
@@ -137,9 +132,15 @@ module _ (r : Ranges) (p : Member) where
           let known = sound-says (groupIn r) (group-sound r s) .book p member .carrier-known v carrier-some in
           omega (arith, place-in v (viewsMade r) known, length-made r)
 
-      -- what is left of its order
+      -- its order, and what is left of it
+      abbrev o : ℕ
+      o = orderAt i
+
+      abbrev k : ℕ
+      k = getD b takenAt 0
+
       abbrev ahead : List Entry
-      ahead = drop (getD b takenAt 0) (entriesIn (r .queues) (orderAt i + 1) (getD (r .queues) (orderAt i) 0))
+      ahead = drop k (entriesOrdered (r .queues) o)
 
       by-first : delivering r p ≡ withFirst ahead NoneToDeliver (λ e rest. accepted (record { state = booked (groupIn r) p (takeFrom e B); answer = ok }))
       unfolding deliverStep withView groupIn
@@ -148,64 +149,52 @@ module _ (r : Ranges) (p : Member) where
       pub deliver-none : getD (r .queues) (orderAt i) 0 ≤ getD b takenAt 0 → (x : Reply) → x ≡ replied (Refused NoneToDeliver) noEvent → Delivered r p (r .books) x
       unfolding withFirst replied left
       deliver-none h x e =
-          let l = entriesIn (r .queues) (orderAt i + 1) (getD (r .queues) (orderAt i) 0) in
-          let t : ahead ≡ [] = drop-of-length-le l {i = getD b takenAt 0} (omega (arith, length-entries (r .queues) (orderAt i + 1) (getD (r .queues) (orderAt i) 0))) in
+          let t : ahead ≡ [] = drop-of-length-le (entriesOrdered (r .queues) o) {i = k} (omega (arith, length-order (r .queues) o)) in
           record { reply = rw (by-first, t) e; taken = rw (by-first, t) }
 
       module _ (bytes : RangesBytes r) (more : getD b takenAt 0 < getD (r .queues) (orderAt i) 0) where
-        -- where the next entry stands
-        abbrev here : ℕ
-        here = orderAt i + 1 + slotSize * getD b takenAt 0
-
+        -- the next entry
         abbrev q : Member
-        q = getD (r .queues) here 0
+        q = getD (r .queues) (orderSender o k) 0
 
         abbrev m : Message
-        m = messageIn (r .queues) here
+        m = orderMessage (r .queues) o k
 
         by-next : delivering r p ≡ accepted (record { state = booked (groupIn r) p (delivered q m B); answer = ok })
         unfolding withFirst
-        by-next = by-first ∙ rw (entries-next (r .queues) (orderAt i + 1) (getD (r .queues) (orderAt i) 0) (getD b takenAt 0) more)
+        by-next = by-first ∙ rw (order-next (r .queues) o k more)
 
         takes : Takes r p q m
         unfolding recordIn
         takes = deliver-takes r (ranged r s) bytes (group-sound r s) p member _ (sym by-rule ∙ by-next)
 
-        entry-ok : EntryOk (r .queues) here
-        entry-ok = record {
-          fits = slots-at (r .queues) (orderAt i + 1) (getD (r .queues) (orderAt i) 0) (getD b takenAt 0) more (ranged r s .tables i carrier-made .order .slots);
-          told = told-number (r .queues) here (takes .count);
-        }
-
         -- what the code asks of the entry
-        pub take-asks : (at : ℕ) → at ≡ here
-            → HasBook (r .books) p × (p < membersOf r) × (at + slotSize ≤ length (r .queues)) × (slotFits (r .queues) at ≡ true) × (getD (r .queues) at 0 < maxMembers)
+        pub take-asks : (c n : ℕ) → c ≡ orderAt i → n ≡ getD b takenAt 0
+            → HasBook (r .books) p × (p < membersOf r) × (c + orderSize ≤ length (r .queues)) × (n < maxOrdered)
+            × (kindFits (getD (r .queues) (orderKind c n) 0) (getD (r .queues) (orderCount c n) 0) ≡ true) × (getD (r .queues) (orderSender c n) 0 < maxMembers)
             × (getD b takenAt 0 < maxOrdered) × (getD b carrierAt 0 ≡ 1)
-        take-asks at e =
+        take-asks c n e f =
             let fits = ranged r s in
-            rw e (
+            rw (e, f) (
               desk-of r s p,
               member,
-              omega (arith, order-inside r fits i carrier-made, fits .tables i carrier-made .order .few),
-              entry-ok .fits,
+              order-inside r fits i carrier-made,
+              takes .room,
+              fits .tables i carrier-made .order .kinds k more,
               omega (arith, takes .sender, fits .members .1),
               takes .room,
               takes .there,
             )
 
-        in-book : (n : Message) → n ≡ m → ofMember (r .books) p (λ c. taking q n (bookIn c)) ≡ does ok (delivered q m B)
-        in-book n e =
-            of-member (r .books) p _ member ∙ rw (e, ← book-is r (ranged r s) p member) (takes-accepted r p q m takes)
+        in-book : ofMember (r .books) p (λ c. taking q m (bookIn c)) ≡ does ok (delivered q m B)
+        in-book = of-member (r .books) p _ member ∙ rw (← book-is r (ranged r s) p member) (takes-accepted r p q m takes)
 
-        done : (n : Message) → n ≡ m → (exit : List ℕ) (x : Reply)
-            → OwnStep p (ofMember (r .books) p (λ c. taking q n (bookIn c))) (takeBytes q n) (r .books) exit x → Delivered r p exit x
+        done : (exit : List ℕ) (x : Reply) → OwnStep p (ofMember (r .books) p (λ c. taking q m (bookIn c))) (takeBytes q m) (r .books) exit x → Delivered r p exit x
         unfolding deliverRanges recordIn left
-        done n e exit x y =
-            let k = in-book n e in
-            record { reply = rw by-next (y .reply ∙ ap replyOf k); taken = rw by-next (y .books ∙ rw (k, e)) }
+        done exit x y = record { reply = rw by-next (y .reply ∙ ap replyOf in-book); taken = rw by-next (y .books ∙ rw in-book) }
 
-        pub deliver-done : (at : ℕ) → at ≡ here → (exit : List ℕ) (x : Reply)
-            → OwnStep p (ofMember (r .books) p (λ c. taking (getD (r .queues) at 0) (messageAt (r .queues) at) (bookIn c)))
-            (takeBytes (getD (r .queues) at 0) (messageAt (r .queues) at)) (r .books) exit x
+        pub deliver-done : (c n : ℕ) → c ≡ orderAt i → n ≡ getD b takenAt 0 → (exit : List ℕ) (x : Reply)
+            → OwnStep p (ofMember (r .books) p (λ b. taking (getD (r .queues) (orderSender c n) 0) (orderMessage (r .queues) c n) (bookIn b)))
+            (takeBytes (getD (r .queues) (orderSender c n) 0) (orderMessage (r .queues) c n)) (r .books) exit x
             → Delivered r p exit x
-        deliver-done at e exit x y = done _ (message-at (r .queues) here entry-ok) exit x (rw e at y)
+        deliver-done c n e f exit x y = done exit x (rw (e, f) at y)

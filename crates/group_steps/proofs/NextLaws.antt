@@ -10,15 +10,15 @@ use Rattle.views.specs.declared.refusal.Refusal.the-variants.{NoneToDeliver}
 use Rattle.views.specs.declared.refusal.Verdict.the-variants.{Refused}
 use Rattle.views.specs.Limits.{maxMembers, maxOrdered}
 use Rattle.rules.specs.Data.{Member}
-use Rattle.slots.specs.Slots.{slotSize, slotFits}
-use Rattle.slots.specs.FrameParts.{messageAt}
+use Rattle.slots.specs.Slots.{kindFits}
+use Rattle.slots.specs.Columns.{orderSize, orderSender, orderKind, orderCount, orderMessage}
 use Rattle.book_bytes.specs.Places.{carrierAt, takenAt, bookSize}
 use Rattle.book_bytes.specs.Records.{seatIn}
 use Rattle.book_bytes.specs.Books.{bookIn}
 use Rattle.events.specs.declared.Reply.{Reply}
 use Rattle.events.specs.Replies.{noEvent, replied}
 use Rattle.book_steps.specs.Acts.{taking, takeBytes}
-use Rattle.group_bytes.specs.Places.{bookBytes, orderSize, orderAt}
+use Rattle.group_bytes.specs.Places.{bookBytes, orderAt}
 use Rattle.group_bytes.specs.Groups.{Ranges, membersOf, viewsMade, placeOf, rangesSound}
 use Rattle.group_bytes.proofs.RangesLaws.{RangesBytes}
 use Rattle.group_bytes.proofs.BookBytes.{book-byte}
@@ -54,18 +54,16 @@ module _ (r : Ranges) (p : Member) (s : rangesSound r ≡ true) (member : p < me
   next-none h x e = deliver-none r p s member there (omega (arith, at-count, at-taken)) x e
 
   module _ (bytes : RangesBytes r) (more : k < getD (r .queues) c 0) where
-    abbrev at : ℕ
-    at = c + 1 + slotSize * k
-
     ahead : getD (bookBytes (r .books) p) takenAt 0 < getD (r .queues) (orderAt i) 0
     ahead = omega (arith, at-count, at-taken)
 
-    pub next-asks : HasBook (r .books) p × (p < membersOf r) × (at + slotSize ≤ length (r .queues)) × (slotFits (r .queues) at ≡ true) × (getD (r .queues) at 0 < maxMembers)
+    pub next-asks : HasBook (r .books) p × (p < membersOf r) × (c + orderSize ≤ length (r .queues)) × (k < maxOrdered)
+        × (kindFits (getD (r .queues) (orderKind c k) 0) (getD (r .queues) (orderCount c k) 0) ≡ true) × (getD (r .queues) (orderSender c k) 0 < maxMembers)
         × (getD (bookBytes (r .books) p) takenAt 0 < maxOrdered) × (getD (bookBytes (r .books) p) carrierAt 0 ≡ 1)
-    next-asks = take-asks r p s member there bytes ahead at (omega (arith, at-order, at-taken))
+    next-asks = take-asks r p s member there bytes ahead c k at-order at-taken
 
     pub next-done : (exit : List ℕ) (x : Reply)
-        → OwnStep p (ofMember (r .books) p (λ b. taking (getD (r .queues) at 0) (messageAt (r .queues) at) (bookIn b)))
-        (takeBytes (getD (r .queues) at 0) (messageAt (r .queues) at)) (r .books) exit x
+        → OwnStep p (ofMember (r .books) p (λ b. taking (getD (r .queues) (orderSender c k) 0) (orderMessage (r .queues) c k) (bookIn b)))
+        (takeBytes (getD (r .queues) (orderSender c k) 0) (orderMessage (r .queues) c k)) (r .books) exit x
         → Delivered r p exit x
-    next-done exit x y = deliver-done r p s member there bytes ahead at (omega (arith, at-order, at-taken)) exit x y
+    next-done exit x y = deliver-done r p s member there bytes ahead c k at-order at-taken exit x y

@@ -16,8 +16,8 @@ ghost use Rattle.views.specs.Limits.{maxViews, maxMembers, maxOrdered};
 ghost use Rattle.views.specs.Sizes.{viewSize};
 ghost use Rattle.views.specs.Lists.{isRising};
 ghost use Rattle.wire.specs.Reader.{viewsIn};
-ghost use Rattle.slots.specs.Slots.{slotSize, slotFits};
-ghost use Rattle.slots.specs.FrameParts.{messageAt};
+ghost use Rattle.slots.specs.Slots.{kindFits};
+ghost use Rattle.slots.specs.Columns.{orderSize, orderSender, orderKind, orderCount, orderMessage};
 ghost use Rattle.book_bytes.specs.Places.{membersAt, carrierAt, takenAt};
 ghost use Rattle.book_bytes.specs.Books.{bookIn};
 ghost use Rattle.book_bytes.specs.Records.{seatIn};
@@ -39,24 +39,28 @@ fn order_of(list: &[u8], queues: &[u8], g: ViewId) -> usize
     group_bytes::order_at(i)
 }
 
-// The member p takes the entry in the slot at a place; an info's views stay where they lie.
-fn take_at(all: &mut [u8], queues: &[u8], p: Member, at: usize) -> Reply
-    requires { ⌜ HasBook (now all) (p .0) × (p .0 < getD (now all) membersAt 0) × (at + slotSize ≤ length (now queues))
-        × (slotFits (now queues) at ≡ true)
-        × (getD (now queues) at 0 < maxMembers) × (getD (bookBytes (now all) (p .0)) takenAt 0 < maxOrdered)
+// The member p takes entry k of the order at c; an info's views stay where they lie.
+fn take_at(all: &mut [u8], queues: &[u8], p: Member, c: usize, k: usize) -> Reply
+    requires { ⌜ HasBook (now all) (p .0) × (p .0 < getD (now all) membersAt 0)
+        × (c + orderSize ≤ length (now queues)) × (k < maxOrdered)
+        × (kindFits (getD (now queues) (orderKind c k) 0) (getD (now queues) (orderCount c k) 0) ≡ true)
+        × (getD (now queues) (orderSender c k) 0 < maxMembers)
+        × (getD (bookBytes (now all) (p .0)) takenAt 0 < maxOrdered)
         × (getD (bookBytes (now all) (p .0)) carrierAt 0 ≡ 1) ⌝ }
     ensures { λ r. ⌜ OwnStep (p .0) (ofMember (now (all .entry)) (p .0)
-        (λ b. taking (getD (now (queues .entry)) at 0) (messageAt (now (queues .entry)) at) (bookIn b)))
-        (takeBytes (getD (now (queues .entry)) at 0) (messageAt (now (queues .entry)) at))
+        (λ b. taking (getD (now (queues .entry)) (orderSender c k) 0) (orderMessage (now (queues .entry)) c k)
+        (bookIn b)))
+        (takeBytes (getD (now (queues .entry)) (orderSender c k) 0) (orderMessage (now (queues .entry)) c k))
         (now (all .entry)) (now (all .exit)) r ⌝ }
 {
-    let sender = Member(queues[at]);
-    let message = slots::load_message(queues, at);
-    let n = slots::carried(queues, at);
+    let sender = Member(queues[c + slots::order::SENDERS + k]);
+    let message = slots::order::load_message(queues, c, k);
+    let n = slots::order::carried(queues, c, k);
     let x = Entry { sender, message };
     let a = book_bytes::SIZE * (p.0 as usize);
     let e = a + book_bytes::SIZE;
-    book_steps::messages::deliver(&mut all[a..e], x, queues, at + slots::VIEWS, n)
+    let at = c + slots::order::VIEWS + slots::order::CARRIED * k;
+    book_steps::messages::deliver(&mut all[a..e], x, queues, at, n)
 }
 
 // The member p takes the next message of its carrier view, which has the identifier g.
@@ -74,7 +78,7 @@ fn next(list: &[u8], all: &mut [u8], queues: &[u8], p: Member, g: ViewId) -> Rep
     if queues[c] <= k {
         return events::refuse(Refusal::NoneToDeliver);
     }
-    take_at(all, queues, p, c + 1 + slots::SLOT * (k as usize))
+    take_at(all, queues, p, c, k as usize)
 }
 
 // The member p takes the next message of its carrier view's order.

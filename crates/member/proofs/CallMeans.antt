@@ -22,7 +22,7 @@ use Rattle.rules.specs.Sound.{countFits}
 use Rattle.rules.specs.Alone.{Sent, sentOf, bookSound, alone, joinAlone, passAlone, deliverAlone, attemptAlone}
 use Rattle.rules.proofs.TestLaws.{within-says, conditions-say}
 use Rattle.rules.proofs.Alone.Readable.{Carries, reading-readable, reading-fits}
-use Rattle.slots.proofs.Stored.{MessageFits}
+use Rattle.slots.proofs.Stored.{MessageFits, toldOf}
 use Rattle.book_bytes.specs.Places.{takenAt}
 use Rattle.book_bytes.specs.Records.{recordIn}
 use Rattle.book_bytes.specs.Books.{bookIn, bytesSound, membersIn, selfIn}
@@ -33,7 +33,7 @@ use Rattle.book_steps.proofs.Means.{Means}
 use Rattle.book_steps.proofs.MeansSpeak.{register-means, send-means, tell-means}
 use Rattle.book_steps.proofs.MeansMarks.{hand-means, safe-means, collect-means}
 use Rattle.book_steps.proofs.MeansJoin.{join-means, attempt-means, pass-means}
-use Rattle.book_steps.proofs.MeansTake.{toldOf, take-means}
+use Rattle.book_steps.proofs.MeansTake.{take-means}
 use Rattle.member.specs.Calls.{Gave, joinCall, passCall, takenBytes, deliverCall, deliverBytes, attemptCall, registerCall, sendCall, handCall, tellCall, safeCall, collectCall}
 use Rattle.member.proofs.CallLaws.{need-gave, called-gave}
 use Rattle.member.proofs.ArriveLaws.{carrier-mark, sender-small}

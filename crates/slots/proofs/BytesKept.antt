@@ -12,8 +12,8 @@ use Rattle.wire.specs.Format.{viewBytes, viewsBytes}
 use Rattle.wire.proofs.TripViews.{EachFits, AreBytes}
 use Rattle.rules.specs.Data.{Message, client, info, registered, told}
 use Rattle.rules.specs.Alone.{viewsOf}
-use Rattle.slots.specs.Slots.{slotSize, itemSize}
-use Rattle.slots.specs.Changes.{storeShort, storeInfo, storeMessage, pushed, moved, popped, gained}
+use Rattle.slots.specs.Slots.{slotSize}
+use Rattle.slots.specs.Changes.{storeShort, storeInfo, storeMessage, pushed, moved, popped}
 use Rattle.wire.specs.Writer.{storeView, storeViews}
 
 -- the set of every view of a list is a byte; past the end stands the zero view
@@ -110,7 +110,7 @@ storeMessage-bytes b at q (info v l) y h s few = storeInfo-bytes b at q (v ∷ l
 storeMessage-bytes b at q registered y h s few = storeShort-bytes b at q 3 0 y h (omega arith)
 storeMessage-bytes b at q (told k) y h s few = storeShort-bytes b at q 4 k y h (omega arith)
 
--- ---- queues and inward lists
+-- ---- queues
 
 pub pushed-bytes : (b : List ℕ) (c s q : ℕ) (m : Message) → AreBytes b → q < 256 → SetsAreBytes (viewsOf m) → length (viewsOf m) ≤ maxViews
     → getD b c 0 < 255 → AreBytes (pushed b c s q m)
@@ -127,10 +127,3 @@ unfolding popped
 popped-bytes b c s y =
     let n = slotSize * (getD b c 0 - 1) in
     set-bytes (moved b (s + slotSize) s n) c (getD b c 0 - 1) (moved-bytes b (s + slotSize) s n y) (omega (arith, y c))
-
-pub gained-bytes : (b : List ℕ) (c q x : ℕ) → AreBytes b → q < 256 → getD b c 0 < 255 → AreBytes (gained b c q x)
-unfolding gained
-gained-bytes b c q x y h room =
-    let place = c + 1 + itemSize * getD b c 0 in
-    let sent = set b place q in
-    set-bytes (put sent (place + 1) 8 x) c (getD b c 0 + 1) (put-bytes sent (place + 1) 8 x (set-bytes b place q y h)) (omega arith)

@@ -1,28 +1,20 @@
 -- What the code works in steps, put together: bytes that go one at a time, an info stored part by part, a frame loaded part by part.
 use mathlib.Core.Path.{_≡_, sym, ap, _∙_}
-use mathlib.Core.Bool.{Bool, true, false, cond}
 use mathlib.Core.Logic.{_⊎_, inl, ⊎-elim}
 use mathlib.Core.List.{List, [], _∷_, append-assoc}
 use Prim.Native.Nat.{ℕ, suc, _+_, _*_, _%_, _<_, _≤_}
 use native.Mathlib.Numerals.{add-one}
 use native.Mathlib.Omega.{arith}
-use borrow.Author.Tests.{eq-eqb, ne-eqb, leb-true}
-use lib.Dec.{eqb, leb}
-use Rattle.views.specs.Sets.{both}
-use Rattle.wire.specs.Format.{isKnown}
+use borrow.Author.Tests.{eq-eqb, ne-eqb}
 use lib.ListN.{length, getD, set, take, drop, length-drop, take-append-drop}
 use lib.Seq.{paste-suc, getD-drop}
 use Rattle.views.specs.declared.View.{View}
-use Rattle.views.proofs.SetLaws.{both-true}
-use Rattle.views.specs.declared.list.Views.{Views}
-use Rattle.views.specs.Limits.{maxViews, maxOpen}
-use Rattle.views.specs.Lists.{placed}
-use Rattle.wire.specs.declared.Message.{Message}
+use Rattle.views.specs.Limits.{maxOpen}
 use Rattle.wire.specs.Format.{viewsBytes}
-use Rattle.wire.specs.Reader.{viewIn, viewsIn, messageOf}
-use Rattle.slots.specs.Slots.{slotSize, kindIn, numberIn, countIn, slotFits}
+use Rattle.wire.specs.Reader.{viewIn, viewsIn}
+use Rattle.slots.specs.Slots.{slotSize, kindIn, countIn}
 use Rattle.slots.specs.Changes.{moved, storeInfo}
-use Rattle.slots.specs.FrameParts.{framed, frameAt}
+use Rattle.slots.specs.FrameParts.{framed}
 use Rattle.wire.specs.Writer.{storeView, storeViews}
 use Rattle.wire.proofs.ReaderLaws.{length-viewsIn}
 use Rattle.wire.proofs.TripViews.{AreBytes, views-again}
@@ -48,7 +40,7 @@ module _ (b : List ℕ) (from to n i : ℕ) (clear : (to ≤ from) ⊎ (from + n
 -- ---- an info copied
 
 -- bytes that go as they stand store the views that are read there
-views-moved : (b : List ℕ) (from to n : ℕ) → AreBytes b → from + 5 * n ≤ length b → moved b from to (5 * n) ≡ storeViews b to (viewsIn b from n)
+pub views-moved : (b : List ℕ) (from to n : ℕ) → AreBytes b → from + 5 * n ≤ length b → moved b from to (5 * n) ≡ storeViews b to (viewsIn b from n)
 unfolding storeViews
 views-moved b from to n y h =
     rw (views-again b from n h y, length-viewsIn b from n) (append-assoc (take to b) (take (5 * n) (drop from b)) (drop (to + 5 * n) b))
@@ -117,17 +109,3 @@ framed-info b at n k e = rw (eq-eqb _ _ k) e
 
 pub framed-other : (b : List ℕ) (at n : ℕ) → (kindIn b at ≡ 2 → ⊥) → n ≡ 0 → n ≡ framed b at
 framed-other b at n k e = rw (ne-eqb _ _ k) e
-
-pub frame-loaded : (b : List ℕ) (at g n x : ℕ) (m : Message) (l : Views) → n ≡ framed b at → x ≡ numberIn b at
-    → m ≡ messageOf (kindIn b at) x → l ≡ placed (viewsIn b (at + 11) n)
-    → record { view = record { 0 = g }; message = m; views = l } ≡ frameAt b at g
-unfolding frameAt
-frame-loaded b at g n x m l p q r s = rw (r, s, p, q)
-
-few-framed : (info : Bool) (n : ℕ) → cond info (both (leb 1 n) (leb n maxViews)) true ≡ true → cond info n 0 ≤ maxViews
-few-framed false n e = omega arith
-few-framed true n e = leb-true n maxViews (both-true (leb 1 n) (leb n maxViews) e .1)
-
-pub fits-framed : (b : List ℕ) (at : ℕ) → slotFits b at ≡ true → framed b at ≤ maxViews
-unfolding slotFits
-fits-framed b at e = few-framed (eqb (kindIn b at) 2) (countIn b at) (both-true (isKnown (kindIn b at)) _ e .1)

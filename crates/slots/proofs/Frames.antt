@@ -21,7 +21,7 @@ use Rattle.wire.proofs.TripMessages.{both-first, both-second, Kind, kind-of-kno
 use Rattle.rules.specs.Data.{Message, client, info, registered, told}
 use Rattle.rules.specs.Alone.{viewsOf, carriedOf, messageOf as whole, messageBytes, infoOf}
 use Rattle.slots.specs.Slots.{kindIn, numberIn, countIn, infoIn, messageIn, slotFits}
-use Rattle.slots.specs.FrameParts.{framed, carriedAt, messageAt, frameAt}
+use Rattle.slots.specs.FrameParts.{framed, carriedAt, frameAt}
 
 -- the slot at a place can be sent as it stands: it fits, and a told's number is a byte, as the frame's is
 pub record EntryOk (b : List ℕ) (at : ℕ) : Type 0 where
@@ -84,24 +84,7 @@ few-framed k n h Kind.info = h refl
 few-framed k n h Kind.registered = omega arith
 few-framed k n h Kind.told = omega arith
 
--- an info has at least one
-some-framed : (k x n : ℕ) → (k ≡ 2 → 1 ≤ n) → Kind k → messageOf k x ≡ Info → 1 ≤ cond (eqb k 2) n 0
-unfolding messageOf
-some-framed k x n h Kind.client e = let z : _≡_ {A = ℕ} 0 1 = cc in absurd (omega arith)
-some-framed k x n h Kind.info e = h refl
-some-framed k x n h Kind.registered e = let z : _≡_ {A = ℕ} 0 1 = cc in absurd (omega arith)
-some-framed k x n h Kind.told e = let z : _≡_ {A = ℕ} 0 1 = cc in absurd (omega arith)
-
-pub info-framed : (b : List ℕ) (at : ℕ) → slotFits b at ≡ true → carriedAt b at ≡ Info → 1 ≤ framed b at
-info-framed b at fits e = some-framed (kindIn b at) (numberIn b at) (countIn b at) (λ i. slot-count b at fits i .0) (slot-kind b at fits) e
-
 -- ---- the message as it is loaded
-
-carried-whole : (m : Message) → whole (carriedOf m) (viewsOf m) ≡ m
-carried-whole (client x) = refl
-carried-whole (info v l) = refl
-carried-whole registered = refl
-carried-whole (told k) = refl
 
 module _ (b : List ℕ) (at : ℕ) (ok : EntryOk b at) where
   kind : Kind (kindIn b at)
@@ -118,9 +101,6 @@ module _ (b : List ℕ) (at : ℕ) (ok : EntryOk b at) where
   -- its number, where it lies
   pub number-at : LiesAt (carriedAt b at) b (at + 2)
   number-at = number-lies b (at + 2) (kindIn b at) kind (ok .told)
-
-  pub message-at : messageAt b at ≡ messageIn b at
-  message-at = ap₂ whole carried-at views-at ∙ carried-whole (messageIn b at)
 
 -- ---- the frame
 

@@ -2,7 +2,12 @@ pub mod Same
 pub mod Outside
 pub mod Stored
 pub mod Lists
+pub mod Columns
+pub mod OrderEntries
+pub mod Orders
+pub mod Items
 pub mod Queues
 pub mod Frames
 pub mod CodeLaws
+pub mod OrderCode
 pub mod BytesKept

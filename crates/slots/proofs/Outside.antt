@@ -18,9 +18,9 @@ use Rattle.wire.specs.Reader.{viewIn, viewsIn}
 use Rattle.wire.proofs.SeamLaws.{length-viewsBytes}
 use Rattle.rules.specs.Data.{Message, client, info, registered, told}
 use Rattle.rules.specs.Alone.{viewsOf}
-use Rattle.slots.specs.Slots.{slotSize, entriesIn, queueIn, itemSize, itemsIn, slotsFit}
+use Rattle.slots.specs.Slots.{slotSize, entriesIn, slotsFit}
 use Rattle.slots.specs.Changes.{storeShort, storeInfo, storeMessage}
-use Rattle.slots.proofs.Same.{byte-same, view-same, views-same, entries-same, slots-same, items-same}
+use Rattle.slots.proofs.Same.{view-same, views-same, entries-same, slots-same}
 use Rattle.wire.specs.Writer.{storeView, storeViews}
 
 -- d is b with nothing changed but within the n bytes at `at`
@@ -69,9 +69,6 @@ module _ {b d : List ℕ} {at n : ℕ} (x : Changed b d at n) (from : ℕ) where
   pub slots-apart : (k : ℕ) → Apart at n from (slotSize * k) → slotsFit d from k ≡ slotsFit b from k
   slots-apart k a = slots-same d b from from k (apart-same (slotSize * k) a)
 
-  pub items-apart : (k : ℕ) → Apart at n from (itemSize * k) → itemsIn d from k ≡ itemsIn b from k
-  items-apart k a = items-same d b from from k (apart-same (itemSize * k) a)
-
 -- ---- a change of a count and of what it counts
 
 -- d is b with nothing changed but the byte at c and within the n bytes at s
@@ -90,12 +87,6 @@ queue-changed {b} {w} {d} {c} {s} {n} x y = record {
     count j e = elim (decLt j c) [ yes h ↦ y .below j h | no h ↦ y .past j (omega arith) ]
 
 module _ {b d : List ℕ} {c s n : ℕ} (x : QueueChanged b d c s n) where
-  pub queue-within : (from k : ℕ) → from ≤ s → s + n ≤ from + k → QueueChanged b d c from k
-  queue-within from k l h = record {
-    long = x .long;
-    outside = λ j e a. x .outside j e (⊎-elim (λ (m : j < from). inl (omega arith)) (λ (m : from + k ≤ j). inr (omega arith)) a);
-  }
-
   -- a range with the count and all that is counted
   pub queue-whole : (from k : ℕ) → from ≤ c → c < from + k → from ≤ s → s + n ≤ from + k → Changed b d from k
   queue-whole from k lc hc ls hs = record {
@@ -103,25 +94,6 @@ module _ {b d : List ℕ} {c s n : ℕ} (x : QueueChanged b d c s n) where
     below = λ j h. x .outside j (λ e. omega arith) (inl (omega arith));
     past = λ j h. x .outside j (λ e. omega arith) (inr (omega arith));
   }
-
-  -- bytes apart from both are as before
-  pub queue-apart-same : (from k : ℕ) → Apart c 1 from k → Apart s n from k → Same d from b from k
-  queue-apart-same from k a e j l =
-      x .outside (from + j)
-      (λ z. ⊎-elim (λ (h : from + k ≤ c). omega arith) (λ (h : c + 1 ≤ from). omega arith) a)
-      (⊎-elim (λ (h : from + k ≤ s). inl (omega arith)) (λ (h : s + n ≤ from). inr (omega arith)) e)
-
-  -- so is another queue, with its count at a and its slots from `from` on
-  module _ (a from : ℕ) (counts : Apart c 1 a 1) (count : Apart s n a 1) where
-    pub count-apart : getD d a 0 ≡ getD b a 0
-    count-apart = byte-same d b a a 1 (omega arith) (queue-apart-same a 1 counts count)
-
-    module _ (ahead : Apart c 1 from (slotSize * getD b a 0)) (slots : Apart s n from (slotSize * getD b a 0)) where
-      pub queue-apart : queueIn d a from ≡ queueIn b a from
-      queue-apart = rw count-apart (entries-same d b from from (getD b a 0) (queue-apart-same from (slotSize * getD b a 0) ahead slots))
-
-      pub fits-apart : slotsFit d from (getD d a 0) ≡ slotsFit b from (getD b a 0)
-      fits-apart = rw count-apart (slots-same d b from from (getD b a 0) (queue-apart-same from (slotSize * getD b a 0) ahead slots))
 
 -- ---- a byte and a number
 

@@ -1,22 +1,21 @@
--- Queues and inward lists in bytes: a push appends, a pop drops the first, a gain appends an item. Each changes its count and its own slots alone.
+-- Queues in bytes: a push appends, a pop drops the first. Each changes its count and its own slots alone.
 use mathlib.Core.Path.{_≡_, sym, ap, ap₂, _∙_}
 use mathlib.Core.Bool.{true}
 use mathlib.Core.Logic.{inr}
 use mathlib.Core.List.{List, [], _∷_, _++_}
-use Prim.Native.Nat.{ℕ, suc, _+_, _-_, _*_, _^_, _≤_, _<_}
+use Prim.Native.Nat.{ℕ, suc, _+_, _-_, _*_, _≤_, _<_}
 use native.Mathlib.Omega.{arith}
-use lib.ListN.{length, getD, set, drop, length-set}
+use lib.ListN.{length, getD, set, drop}
 use lib.Seq.{getD-set-same}
-use Rattle.numbers.specs.Number.{put}
-use Rattle.numbers.proofs.NumberLaws.{Same, put-below, get-put-same}
+use Rattle.numbers.proofs.NumberLaws.{Same}
 use Rattle.wire.proofs.TripMessages.{both-second}
-use Rattle.rules.specs.Data.{Message, Entry, entry, Item, item}
-use Rattle.slots.specs.Slots.{slotSize, entriesIn, queueIn, itemSize, itemIn, itemsIn, slotFits, slotsFit}
-use Rattle.slots.specs.Changes.{storeMessage, pushed, moved, popped, gained}
-use Rattle.slots.proofs.Same.{entry-same, slot-same, entries-same, slots-same, items-same}
-use Rattle.slots.proofs.Outside.{Changed, QueueChanged, changed-within, changed-then, apart-same, get-apart, queue-changed, set-changed, put-changed, copy-changed, copy-same, storeMessage-changed}
+use Rattle.rules.specs.Data.{Message, Entry, entry}
+use Rattle.slots.specs.Slots.{slotSize, entriesIn, queueIn, slotFits, slotsFit}
+use Rattle.slots.specs.Changes.{storeMessage, pushed, moved, popped}
+use Rattle.slots.proofs.Same.{entry-same, slot-same, entries-same, slots-same}
+use Rattle.slots.proofs.Outside.{Changed, QueueChanged, apart-same, queue-changed, set-changed, copy-changed, copy-same, storeMessage-changed}
 use Rattle.slots.proofs.Stored.{MessageFits, entry-stored, slot-stored}
-use Rattle.slots.proofs.Lists.{entries-snoc, slots-snoc, items-snoc}
+use Rattle.slots.proofs.Lists.{entries-snoc, slots-snoc}
 
 -- ---- a push
 
@@ -130,45 +129,3 @@ module _ (b : List ℕ) (c s : ℕ) (below : c < s) (some : 0 < getD b c 0) (roo
 
   pub pop-fits : slotsFit b s (getD b c 0) ≡ true → slotsFit (popped b c s) s (getD (popped b c s) c 0) ≡ true
   pop-fits e = rw pop-count (slots-same (popped b c s) b s (s + slotSize) left pop-same ∙ slots-rest b s (getD b c 0) some e)
-
--- ---- a gain
-
-module _ (b : List ℕ) (c q x : ℕ) (fits : x < 256 ^ 8) (room : c + 1 + itemSize * (getD b c 0 + 1) ≤ length b) where
-  abbrev place : ℕ
-  place = c + 1 + itemSize * getD b c 0
-
-  abbrev sent : List ℕ
-  sent = set b place q
-
-  abbrev stored : List ℕ
-  stored = put sent (place + 1) 8 x
-
-  gain-place : Changed b stored place itemSize
-  gain-place =
-      changed-then (changed-within place itemSize (omega arith) (omega arith) (set-changed b place q))
-      (changed-within place itemSize (omega arith) (omega arith) (put-changed sent (place + 1) 8 x))
-
-  gain-set : Changed stored (gained b c q x) c 1
-  unfolding gained
-  gain-set = set-changed stored c (getD b c 0 + 1)
-
-  pub gain-changed : QueueChanged b (gained b c q x) c (c + 1 + itemSize * getD b c 0) itemSize
-  gain-changed = queue-changed gain-place gain-set
-
-  pub gain-count : getD (gained b c q x) c 0 ≡ getD b c 0 + 1
-  unfolding gained
-  gain-count = getD-set-same stored c (getD b c 0 + 1) 0 (omega (arith, gain-place .long))
-
-  gain-old : Same (gained b c q x) (c + 1) b (c + 1) (itemSize * getD b c 0)
-  gain-old j h = gain-set .past (c + 1 + j) (omega arith) ∙ gain-place .below (c + 1 + j) (omega arith)
-
-  gain-new : itemIn (gained b c q x) place ≡ item q x
-  gain-new =
-      ap₂ (λ (p y : ℕ). item p y)
-      (gain-set .past place (omega arith) ∙ put-below sent (place + 1) 8 x place (omega arith) ∙ getD-set-same b place q 0 (omega arith))
-      (get-apart gain-set (place + 1) 8 (inr (omega arith)) ∙ get-put-same sent (place + 1) 8 x (omega (arith, length-set b place q)) fits)
-
-  pub gain-appends : itemsIn (gained b c q x) (c + 1) (getD b c 0 + 1) ≡ itemsIn b (c + 1) (getD b c 0) ++ (item q x ∷ [])
-  gain-appends =
-      items-snoc (gained b c q x) (c + 1) (getD b c 0)
-      ∙ ap₂ (λ (l : List (Item ℕ)) (e : Item ℕ). l ++ (e ∷ [])) (items-same (gained b c q x) b (c + 1) (c + 1) (getD b c 0) gain-old) gain-new

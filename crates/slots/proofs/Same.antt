@@ -1,4 +1,4 @@
--- What is read depends on its own bytes alone: the same bytes there, the same view, entry or item here.
+-- What is read depends on its own bytes alone: the same bytes there, the same view or entry here.
 use mathlib.Core.Path.{_≡_, refl, ap₂}
 use mathlib.Core.Bool.{Bool}
 use mathlib.Core.List.{List, _∷_}
@@ -11,8 +11,8 @@ use Rattle.views.specs.declared.View.{View}
 use Rattle.views.specs.Limits.{maxViews}
 use Rattle.views.specs.Sets.{both}
 use Rattle.wire.specs.Reader.{viewIn, viewsIn}
-use Rattle.rules.specs.Data.{Entry, entry, Item, item}
-use Rattle.slots.specs.Slots.{slotSize, numberIn, countIn, infoIn, messageIn, entryIn, entriesIn, itemSize, itemIn, itemsIn, slotFits, slotsFit}
+use Rattle.rules.specs.Data.{Entry, entry}
+use Rattle.slots.specs.Slots.{slotSize, numberIn, countIn, infoIn, messageIn, entryIn, entriesIn, slotFits, slotsFit}
 
 module _ (b c : List ℕ) where
   -- a part of the same bytes
@@ -81,19 +81,3 @@ module _ (b c : List ℕ) where
       ap₂ (λ (x y : Bool). both x y)
       (slot-same at to (same-front at to (slotSize * suc n) slotSize (omega arith) s))
       (slots-same (at + slotSize) (to + slotSize) n (same-part at to (slotSize * suc n) slotSize (slotSize * n) (omega arith) s))
-
-  -- ---- items
-
-  pub item-same : (at to : ℕ) → Same b at c to itemSize → itemIn b at ≡ itemIn c to
-  item-same at to s =
-      ap₂ (λ (q x : ℕ). item q x)
-      (byte-same at to itemSize (omega arith) s)
-      (get-same b c (at + 1) (to + 1) 8 (same-part at to itemSize 1 8 (omega arith) s))
-
-  pub items-same : (at to n : ℕ) → Same b at c to (itemSize * n) → itemsIn b at n ≡ itemsIn c to n
-  unfolding itemsIn
-  items-same at to zero s = refl
-  items-same at to (suc n) s =
-      ap₂ (λ (e : Item ℕ) (l : List (Item ℕ)). e ∷ l)
-      (item-same at to (same-front at to (itemSize * suc n) itemSize (omega arith) s))
-      (items-same (at + itemSize) (to + itemSize) n (same-part at to (itemSize * suc n) itemSize (itemSize * n) (omega arith) s))

@@ -46,6 +46,13 @@ registered-fits = record { number = omega arith; few = omega arith; ids = λ j. 
 pub told-fits : (k : ℕ) → k < 256 ^ 8 → MessageFits (told k)
 told-fits k h = record { number = h; few = omega arith; ids = λ j. omega arith }
 
+-- the count that a message tells, 0 for none
+abbrev pub toldOf : Message → ℕ
+toldOf (client x) = 0
+toldOf (info v l) = 0
+toldOf registered = 0
+toldOf (told k) = k
+
 -- ---- views
 
 pub view-stored : (b : List ℕ) (at : ℕ) (v : View) → idOf v < 256 ^ 4 → at + 5 ≤ length b → viewIn (storeView b at v) at ≡ v

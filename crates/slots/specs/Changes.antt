@@ -8,7 +8,9 @@ use Rattle.views.specs.declared.View.{View}
 use Rattle.views.specs.Sizes.{numberSize}
 use Rattle.wire.specs.Format.{clientKind, infoKind, registeredKind, toldKind}
 use Rattle.rules.specs.Data.{Message, client, info, registered, told}
-use Rattle.slots.specs.Slots.{slotSize, itemSize, slotKind, slotNumber, slotCount, slotViews, itemNumber}
+use Rattle.slots.specs.Slots.{slotSize, slotKind, slotNumber, slotCount, slotViews}
+use Rattle.slots.specs.Columns.{itemSender, itemNumber, orderSender, orderKind, orderCount, orderNumber}
+use Rattle.slots.specs.Columns.{orderViews}
 use Rattle.wire.specs.Writer.{storeViews}
 
 -- a message from q with a kind and a number, stored in the slot at a place
@@ -39,8 +41,22 @@ moved b from to n = paste b to (drop from b) n
 unfoldable pub popped : List ℕ → ℕ → ℕ → List ℕ
 popped b c s = set (moved b (s + slotSize) s (slotSize * (getD b c 0 - 1))) c (getD b c 0 - 1)
 
--- the inward list with its count at c and its items from c + 1 on gains an item at its end
+-- the inward list at c gains an item at its end
 unfoldable pub gained : List ℕ → ℕ → ℕ → ℕ → List ℕ
 gained b c q x =
-    set (put (set b (c + 1 + itemSize * getD b c 0) q) (c + 1 + itemSize * getD b c 0 + itemNumber) numberSize x) c
-    (getD b c 0 + 1)
+    let k = getD b c 0 in set (put (set b (itemSender c k) q) (itemNumber c k) numberSize x) c (k + 1)
+
+-- entry k of the order at c is a message of q: its sender and its kind are written, and what its kind has
+unfoldable pub storeHead : List ℕ → ℕ → ℕ → ℕ → ℕ → List ℕ
+storeHead b c k q kind = set (set b (orderSender c k) q) (orderKind c k) kind
+
+unfoldable pub storeOrdered : List ℕ → ℕ → ℕ → ℕ → Message → List ℕ
+storeOrdered b c k q (client x) = put (storeHead b c k q clientKind) (orderNumber c k) numberSize x
+storeOrdered b c k q (info v l) =
+    storeViews (set (storeHead b c k q infoKind) (orderCount c k) (length (v ∷ l))) (orderViews c k) (v ∷ l)
+storeOrdered b c k q registered = storeHead b c k q registeredKind
+storeOrdered b c k q (told x) = set (storeHead b c k q toldKind) (orderCount c k) x
+
+-- the order at c gains a message of q at its end
+unfoldable pub ordered : List ℕ → ℕ → ℕ → Message → List ℕ
+ordered b c q m = set (storeOrdered b c (getD b c 0) q m) c (getD b c 0 + 1)

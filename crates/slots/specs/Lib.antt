@@ -1,3 +1,4 @@
 pub mod Slots
+pub mod Columns
 pub mod Changes
 pub mod FrameParts

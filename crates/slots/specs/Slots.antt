@@ -1,6 +1,6 @@
--- Queue entries and inward items as bytes: what stands at a place. A queue is a count byte and slots of one size; only
--- the first slots, as many as the count says, are used.
-use mathlib.Core.Bool.{Bool, true, false, cond}
+-- Queue entries as bytes, by rows: what stands at a place. A queue is a count byte and slots of one size; only the
+-- first slots, as many as the count says, are used.
+use mathlib.Core.Bool.{Bool, true, cond}
 use mathlib.Core.List.{List, [], _∷_}
 use Prim.Native.Nat.{ℕ, zero, suc, _+_, _*_, min}
 use lib.Dec.{eqb, leb}
@@ -12,7 +12,7 @@ use Rattle.views.specs.Sizes.{viewSize, numberSize}
 use Rattle.views.specs.Sets.{both}
 use Rattle.wire.specs.Format.{isKnown, clientKind, infoKind, registeredKind}
 use Rattle.wire.specs.Reader.{viewsIn}
-use Rattle.rules.specs.Data.{Message, client, registered, told, Entry, entry, Item, item}
+use Rattle.rules.specs.Data.{Message, client, registered, told, Entry, entry}
 use Rattle.rules.specs.Alone.{infoOf}
 
 -- ---- an entry: sender 1 byte, kind 1, number 8, count of views 1, 32 places for views of 5
@@ -44,12 +44,15 @@ countIn b at = getD b (at + slotCount) 0
 unfoldable pub infoIn : List ℕ → ℕ → List View
 infoIn b at = viewsIn b (at + slotViews) (min (countIn b at) maxViews)
 
--- told for any other kind
+-- the message of a kind: of a client its number, of an info its views, of a told its count; told for any other kind
+abbrev pub messageBy : ℕ → ℕ → List View → ℕ → Message
+messageBy kind x l k =
+    cond (eqb kind clientKind) (client x)
+    (cond (eqb kind infoKind) (infoOf l)
+    (cond (eqb kind registeredKind) registered (told k)))
+
 unfoldable pub messageIn : List ℕ → ℕ → Message
-messageIn b at =
-    cond (eqb (kindIn b at) clientKind) (client (numberIn b at))
-    (cond (eqb (kindIn b at) infoKind) (infoOf (infoIn b at))
-    (cond (eqb (kindIn b at) registeredKind) registered (told (numberIn b at))))
+messageIn b at = messageBy (kindIn b at) (numberIn b at) (infoIn b at) (numberIn b at)
 
 abbrev pub entryIn : List ℕ → ℕ → Entry
 entryIn b at = entry (getD b at 0) (messageIn b at)
@@ -63,27 +66,14 @@ entriesIn b at (suc n) = entryIn b at ∷ entriesIn b (at + slotSize) n
 abbrev pub queueIn : List ℕ → ℕ → ℕ → List Entry
 queueIn b c s = entriesIn b s (getD b c 0)
 
--- ---- an inward item: sender 1 byte, entry number 8
-
-abbrev pub itemNumber : ℕ
-itemNumber = 1
-
-abbrev pub itemSize : ℕ
-itemSize = itemNumber + numberSize
-
-abbrev pub itemIn : List ℕ → ℕ → Item ℕ
-itemIn b at = item (getD b at 0) (get b (at + itemNumber) numberSize)
-
-unfoldable pub itemsIn : List ℕ → ℕ → ℕ → List (Item ℕ)
-itemsIn b at zero = []
-itemsIn b at (suc n) = itemIn b at ∷ itemsIn b (at + itemSize) n
-
 -- ---- what only bytes can hold: an entry of unknown kind, an info's count beyond its places
 
+-- an entry of a kind, with n views where it is an info
+abbrev pub kindFits : ℕ → ℕ → Bool
+kindFits kind n = both (isKnown kind) (cond (eqb kind infoKind) (both (leb 1 n) (leb n maxViews)) true)
+
 unfoldable pub slotFits : List ℕ → ℕ → Bool
-slotFits b at =
-    both (isKnown (kindIn b at))
-    (cond (eqb (kindIn b at) infoKind) (both (leb 1 (countIn b at)) (leb (countIn b at) maxViews)) true)
+slotFits b at = kindFits (kindIn b at) (countIn b at)
 
 unfoldable pub slotsFit : List ℕ → ℕ → ℕ → Bool
 slotsFit b at zero = true

@@ -1,5 +1,8 @@
-// Queue entries and inward items in lent bytes, worked on in place. The places are given by whoever lays the records
-// out, and each function asks that what it touches lies within the bytes.
+// Queue entries in lent bytes, worked on in place: by rows here, and by columns in orders and inward lists. The places
+// are given by whoever lays the records out, and each function asks that what it touches lies within the bytes.
+pub mod inward;
+pub mod order;
+
 use views::Member;
 use views::limits;
 use views::sizes;
@@ -12,8 +15,8 @@ ghost use lib.ListN.{length, getD};
 ghost use Rattle.views.specs.Limits.{maxOpen};
 ghost use Rattle.views.specs.Sizes.{viewSize};
 ghost use Rattle.wire.specs.Reader.{viewIn, viewsIn};
-ghost use Rattle.slots.specs.Changes.{moved, storeShort, storeInfo, popped, gained};
-ghost use Rattle.slots.specs.Slots.{slotSize, itemSize, slotFits};
+ghost use Rattle.slots.specs.Changes.{moved, storeShort, storeInfo, popped};
+ghost use Rattle.slots.specs.Slots.{slotSize, slotFits};
 ghost use Rattle.slots.specs.FrameParts.{framed, carriedAt};
 
 // Where the parts of an entry stand in its slot, behind the sender: its kind, its number, the count of its views, and
@@ -28,12 +31,6 @@ pub const VIEWS: usize = COUNT + 1;
 
 // Bytes of an entry's slot.
 pub const SLOT: usize = VIEWS + sizes::VIEW * limits::VIEWS;
-
-// Where the entry number of an inward item stands, behind its sender.
-pub const ITEM_NUMBER: usize = 1;
-
-// Bytes of an inward item.
-pub const ITEM: usize = ITEM_NUMBER + sizes::NUMBER;
 
 // The n bytes at `from` go to `to`: down, or up to where none of them stands.
 pub fn move_bytes(b: &mut [u8], from: usize, to: usize, n: usize)
@@ -81,18 +78,6 @@ pub fn pop(b: &mut [u8], c: usize, s: usize)
     let n = b[c] as usize;
     move_bytes(b, s + SLOT, s, SLOT * (n - 1));
     b[c] = ((n - 1) % 256) as u8;
-}
-
-// The inward list with its count at c gains an item at its end.
-pub fn gain(b: &mut [u8], c: usize, q: Member, x: u64)
-    requires { ⌜ (getD (now b) c 0 < 255) × (c + 1 + itemSize * (getD (now b) c 0 + 1) ≤ length (now b)) ⌝ }
-    ensures { λ _. ⌜ now (b .exit) ≡ gained (now (b .entry)) c (q .0) x ⌝ }
-{
-    let n = b[c];
-    let at = c + 1 + ITEM * (n as usize);
-    b[at] = q.0;
-    numbers::put_number(b, at + ITEM_NUMBER, sizes::NUMBER, x);
-    b[c] = n + 1;
 }
 
 // The slot has an entry of known kind, with its views in their places.

@@ -6,7 +6,7 @@ use Rattle.rules.proofs.Truth.{stopped}
 use Rattle.book_bytes.specs.Places.{sideAt}
 use Rattle.book_bytes.specs.Books.{bytesSound}
 use Rattle.book_bytes.proofs.LayoutLaws.{layout-says}
-use Rattle.book_sound.proofs.Whole.{record-stops, record-passes}
+use Rattle.book_sound.proofs.Whole.{record-members, record-stops, record-passes}
 use borrow.Author.Needs.{needs}
 use Rattle.book_sound.proofs.sound.Statement.{statement}
 use Rattle.book_sound.proofs.sound.Tie as tie
@@ -59,7 +59,8 @@ returns-2 c =
 queues-sound-requires : tie.Need-queues-sound-requires
 queues-sound-requires c κs =
     let early = c .before .before .before .before .before .before in
-    sym (early .before .layout-fits .ensures) ∙ not-false _ (early .if1 .left)
+    let fits = sym (early .before .layout-fits .ensures) ∙ not-false _ (early .if1 .left) in
+    (fits, record-members (early .before .before .before .args .b .now) fits (sym (c .before .record-sound .ensures) ∙ not-false _ (c .if2 .left)))
 
 returns-3 : tie.Need-returns-3
 returns-3 c =

@@ -8,30 +8,23 @@ ghost use mathlib.Core.Path.{_≡_};
 ghost use Prim.Native.Nat.{_+_, _*_, _≤_, _<_};
 ghost use lib.ListN.{length, getD};
 ghost use mathlib.Core.Bool.{true};
-ghost use Rattle.slots.specs.Slots.{slotSize};
-ghost use Rattle.slots.specs.Changes.{popped};
-ghost use Rattle.group_bytes.specs.Moves.{slotAdded};
+ghost use Rattle.views.specs.Limits.{maxOrdered};
+ghost use Rattle.wire.specs.Format.{toldKind};
+ghost use Rattle.slots.specs.Slots.{slotSize, slotFits, kindIn, numberIn, messageIn};
+ghost use Rattle.slots.specs.Columns.{orderSize};
+ghost use Rattle.slots.specs.Changes.{popped, ordered};
 ghost use Rattle.group_bytes.specs.Groups.{rangesSound};
 ghost use Rattle.group_steps.specs.CarrierParts.{Ordered};
 
-// The slot at a place goes to the end of the queue at c, which lies below it.
-fn append(q: &mut [u8], c: usize, at: usize)
-    requires { ⌜ (c + 1 + slotSize * (getD (now q) c 0 + 1) ≤ at) × (getD (now q) c 0 < 255)
-        × (at + slotSize ≤ length (now q)) ⌝ }
-    ensures { λ _. ⌜ now (q .exit) ≡ slotAdded (now (q .entry)) c (now (q .entry)) at ⌝ }
-{
-    let n = q[c];
-    slots::move_bytes(q, at, c + 1 + slots::SLOT * (n as usize), slots::SLOT);
-    q[c] = n + 1;
-}
-
-// The first entry of the queue at w goes to the end of the queue at c, which lies below it.
+// The first entry of the queue at w goes to the end of the order at c, which lies below it.
 fn forward(q: &mut [u8], c: usize, w: usize)
-    requires { ⌜ (c + 1 + slotSize * (getD (now q) c 0 + 1) ≤ w) × (getD (now q) c 0 < 255) × (0 < getD (now q) w 0)
-        × (w + 1 + slotSize * getD (now q) w 0 ≤ length (now q)) ⌝ }
-    ensures { λ _. ⌜ now (q .exit) ≡ popped (slotAdded (now (q .entry)) c (now (q .entry)) (w + 1)) w (w + 1) ⌝ }
+    requires { ⌜ (c + orderSize ≤ w) × (getD (now q) c 0 < maxOrdered) × (0 < getD (now q) w 0)
+        × (w + 1 + slotSize * getD (now q) w 0 ≤ length (now q)) × (slotFits (now q) (w + 1) ≡ true)
+        × (kindIn (now q) (w + 1) ≡ toldKind → numberIn (now q) (w + 1) < 256) ⌝ }
+    ensures { λ _. ⌜ now (q .exit) ≡ popped (ordered (now (q .entry)) c (getD (now (q .entry)) (w + 1) 0)
+        (messageIn (now (q .entry)) (w + 1))) w (w + 1) ⌝ }
 {
-    append(q, c, w + 1);
+    slots::order::append(q, c, w + 1);
     slots::pop(q, w, w + 1);
 }
 

@@ -1,35 +1,37 @@
--- `book_sound::entries_at::items_sound` meets its contract: the items before the i-th are from members, so the answer is that of the rest.
-use mathlib.Core.Path.{_≡_, sym, _∙_}
-use Prim.Native.Nat.{_+_, _-_, _*_, _≤_}
+-- `book_sound::entries_at::items_sound` meets its contract: the highest of the senders before the i-th item is a member where each of them is.
+use mathlib.Core.Path.{_≡_, ap, _∙_}
+use mathlib.Core.Logic.{⊎-elim}
+use Prim.Native.Nat.{ℕ, _-_, _≤_}
 use native.Mathlib.Omega.{arith}
-use borrow.Author.Tests.{lt-ltb, le-ltb}
-use Rattle.rules.specs.Member.{all}
-use Rattle.rules.specs.Sound.{itemFromMember}
-use Rattle.slots.specs.Slots.{itemSize, itemsIn}
-use Rattle.book_sound.proofs.EntryWalks.{items-start, items-turn, items-end}
+use lib.Dec.{ltb}
+use lib.ListN.{getD}
+use Rattle.book_sound.proofs.EntryWalks.{sendersBelow, senders-start, senders-above, senders-among, senders-end}
 use Rattle.book_sound.proofs.entries_at.items_sound.Statement.{statement}
 use Rattle.book_sound.proofs.entries_at.items_sound.Tie as tie
 
 abbrev Inv-loop : tie.InvT-loop
-Inv-loop b at count n i₀ i = (i ≤ count) × (all (itemFromMember n) (itemsIn b at count) ≡ all (itemFromMember n) (itemsIn b (at + itemSize * i) (count - i)))
+Inv-loop b c n count highest₀ i₀ highest i = (i ≤ count) × (ltb highest n ≡ sendersBelow b c n i)
 
 abbrev μ-loop : tie.MeasureT-loop
-μ-loop b at count n i₀ i = count - i
+μ-loop b c n count highest₀ i₀ highest i = count - i
+
+shared-slice-read-count : tie.Need-shared-slice-read-count Inv-loop μ-loop
+shared-slice-read-count c = omega arith
+
+cast-count : tie.Need-cast-count Inv-loop μ-loop
+cast-count c = omega arith
 
 loop-holds : tie.Need-loop-holds Inv-loop μ-loop
-loop-holds c = (omega arith, items-start (c .args .b .now) (c .args .at) (c .args .count) (itemFromMember (c .args .n)))
+loop-holds c = let a = c .before .args in (omega arith, senders-start (a .b .now) (a .c) (a .n) (omega arith))
 
-mul-if1 : tie.Need-mul-if1 Inv-loop μ-loop
-mul-if1 c = omega arith
+add-sender : tie.Need-add-sender Inv-loop μ-loop
+add-sender c = omega arith
 
-add-if1 : tie.Need-add-if1 Inv-loop μ-loop
-add-if1 c = omega arith
+add-sender-2 : tie.Need-add-sender-2 Inv-loop μ-loop
+add-sender-2 c = omega arith
 
-shared-slice-read-if1 : tie.Need-shared-slice-read-if1 Inv-loop μ-loop
-shared-slice-read-if1 c = omega arith
-
-returns : tie.Need-returns Inv-loop μ-loop
-returns c = sym (c .before .before .before .loop .inv .1 ∙ items-turn (c .before .before .before .before .args .b .now) (c .before .before .before .before .args .at) (c .before .before .before .before .args .count) (c .before .before .before .loop .i) (omega arith) (itemFromMember (c .before .before .before .before .args .n)) ∙ rw (le-ltb _ _ (c .if1 .taken)))
+shared-slice-read-sender : tie.Need-shared-slice-read-sender Inv-loop μ-loop
+shared-slice-read-sender c = omega arith
 
 add-i : tie.Need-add-i Inv-loop μ-loop
 add-i c = omega arith
@@ -38,10 +40,22 @@ loop-less : tie.Need-loop-less Inv-loop μ-loop
 loop-less c = omega arith
 
 loop-again : tie.Need-loop-again Inv-loop μ-loop
-loop-again c = (omega arith, c .before .before .before .loop .inv .1 ∙ items-turn (c .before .before .before .before .args .b .now) (c .before .before .before .before .args .at) (c .before .before .before .before .args .count) (c .before .before .before .loop .i) (omega arith) (itemFromMember (c .before .before .before .before .args .n)) ∙ rw (lt-ltb _ _ (c .if1 .left)))
+loop-again c =
+    let a = c .before .before .before .before .before .args in
+    let l = c .before .before .before .loop in (
+      omega arith,
+      ⊎-elim
+          (λ w. ap (λ (x : ℕ). ltb x (a .n)) (w .1) ∙ senders-above (a .b .now) (a .c) (a .n) (l .highest) (l .i) (l .inv .1) (w .0 .taken))
+          (λ w. ap (λ (x : ℕ). ltb x (a .n)) (w .1) ∙ senders-among (a .b .now) (a .c) (a .n) (l .highest) (l .i) (l .inv .1) (w .0 .left))
+          (c .if1 .came),
+    )
 
-returns-2 : tie.Need-returns-2 Inv-loop μ-loop
-returns-2 c = sym (c .before .loop .inv .1 ∙ items-end (c .before .before .args .b .now) (c .before .before .args .at + itemSize * c .before .loop .i) (c .before .before .args .count - c .before .loop .i) (omega arith) (itemFromMember (c .before .before .args .n)))
+returns : tie.Need-returns Inv-loop μ-loop
+returns c =
+    let a = c .before .before .before .args in
+    let l = c .before .loop in
+    let e : l .i ≡ getD (a .b .now) (a .c) 0 = omega arith in
+    l .inv .1 ∙ ap (sendersBelow (a .b .now) (a .c) (a .n)) e ∙ senders-end (a .b .now) (a .c) (a .n)
 
 pub items-sound-spec : {M : Type 1} → statement M
 items-sound-spec =
@@ -49,12 +63,13 @@ items-sound-spec =
     (tie.spec
     Inv-loop
     μ-loop
+    shared-slice-read-count
+    cast-count
     loop-holds
-    mul-if1
-    add-if1
-    shared-slice-read-if1
-    returns
+    add-sender
+    add-sender-2
+    shared-slice-read-sender
     add-i
     loop-less
     loop-again
-    returns-2)
+    returns)

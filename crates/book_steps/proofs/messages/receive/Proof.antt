@@ -19,7 +19,7 @@ gain-requires c κs =
     let start = c .before .before .before .before in
     let pre = start .pre in
     let room = gain-room _ (pre .0) (pre .2) (pre .1) in
-    rw (c .before .gaining .ensures) (omega (arith, room), omega (arith, room, sound-size _ (pre .0), gaining-fits (start .args .b .now) (sound-layout _ (pre .0) .side)))
+    rw (c .before .gaining .ensures) (room, omega (arith, sound-size _ (pre .0), gaining-fits (start .args .b .now) (sound-layout _ (pre .0) .side)))
 
 count-requires : tie.Need-count-requires
 count-requires c κs =

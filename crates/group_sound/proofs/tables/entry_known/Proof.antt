@@ -4,7 +4,6 @@ use mathlib.Core.Path.{sym, _∙_}
 use Rattle.wire.specs.Reader.{viewsIn}
 use Rattle.group_sound.proofs.Infos.{client-known, foreign-known, told-known, other-known}
 use Rattle.group_sound.proofs.Tests.{list-fits, list-rises}
-use borrow.Author.Tests.{lt-ltb}
 use borrow.Author.Needs.{needs}
 use Rattle.group_sound.proofs.tables.entry_known.Statement.{statement}
 use Rattle.group_sound.proofs.tables.entry_known.Tie as tie
@@ -14,8 +13,9 @@ shared-slice-read-if1 c = search needs
 
 returns : tie.Need-returns
 returns c =
-    let a = c .before .before .before .before .args in
-    sym (foreign-known (viewsIn (a .list .now) 0 (a .made)) (a .n) (a .q .now) (a .at) (c .if1 .taken))
+    let e = c .before .before .before .before in
+    let views = viewsIn (e .args .list .now) 0 (e .args .made) in
+    sym (foreign-known (e .args .q .now) (e .args .at) views (e .args .n) (list-fits (e .args .n) views (e .pre .2)) (c .if1 .taken))
 
 add-kind : tie.Need-add-kind
 add-kind c = search needs
@@ -25,8 +25,9 @@ shared-slice-read-kind c = search needs
 
 returns-2 : tie.Need-returns-2
 returns-2 c =
-    let a = c .before .before .before .before .before .before .args in
-    sym (client-known (viewsIn (a .list .now) 0 (a .made)) (a .n) (a .q .now) (a .at) (c .if2 .taken) ∙ lt-ltb _ _ (c .before .before .if1 .left))
+    let e = c .before .before .before .before .before .before in
+    let views = viewsIn (e .args .list .now) 0 (e .args .made) in
+    sym (client-known (e .args .q .now) (e .args .at) views (e .args .n) (list-fits (e .args .n) views (e .pre .2)) (c .before .before .if1 .left) (c .if2 .taken))
 
 add-told-fits : tie.Need-add-told-fits
 add-told-fits c = search needs
@@ -36,8 +37,11 @@ told-fits-requires c κs = search needs
 
 returns-3 : tie.Need-returns-3
 returns-3 c =
-    let a = c .before .before .before .before .before .before .before .before .args in
-    c .told-fits .ensures ∙ told-known (viewsIn (a .list .now) 0 (a .made)) (a .n) (a .q .now) (a .at) (c .before .before .before .before .if1 .left) (c .before .if3 .taken)
+    let e = c .before .before .before .before .before .before .before .before in
+    let views = viewsIn (e .args .list .now) 0 (e .args .made) in
+    c .told-fits .ensures
+    ∙ sym (told-known (e .args .q .now) (e .args .at) views (e .args .n) (list-fits (e .args .n) views (e .pre .2))
+    (c .before .before .before .before .if1 .left) (c .before .if3 .taken))
 
 slot-known-requires : tie.Need-slot-known-requires
 slot-known-requires c κs =
@@ -47,7 +51,10 @@ slot-known-requires c κs =
 returns-4 : tie.Need-returns-4
 returns-4 c =
     let e = c .before .before .before .before .before .before .before .before in
-    c .slot-known .ensures ∙ other-known (viewsIn (e .args .list .now) 0 (e .args .made)) (e .args .n) (list-fits (e .args .n) (viewsIn (e .args .list .now) 0 (e .args .made)) (e .pre .2)) (e .args .q .now) (e .args .at) (c .before .before .before .before .if1 .left) (c .before .if3 .left)
+    let views = viewsIn (e .args .list .now) 0 (e .args .made) in
+    c .slot-known .ensures
+    ∙ sym (other-known (e .args .q .now) (e .args .at) views (e .args .n) (list-fits (e .args .n) views (e .pre .2))
+    (c .before .before .before .before .if1 .left) (c .before .if3 .left))
 
 pub entry-known-spec : {M : Type 1} → statement M
 entry-known-spec =

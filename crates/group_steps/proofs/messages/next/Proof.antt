@@ -48,21 +48,8 @@ returns c =
     let r : Ranges = record { list = s .args .list .now; books = s .args .all .now; queues = s .args .queues .now } in
     next-none r (s .args .p .0) (s .pre .0) (s .pre .1) (s .pre .2) (s .args .g) (s .pre .3) (c .before .before .before .before .before .order-of .result) (c .before .before .before .before .before .order-of .ensures) (c .before .if1 .taken) _ (c .refuse .ensures)
 
-add-take-at : tie.Need-add-take-at
-add-take-at c = search needs
-
 cast-take-at : tie.Need-cast-take-at
 cast-take-at c = let s = c .before .before .before .before .before .before .before .before .before in omega (arith, c .before .before .before .slice-known2 .given (bookSize * s .args .p .0 + takenAt))
-
-mul-take-at : tie.Need-mul-take-at
-mul-take-at c = let s = c .before .before .before .before .before .before .before .before .before in omega (arith, c .before .before .before .slice-known2 .given (bookSize * s .args .p .0 + takenAt))
-
-add-take-at-2 : tie.Need-add-take-at-2
-add-take-at-2 c =
-    let s = c .before .before .before .before .before .before .before .before .before in
-    let r : Ranges = record { list = s .args .list .now; books = s .args .all .now; queues = s .args .queues .now } in
-    let fits = ranged r (s .pre .0) in
-    omega (arith, c .before .before .before .slice-known2 .given (bookSize * s .args .p .0 + takenAt), fits .queues, fits .room .1, next-inside r (s .args .p .0) (s .pre .0) (s .pre .1) (s .pre .2) (s .args .g) (s .pre .3) (c .before .before .before .before .before .order-of .result) (c .before .before .before .before .before .order-of .ensures))
 
 take-at-requires : tie.Need-take-at-requires
 take-at-requires c κs =
@@ -93,10 +80,7 @@ next-spec =
     shared-slice-read-if1
     refuse-requires
     returns
-    add-take-at
     cast-take-at
-    mul-take-at
-    add-take-at-2
     take-at-requires
     same-length
     returns-2)

@@ -1,4 +1,4 @@
--- `group_steps::messages::order::forward` meets its contract: the first entry is copied, then it goes.
+-- `group_steps::messages::order::forward` meets its contract: the first entry is stored in the order, then it goes.
 use native.Mathlib.Omega.{arith}
 use Rattle.group_steps.proofs.OrderLaws.{pop-asks}
 use borrow.Author.Needs.{needs}
@@ -16,8 +16,11 @@ add-pop c = search needs
 
 pop-requires : tie.Need-pop-requires
 pop-requires c κs =
-    let a = c .before .before .before .before .before .before .args in
-    rw (c .before .before .before .append .ensures) (pop-asks (a .q .now) (a .c) (a .w) (omega arith) (omega arith) (omega arith))
+    let s = c .before .before .before .before .before .before in
+    let a = s .args in
+    rw (c .before .before .before .append .ensures)
+    (pop-asks (a .q .now) (λ j. omega (arith, c .before .before .before .before .before .slice-known .given j)) (a .c) (a .w)
+    (s .pre .0) (s .pre .1) (s .pre .2) (s .pre .3))
 
 same-length : tie.Need-same-length
 same-length c = search needs

@@ -9,8 +9,8 @@ use Rattle.rules.specs.Group.{orderStep}
 use Rattle.group_bytes.specs.Places.{orderAt, waitingAt}
 use Rattle.group_bytes.specs.Groups.{Ranges, madeOf, viewsMade, placeOf, groupIn}
 use Rattle.group_bytes.proofs.Inside.{order-inside, waiting-inside}
-use Rattle.group_steps.proofs.Rows.{ranged, made-rise, no-member}
-use Rattle.group_steps.proofs.OrderLaws.{order-refused, order-accepted, no-view, none-waiting, order-full, order-moves, forward-asks, order-bytes}
+use Rattle.group_steps.proofs.Rows.{ranged, group-sound, made-rise, no-member}
+use Rattle.group_steps.proofs.OrderLaws.{order-refused, order-accepted, no-view, none-waiting, order-full, order-moves, order-known, forward-asks, order-bytes}
 use borrow.Author.Needs.{needs}
 use Rattle.group_steps.proofs.messages.order.order.Statement.{statement}
 use Rattle.group_steps.proofs.messages.order.order.Tie as tie
@@ -150,7 +150,8 @@ forward-requires c κs =
     let o : c .before .before .before .before .before .before .order-at .result ≡ orderAt i = c .before .before .before .before .before .before .order-at .ensures ∙ ap orderAt e in
     let z : 0 < getD (r .queues) (waitingAt i p) 0 = omega (arith, rw w at (c .before .before .before .if3 .left)) in
     let y : getD (r .queues) (orderAt i) 0 < maxOrdered = rw o at (c .before .if4 .left) in
-    rw (o, w) (forward-asks r f p m i t z y)
+    let known = order-known r p (a .id .0) m f (group-sound r h) (order-moves r p (a .id .0) m t z y) in
+    rw (o, w) (forward-asks r p i known)
 
 same-length : tie.Need-same-length
 same-length c = search needs

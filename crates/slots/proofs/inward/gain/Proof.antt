@@ -1,25 +1,22 @@
--- `slots::gain` meets its contract: sender and number are stored behind the last item, and the count grows by one.
+-- `slots::inward::gain` meets its contract: sender and number are stored behind the last of each, and the count grows by one.
 use native.Mathlib.Omega.{arith}
 use borrow.Author.Needs.{needs}
 use lib.ListN.{length-set}
 use Rattle.slots.specs.Changes.{gained}
-use Rattle.slots.proofs.gain.Statement.{statement}
-use Rattle.slots.proofs.gain.Tie as tie
+use Rattle.slots.proofs.inward.gain.Statement.{statement}
+use Rattle.slots.proofs.inward.gain.Tie as tie
 
 slice-read-n : tie.Need-slice-read-n
 slice-read-n c = search needs
 
-add-at : tie.Need-add-at
-add-at c = search needs
+cast-k : tie.Need-cast-k
+cast-k c = search needs
 
-cast-at : tie.Need-cast-at
-cast-at c = search needs
+add-b : tie.Need-add-b
+add-b c = search needs
 
-mul-at : tie.Need-mul-at
-mul-at c = search needs
-
-add-at-2 : tie.Need-add-at-2
-add-at-2 c = search needs
+add-b-2 : tie.Need-add-b-2
+add-b-2 c = search needs
 
 slice-write-b : tie.Need-slice-write-b
 slice-write-b c = search needs
@@ -27,11 +24,17 @@ slice-write-b c = search needs
 add-put-number : tie.Need-add-put-number
 add-put-number c = search needs
 
+mul-put-number : tie.Need-mul-put-number
+mul-put-number c = search needs
+
+add-put-number-2 : tie.Need-add-put-number-2
+add-put-number-2 c = search needs
+
 put-number-requires : tie.Need-put-number-requires
 put-number-requires c κs = simp length-set (omega arith)
 
-add-b : tie.Need-add-b
-add-b c = search needs
+add-b-3 : tie.Need-add-b-3
+add-b-3 c = search needs
 
 slice-write-b-2 : tie.Need-slice-write-b-2
 slice-write-b-2 c = omega (arith, simp length-set at (c .before .before .put-number .kept .0))
@@ -48,14 +51,15 @@ gain-spec =
     tie.close
     (tie.spec
     slice-read-n
-    add-at
-    cast-at
-    mul-at
-    add-at-2
+    cast-k
+    add-b
+    add-b-2
     slice-write-b
     add-put-number
+    mul-put-number
+    add-put-number-2
     put-number-requires
-    add-b
+    add-b-3
     slice-write-b-2
     same-length
     returns)
