@@ -153,6 +153,46 @@ class Edges {
         for (uint64_t second : kLongs) c_.group_step(list_, books_, queues_, kind, first, second);
   }
 
+  // Every number of items in an inward list, and the sender of each, or of the place behind the last, no member.
+  void inward_columns() {
+    cut(book_, plain::kBookSize, false), c_.start(book_, 3, 7, 0);
+    for (unsigned count = 0; count <= plain::kOrdered + 1; ++count) {
+      book_.poke(plain::kAtTaken, static_cast<uint8_t>(count < plain::kOrdered ? count : plain::kOrdered));
+      book_.poke(plain::kAtInward0, static_cast<uint8_t>(count)), c_.check(book_);
+      for (unsigned i = 0; i <= count && i < plain::kOrdered; ++i) {
+        size_t sender = plain::kAtInward0 + plain::kItemSenders + i;
+        book_.poke(sender, 3), c_.check(book_), book_.poke(sender, 2);
+      }
+    }
+  }
+
+  // Every number of entries in an order of all four kinds, and each of them, or the place behind the last, at fault.
+  void order_columns() {
+    cut(list_, 5, false), cut(books_, plain::kBooksSize, false), cut(queues_, plain::queues_size(1), false);
+    c_.group_start(list_, books_, queues_, 3, 7);
+    constexpr size_t at = plain::kQueuesHead;
+    for (unsigned i = 0; i < plain::kOrdered; ++i) {
+      plain::Message m;
+      m.kind = static_cast<uint8_t>(1 + i % 7 % 4), m.number = m.kind == plain::kTold ? 1 + i : i;
+      if (m.kind == plain::kInfo) m.views[m.count++] = View{0, 7};
+      plain::Slot entry;
+      entry.write(static_cast<uint8_t>(i % 3), m), plain::Order{queues_.mine() + at}.write(i, entry);
+    }
+    queues_.copy_to_theirs();
+    static const struct { size_t column; uint8_t value; } faults[] = {
+        {plain::kOrderSenders, 3}, {plain::kOrderKinds, 0}, {plain::kOrderKinds, 5},
+        {plain::kOrderCounts, 0},  {plain::kOrderCounts, 33}, {plain::kOrderCounts, 129}};
+    for (unsigned count = 0; count <= plain::kOrdered + 1; ++count) {
+      queues_.poke(at, static_cast<uint8_t>(count)), c_.group_check(list_, books_, queues_);
+      for (unsigned i = 0; i <= count && i < plain::kOrdered; ++i) {
+        auto fault = faults[(i + count) % (sizeof faults / sizeof faults[0])];
+        uint8_t was = queues_.mine()[at + fault.column + i];
+        queues_.poke(at + fault.column + i, fault.value), c_.group_check(list_, books_, queues_);
+        queues_.poke(at + fault.column + i, was);
+      }
+    }
+  }
+
  public:
   explicit Edges(Calls& c) : c_(c) {
     for (Lent* lent : {&book_, &list_, &books_, &c_.event, &c_.length, &c_.bytes, &c_.buffer, &c_.record, &c_.answers}) {
@@ -165,6 +205,7 @@ class Edges {
   void run() {
     c_.usual();
     book_lengths(), other_lengths(), numbers(), group_lengths(), run_lengths(), group_numbers();
+    inward_columns(), order_columns();
   }
 };
 
