@@ -1,5 +1,5 @@
 -- Laws of a line put into a buffer, if it has room.
-use mathlib.Core.Path.{_≡_, _∙_}
+use mathlib.Core.Path.{_≡_}
 use mathlib.Core.List.{List}
 use Prim.Native.Nat.{ℕ, _<_, _≤_}
 use lib.ListN.{length}
@@ -8,8 +8,8 @@ use Rattle.views.specs.declared.refusal.Refusal.the-variants.{BufferTooShort}
 use Rattle.views.specs.declared.refusal.Verdict.the-variants.{Accepted, Refused}
 use Rattle.views.specs.Refusals.{left}
 use Rattle.wire.specs.declared.Written.{Written}
-use Rattle.wire.specs.Writer.{writtenOf, overwritten}
-use Rattle.wire.proofs.VerdictLaws.{need-met, need-unmet}
+use Rattle.wire.specs.Writer.{writtenOf}
+use Rattle.views.proofs.VerdictLaws.{need-met, need-unmet}
 use Rattle.bench_lines.specs.TextParts.{Put}
 use Rattle.bench_lines.proofs.TextLaws.{front-put, put-front}
 use Rattle.bench_lines.specs.ReplyLines.{lineVerdict, Wrote}

@@ -14,12 +14,11 @@ use Rattle.views.specs.declared.refusal.Verdict.the-variants.{Accepted, Refused
 use Rattle.views.specs.Refusals.{numberOf}
 use Rattle.views.specs.Lists.{idOf}
 use Rattle.events.specs.declared.Event.{Event}
-use Rattle.events.specs.declared.Reply.{Reply}
 use Rattle.bench_lines.specs.Words.{bytes, space, lineFeed}
 use Rattle.bench_lines.specs.Numerals.{decimalBy, decimal}
 use Rattle.bench_lines.proofs.DecimalLaws.{by-small, by-step, tenth, decimal-length}
 use Rattle.bench_lines.specs.Promises.{Sized, RepliesFit}
-use Rattle.bench_lines.specs.ReplyLines.{numbersText, spoken, eventLine, verdictLine, replyLine, longestReply}
+use Rattle.bench_lines.specs.ReplyLines.{numbersText, spoken, eventLine, verdictLine, longestReply}
 
 -- a number below ten to the k + 1 has at most k + 1 digits
 short : (k m x : ℕ) → k ≤ m → x < 10 ^ suc k → length (decimalBy (suc m) x) ≤ suc k

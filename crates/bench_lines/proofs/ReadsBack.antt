@@ -3,12 +3,11 @@ use mathlib.Core.Path.{_≡_, refl, ap, _∙_}
 use mathlib.Core.Logic.{⊎-elim}
 use mathlib.Core.Bool.{true, false}
 use mathlib.Core.List.{List, [], _∷_, _++_}
-use Prim.Native.Nat.{ℕ, zero, suc, _+_, _-_, _*_, _/_, _%_, _^_, _<_, _≤_}
+use Prim.Native.Nat.{ℕ, zero, suc, _+_, _-_, _*_, _/_, _%_, _^_, _<_}
 use native.Mathlib.Omega.{arith}
 use lib.Dec.{eqb, ltb}
 use borrow.Author.Tests.{le-leb, ltb-true, ltb-false, ne-eqb, eqb-true, eqb-false}
 use Rattle.views.proofs.SetLaws.{known}
-use Rattle.bench_lines.specs.declared.texts.numerals.Numeral.the-variants.{Number}
 use Rattle.bench_lines.specs.Promises.{ReadsBack}
 use Rattle.bench_lines.specs.Numerals.{isDigit, digitsOnly, begun, valueFrom, numeralOf, decimalBy, decimal}
 use Rattle.bench_lines.proofs.DecimalLaws.{by-none, by-small, by-step, tenth}

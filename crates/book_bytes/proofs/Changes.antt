@@ -298,12 +298,6 @@ module _ (b : List ℕ) (size : bookSize ≤ length b) (h : Held) (settled : Vie
 pub settled-within : (b : List ℕ) (v : View) → Changed b (storeView b settledAt v) settledAt recordSize
 settled-within b v = changed-within settledAt recordSize (omega arith) (omega arith) (storeView-changed b settledAt v)
 
-pub settled-layout : (b : List ℕ) (v : View) → Layout b → Layout (storeView b settledAt v)
-settled-layout b v l =
-    let c = storeView-changed b settledAt v in
-    within-layout (settled-within b v) l (rw (c .past carrierAt (omega arith)) (l .carrier)) (rw (c .past clientAt (omega arith)) (l .client))
-    (rw (c .past registeredAt (omega arith)) (l .registered)) (rw (c .past sideAt (omega arith)) (l .side)) (rw (c .past opensAt (omega arith)) (l .opens))
-
 pub carrier-within : (b : List ℕ) (s : Seat) → Changed b (storeSeat b carrierAt s) settledAt recordSize
 carrier-within b s = changed-within settledAt recordSize (omega arith) (omega arith) (storeSeat-changed b carrierAt s)
 

@@ -1,6 +1,5 @@
 -- A record stored in a book's bytes reads back, and the queues, the members and the layout stay as they were.
 use mathlib.Core.Path.{_≡_}
-use mathlib.Core.Bool.{true}
 use mathlib.Core.List.{List}
 use Prim.Native.Nat.{ℕ, _-_, _≤_}
 use native.Mathlib.Omega.{arith}
@@ -11,8 +10,8 @@ use Rattle.slots.proofs.Outside.{Changed, changed-within, changed-then}
 use Rattle.book_bytes.specs.declared.Record.{Record}
 use Rattle.book_bytes.specs.Places.{membersAt, selfAt, settledAt, carrierAt, clientAt, registeredAt, infosAt, toldsAt, opensAt, bookSize}
 use Rattle.book_bytes.specs.Records.{recordIn, meaning, storeSeats, storeCounts, storeNotes, storeRecord}
-use Rattle.book_bytes.specs.Books.{outgoingIn, inwardIn, bookIn, layoutFits}
-use Rattle.book_bytes.proofs.LayoutLaws.{Layout, layout-says, layout-from}
+use Rattle.book_bytes.specs.Books.{outgoingIn, inwardIn, bookIn}
+use Rattle.book_bytes.proofs.LayoutLaws.{Layout}
 use Rattle.book_bytes.proofs.Fits.{Fits, opens-list}
 use Rattle.book_bytes.proofs.Parts.{seatsSize, countsSize, notesSize, opensSize, Seats, Counts, Notes, Opens, mark-reads, mark-small, seated-reads, seats-kept, counts-kept, notes-kept, seats-changed, seats-stored, counts-changed, counts-stored, notes-changed, notes-stored, opens-changed, opens-stored, opens-read}
 use Rattle.book_bytes.proofs.RecordReads.{bytes-are, record-read}
@@ -111,6 +110,3 @@ module _ (b : List ℕ) (h : Record) (size : length b ≡ bookSize) (fits : Fits
       within-layout record-changed l (rw (record-seats .carrier .mark) (mark-small (h .carrier .there)))
       (rw (record-seats .client .mark) (mark-small (h .client .there))) (rw (record-counts .registered) (mark-small (h .registered)))
       (rw (record-notes .side) s) (rw (record-opens .count, opens-list (h .opens) (fits .opens)) (fits .opens .few))
-
-pub layout-kept : (b : List ℕ) (h : Record) → layoutFits b ≡ true → Fits h → h .side ≤ 1 → layoutFits (storeRecord b h) ≡ true
-layout-kept b h e fits s = let l = layout-says b e in layout-from (storeRecord b h) (layout-stored b h (l .size) fits l s)

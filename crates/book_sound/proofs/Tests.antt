@@ -1,16 +1,13 @@
 -- The small record, by the tests that the code asks one after another.
-use mathlib.Core.Path.{_≡_, refl, sym, ap, _∙_}
-use mathlib.Core.Logic.{⊎-elim}
-use mathlib.Core.Bool.{Bool, true, false, cond, not}
-use mathlib.Core.Option.{none, some}
+use mathlib.Core.Path.{_≡_, refl}
+use mathlib.Core.Bool.{Bool, true, false, cond}
 use mathlib.Core.List.{List, [], _∷_}
 use Prim.Native.Nat.{ℕ, _+_, _<_, _≤_, min}
 use native.Mathlib.Omega.{arith}
-use borrow.Author.Tests.{le-leb, lt-leb, eq-eqb, ne-eqb, eqb-true, eqb-false}
+use borrow.Author.Tests.{le-leb, lt-leb}
 use lib.Dec.{eqb, leb}
 use lib.ListN.{getD}
 use Rattle.views.specs.declared.View.{View}
-use Rattle.views.proofs.SetLaws.{known}
 use Rattle.views.specs.Limits.{maxMembers, maxOpen, maxOrdered}
 use Rattle.views.specs.Sets.{both}
 use Rattle.views.specs.Lists.{idOf, risesAbove, listOf}

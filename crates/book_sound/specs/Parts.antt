@@ -1,5 +1,5 @@
 -- The parts in which bytes are tested for a sound book: the small record, each outgoing entry, each inward item.
-use mathlib.Core.Bool.{Bool, true, false, cond}
+use mathlib.Core.Bool.{Bool, cond}
 use mathlib.Core.List.{List, [], _∷_}
 use Prim.Native.Nat.{ℕ, _-_}
 use lib.Dec.{eqb, leb}

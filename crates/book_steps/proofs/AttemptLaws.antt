@@ -23,7 +23,7 @@ use Rattle.wire.specs.Reader.{viewsIn}
 use Rattle.wire.proofs.ReaderLaws.{length-viewsIn}
 use Rattle.rules.specs.Data.{Book as Ruled, Member, Result, refused, accepted, need, after}
 use Rattle.rules.specs.Member.{Done, attempts}
-use Rattle.rules.proofs.Holding.{Holds, gives, given, need-holds, view-holds, after-holds}
+use Rattle.rules.proofs.Holding.{Holds, gives, need-holds, view-holds, after-holds}
 use Rattle.book_bytes.specs.declared.Record.{Record}
 use Rattle.book_bytes.specs.Places.{sideAt, opensAt, inwardAt, bookSize}
 use Rattle.book_bytes.specs.Records.{recordIn, storeRecord}

@@ -2,12 +2,12 @@
 -- there.
 use mathlib.Core.Path.{_≡_, refl, ap, _∙_}
 use mathlib.Core.Bool.{true, not, _||_}
-use mathlib.Core.List.{List, _∷_}
+use mathlib.Core.List.{List}
 use Prim.Native.Nat.{ℕ, _+_, _≤_, _<_, min}
 use native.Mathlib.Omega.{arith}
 use borrow.Author.Tests.{ltb-true}
 use lib.Dec.{ltb}
-use lib.ListN.{length, getD, take, drop, length-take, length-drop}
+use lib.ListN.{length, getD, take, length-take}
 use Rattle.views.specs.declared.refusal.Refusal.{Refusal}
 use Rattle.views.specs.declared.refusal.Verdict.{Verdict}
 use Rattle.views.specs.declared.refusal.Verdict.the-variants.{Accepted, Refused}
@@ -18,6 +18,7 @@ use Rattle.rules.specs.Data.{Member, Result, refused, accepted, Book as Ruled}
 use Rattle.rules.specs.Member.{Done, clientIsCarrier, hasRoom, registers, sends, hands, tells, safes}
 use Rattle.rules.proofs.TestLaws.{conditions-say}
 use Rattle.rules.proofs.Holding.{Holds, gives, given, need-holds, view-holds, first-holds}
+use Rattle.rules.proofs.Sound.QueueLaws.{next-below}
 use Rattle.book_bytes.specs.declared.Record.{Record}
 use Rattle.book_bytes.specs.declared.Current.{Current}
 use Rattle.book_bytes.specs.Places.{sideAt, opensAt, bookSize}
@@ -123,9 +124,6 @@ room-for b h t =
     ltb-true _ _ k
 
 -- there is one behind the k-th
-some-left : {A : Type 0} (k : ℕ) (l : List A) (x : A) (rest : List A) → drop k l ≡ x ∷ rest → k < length l
-some-left k l x rest e = let n = ap length e in omega (arith, n, length-drop k l)
-
 -- a step that may queue a message is accepted only where there is room
 module _ (b : List ℕ) (p : Member) where
   pub register-room : Holds (λ (d : Done). hasRoom (bookIn b) ≡ true) (registers p (bookIn b))
@@ -143,7 +141,7 @@ module _ (b : List ℕ) (p : Member) where
   -- one more to hand, and one more to report, in the client view's inward list
   pub hand-some : Holds (λ (d : Done). recordIn b .handed .0 < length (inwardIn b (getD b sideAt 0))) (hands p (bookIn b))
   unfolding hands bookIn
-  hand-some = view-holds _ _ _ (λ v e. first-holds _ _ _ (λ x rest f. gives (some-left (recordIn b .handed .0) (inwardIn b (getD b sideAt 0)) x rest f)))
+  hand-some = view-holds _ _ _ (λ v e. first-holds _ _ _ (λ x rest f. gives (next-below (recordIn b .handed .0) (inwardIn b (getD b sideAt 0)) x rest f)))
 
   pub safe-some : (n : ℕ) → Holds (λ (d : Done). (recordIn b .reported .0 < recordIn b .handed .0) × (recordIn b .reported .0 < length (inwardIn b (getD b sideAt 0)))) (safes n p (bookIn b))
   unfolding safes bookIn
@@ -151,5 +149,5 @@ module _ (b : List ℕ) (p : Member) where
       let h = recordIn b in
       let own = inwardIn b (getD b sideAt 0) in
       view-holds _ _ _ (λ v e. need-holds _ _ _ (λ t. first-holds _ _ _ (λ x rest f. need-holds _ _ _ (λ u.
-      let k = some-left (h .reported .0) (take (h .handed .0) own) x rest f in
+      let k = next-below (h .reported .0) (take (h .handed .0) own) x rest f in
       gives (omega (arith, k, length-take (h .handed .0) own), omega (arith, k, length-take (h .handed .0) own))))))

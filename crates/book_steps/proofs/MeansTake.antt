@@ -14,16 +14,15 @@ use Rattle.views.proofs.PlaceLaws.{list-placed}
 use Rattle.wire.proofs.TripViews.{ViewFits, EachFits, AreBytes}
 use Rattle.rules.specs.Data.{Message, client, info, registered, told}
 use Rattle.rules.specs.Member.{clientIsCarrier, learned, received, delivered}
-use Rattle.rules.specs.Sound.{limitAt, carrierInward, bookCounts}
+use Rattle.rules.specs.Sound.{carrierInward, bookCounts}
 use Rattle.rules.specs.Alone.{viewsOf, bookSound}
 use Rattle.rules.proofs.TestLaws.{conditions-say}
 use Rattle.slots.proofs.Stored.{MessageFits, toldOf}
 use Rattle.slots.proofs.BytesKept.{SetsAreBytes}
-use Rattle.book_bytes.specs.declared.Seat.{Seat}
 use Rattle.book_bytes.specs.declared.Record.{Record}
 use Rattle.book_bytes.specs.declared.Held.{Held}
 use Rattle.book_bytes.specs.Places.{carrierAt, takenAt, sideAt, inwardAt}
-use Rattle.book_bytes.specs.Records.{seated, recordIn}
+use Rattle.book_bytes.specs.Records.{recordIn}
 use Rattle.book_bytes.specs.Books.{outgoingIn, bookIn, bytesSound}
 use Rattle.book_bytes.proofs.LayoutLaws.{Layout}
 use Rattle.book_bytes.proofs.Fits.{Fits}
@@ -34,11 +33,9 @@ use Rattle.book_steps.proofs.Committed.{sound-layout}
 use Rattle.book_steps.proofs.Means.{Means, means-as, sound-fits, ownIn, newIn, Stands, queues-kept, gains-own, gains-new}
 use Rattle.book_steps.proofs.MeansRecord.{more-stands, info-stands, registration-stands, told-stands, held-stands}
 use Rattle.book_steps.proofs.TurnFits.{opens-each, with-fits, learned-fits}
+use Rattle.book_steps.proofs.RoomLaws.{limit-there}
 
 -- a position's limit where there is a view
-limit-there : {A : Type 0} (s : Seat) (l : List A) → s .there ≡ true → limitAt (seated s) l ≡ length l
-limit-there s l t = rw t
-
 module _ (b : List ℕ) (bytes : AreBytes b) (sound : bytesSound b ≡ true) where
   abbrev h : Record
   h = recordIn b

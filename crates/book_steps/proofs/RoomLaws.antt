@@ -57,7 +57,7 @@ side-length : (b : List ℕ) (t : Bool) (s : ℕ) → length (cond t (inwardIn b
 side-length b true s = length-inward b s
 side-length b false s = length-inward b (1 - s)
 
-limit-there : {A : Type 0} (s : Seat) (l : List A) → s .there ≡ true → limitAt (seated s) l ≡ length l
+pub limit-there : {A : Type 0} (s : Seat) (l : List A) → s .there ≡ true → limitAt (seated s) l ≡ length l
 limit-there s l e = rw e
 
 carrier-there : (b : List ℕ) → getD b carrierAt 0 ≡ 1 → recordIn b .carrier .there ≡ true

@@ -4,10 +4,9 @@ use mathlib.Core.Logic.{⊎-elim}
 use mathlib.Core.Bool.{true, false}
 use mathlib.Core.List.{List, []}
 use Prim.Native.Nat.{ℕ, zero, suc, _+_, _-_, _≤_, _<_, min}
-use native.Mathlib.Nat.{add-zero}
 use native.Mathlib.Omega.{arith}
 use borrow.Author.Tests.{le-leb, lt-leb}
-use lib.ListN.{length, getD, set, length-take, take-append-drop}
+use lib.ListN.{length, getD, set, length-take}
 use lib.Seq.{set-getD}
 use Rattle.numbers.specs.Number.{put}
 use Rattle.views.specs.declared.View.{View}
@@ -20,7 +19,6 @@ use Rattle.views.specs.Lists.{listOf, placed, unionOf, aboveOf}
 use Rattle.views.proofs.SetLaws.{known}
 use Rattle.wire.specs.declared.Message.{Message as Carried}
 use Rattle.wire.specs.Reader.{viewIn, viewsIn}
-use Rattle.wire.specs.Format.{viewsBytes}
 use Rattle.wire.specs.Writer.{storeView, storeViews}
 use Rattle.wire.proofs.ReaderLaws.{length-viewsIn, list-viewsIn}
 use Rattle.rules.specs.Data.{Member, Message, client, info, registered, told, Book as Ruled, need, after}
@@ -30,6 +28,7 @@ use Rattle.book_bytes.specs.declared.Held.{Held}
 use Rattle.slots.specs.Changes.{gained}
 use Rattle.slots.specs.Columns.{itemSender, itemNumber}
 use Rattle.slots.proofs.Outside.{set-changed, put-changed, storeView-changed, storeViews-changed}
+use Rattle.slots.proofs.CodeLaws.{no-views}
 use Rattle.book_bytes.specs.Places.{settledAt, takenAt, infosAt, registrationsAt, toldsAt, opensAt, bookSize}
 use Rattle.book_bytes.specs.Records.{recordIn, heldIn, storeOpens, storeHeld}
 use Rattle.book_bytes.specs.Books.{bookIn}
@@ -149,10 +148,6 @@ module _ (q : Member) (v : View) (l : List View) (b : List ℕ) (next : Held) (e
   over-info many f = over q (info v l) b r (omega (arith, counted)) f
 
 -- with nothing open on either side the settled view alone is stored
-none-stored : (b : List ℕ) (at : ℕ) → storeViews b at [] ≡ b
-unfolding storeViews viewsBytes
-none-stored b at = rw (add-zero at) (take-append-drop at b)
-
 settled-alone : (b : List ℕ) (x own settled : View) → getD b opensAt 0 ≡ 0 → own ≡ viewIn b settledAt → settled ≡ settledBy x (record { settled = own; opens = [] })
     → storeView b settledAt settled ≡ storeHeld b (heldAfter x [] b)
 unfolding storeHeld storeOpens heldAfter learned bookIn recordIn aboveOf unionOf viewsIn
@@ -160,7 +155,7 @@ settled-alone b x own settled e f g =
     let w = storeView b settledAt settled in
     let count : getD w opensAt 0 ≡ 0 = storeView-changed b settledAt settled .past opensAt (omega arith) ∙ e in
     let none : set w opensAt 0 ≡ w = ap (set w opensAt) (sym count) ∙ set-getD w opensAt 0 in
-    rw (e, ← f, ← g, none, none-stored w (opensAt + 1))
+    rw (e, ← f, ← g, none, no-views w (opensAt + 1))
 
 alone-few : (b : List ℕ) (x : View) → getD b opensAt 0 ≡ 0 → heldAfter x [] b .opens .count ≤ maxOpen
 unfolding heldAfter learned bookIn recordIn aboveOf unionOf viewsIn

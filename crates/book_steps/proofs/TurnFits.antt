@@ -27,7 +27,7 @@ use Rattle.record_steps.specs.Turns.{withMember, openedTo, attemptedAt, settled
 
 -- ---- lists of views
 
-each-in : (l : List View) → EachFits l → (v : View) → In v l → ViewFits v
+pub each-in : (l : List View) → EachFits l → (v : View) → In v l → ViewFits v
 each-in (w ∷ l) f v top = f 0
 each-in (w ∷ l) f v (pop i) = each-in l (λ (j : ℕ). f (suc j)) v i
 

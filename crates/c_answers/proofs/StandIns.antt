@@ -11,10 +11,11 @@ use lib.Dec.{leb}
 use Rattle.views.specs.declared.View.{View}
 use Rattle.views.specs.declared.refusal.Refusal.{Refusal}
 use Rattle.views.specs.Limits.{maxMembers}
-use Rattle.views.specs.Sets.{both, has, isEmpty, isBeyond, fits}
+use Rattle.views.specs.Sets.{has, isEmpty, isBeyond, fits}
 use Rattle.views.proofs.SetLaws.{known, both-true, has-past}
 use Rattle.rules.specs.Data.{Result, refused, accepted, need, withView, after}
 use Rattle.rules.specs.Sound.{within, setFits}
+use Rattle.rules.proofs.Truth.{both-false}
 use Rattle.c_answers.specs.Answers.{narrowed}
 use Rattle.c_answers.proofs.AnswerLaws.{narrowed-large, narrowed-small}
 
@@ -52,10 +53,6 @@ by-width P other x large h =
     (λ (k : leb 256 x ≡ true). let wide = leb-true 256 x k in large wide (rw (narrowed-large other x wide) at h))
     (λ (k : leb 256 x ≡ false). rw (narrowed-small other x (leb-false 256 x k)) at h)
     (known (leb 256 x))
-
-both-false : (t : Bool) → both t false ≡ false
-both-false true = refl
-both-false false = refl
 
 pub within-large : (n : ℕ) → 256 ≤ n → within 1 n maxMembers ≡ false
 within-large n h = rw (lt-leb n maxMembers (omega arith)) (both-false (leb 1 n))

@@ -13,37 +13,33 @@ pub use Rattle.group_bytes.proofs.StepGroup.{step-means}
 pub use Rattle.group_bytes.proofs.GroupRuns.{demand3-ranges}
 -- 7. The contracts of `dvs_group_start` and `dvs_group_step` say `Begins` and `Steps` of the ranges: the checker holds their code to that.
 -- 8. Demand 3 of a host's calls, by 6 and 7: `demand3-calls` below.
-use mathlib.Core.Path.{_≡_, refl, sym, _∙_, subst, ap}
+use mathlib.Core.Path.{_≡_, refl, sym, _∙_, subst}
 use mathlib.Core.Bool.{Bool, true, false}
 use mathlib.Core.List.{List, [], _∷_, _++_}
 use Prim.Native.Nat.{ℕ}
 use borrow.Author.Tests.{eqb-true, eqb-false}
 use lib.Dec.{eqb}
 use lib.ListN.{length}
-use Rattle.views.specs.declared.refusal.Verdict.{Verdict}
 use Rattle.views.specs.declared.refusal.Refusal.the-variants.{RecordsUnsound}
 use Rattle.views.specs.declared.refusal.Verdict.the-variants.{Refused}
-use Rattle.views.specs.Refusals.{numberOf, codeOf, left}
+use Rattle.views.specs.Refusals.{numberOf, left}
 use Rattle.views.specs.Members.{In, top, pop}
 use Rattle.views.specs.Sets.{one}
 use Rattle.views.proofs.Members.{in-nil}
 use Rattle.views.proofs.Numbers.{never-0}
 use Rattle.rules.specs.Data.{Step, Event as Outward, Group, Result, refused, accepted}
 use Rattle.rules.specs.Promise.{Promised}
-use Rattle.events.specs.Replies.{verdictOf}
 use Rattle.group_bytes.specs.Groups.{Ranges}
 use Rattle.group_bytes.specs.Starts.{startRanges}
 use Rattle.group_bytes.specs.Steps.{startResult, stepRanges, stepReply, repliesOf}
 use Rattle.events.specs.Shown.{shownBy, eventsShown}
 use Rattle.group_bytes.specs.Promises.{Given, AllGiven}
+use Rattle.group_run.proofs.Turning.{same-ranges}
 use Rattle.c_answers.specs.Answers.{eventSize}
 use Rattle.c_answers.proofs.AnswerLaws.{sized-met, sized-unmet}
 use Rattle.dvs.specs.GroupCalls.{Begins, Steps, stepping}
 use Rattle.dvs.specs.Promises.{Called, none, call, Demand3}
 use Rattle.dvs.proofs.GroupLaws.{step-left}
-
-same-ranges : (d r : Ranges) → d .list ≡ r .list → d .books ≡ r .books → d .queues ≡ r .queues → d ≡ r
-same-ranges d r a b q = λ i. record { list = a i; books = b i; queues = q i }
 
 -- steps from the ranges r that show the events l
 abbrev Shown : Ranges → List (Outward ℕ) → Type 0

@@ -1,26 +1,24 @@
 -- Demand 2 of a host's messages, by the contracts of dvs_read and dvs_write: what is read is written again, and what is written is read again.
 use mathlib.Core.Path.{_≡_, refl, sym, ap, _∙_}
-use mathlib.Core.Bool.{Bool, true, false}
-use mathlib.Core.List.{List, [], _∷_, _++_}
-use Prim.Native.Nat.{ℕ, zero, suc, _^_, _≤_, _<_}
+use mathlib.Core.Bool.{true}
+use mathlib.Core.List.{List, _++_}
+use Prim.Native.Nat.{ℕ, _≤_}
 use native.Mathlib.Omega.{arith}
-use borrow.Author.Tests.{eq-eqb, eqb-true, le-leb, leb-true, eqb-false}
-use lib.Dec.{eqb, leb}
+use borrow.Author.Tests.{eq-eqb, eqb-true, le-leb, eqb-false}
+use lib.Dec.{eqb}
 use lib.ListN.{length, getD, take, drop}
 use lib.Seq.{take-at}
-use Rattle.views.specs.declared.View.{View}
 use Rattle.views.specs.declared.refusal.Verdict.{Verdict}
 use Rattle.views.specs.declared.refusal.Verdict.the-variants.{Accepted, Refused}
 use Rattle.views.specs.Refusals.{numberOf, codeOf, require, andThen, left}
 use Rattle.views.proofs.Numbers.{never-0}
-use Rattle.wire.specs.declared.Reading.{Reading}
-use Rattle.wire.specs.Widths.{AreBytes, Fits}
+use Rattle.wire.specs.Widths.{AreBytes}
 use Rattle.wire.specs.Format.{isKnown}
 use Rattle.wire.specs.Reader.{readOf}
 use Rattle.wire.specs.Writer.{frameBytes, frameVerdict, writeVerdict, overwritten}
 use Rattle.wire.specs.Records.{recordSize, recordKind, recordBytes, frameOf}
-use Rattle.wire.specs.Promises.{canonical, RecordOf}
-use Rattle.wire.proofs.VerdictLaws.{need-accepted}
+use Rattle.wire.specs.Promises.{canonical}
+use Rattle.views.proofs.VerdictLaws.{need-accepted}
 use Rattle.wire.proofs.RoundTrip.{written-reads}
 use Rattle.wire.proofs.RecordTrip.{record-fits, read-record-is-written, read-places}
 use Rattle.wire.proofs.RecordLaws.{length-record}

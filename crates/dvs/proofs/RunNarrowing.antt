@@ -3,15 +3,15 @@ use mathlib.Core.Path.{_≡_, refl, sym, _∙_}
 use mathlib.Core.Bool.{Bool, true, false}
 use mathlib.Core.List.{List}
 use Prim.Native.Nat.{ℕ, _≤_}
-use native.Mathlib.Omega.{arith}
 use lib.ListN.{length}
 use Rattle.views.specs.declared.refusal.Refusal.{Refusal}
 use Rattle.views.specs.declared.refusal.Refusal.the-variants.{RecordsUnsound}
 use Rattle.views.specs.declared.refusal.Verdict.{Verdict}
-use Rattle.views.specs.declared.refusal.Verdict.the-variants.{Accepted, Refused}
+use Rattle.views.specs.declared.refusal.Verdict.the-variants.{Refused}
 use Rattle.views.specs.Limits.{maxMembers}
 use Rattle.views.specs.Refusals.{codeOf, require, left}
 use Rattle.views.specs.Sets.{fits}
+use Rattle.views.proofs.VerdictLaws.{never}
 use Rattle.rules.specs.Sound.{within}
 use Rattle.rules.specs.Group.{start}
 use Rattle.rules.proofs.TestLaws.{within-says}
@@ -21,9 +21,6 @@ use Rattle.group_run.specs.Runs.{paired, runVerdict, Ran}
 use Rattle.c_answers.specs.Answers.{narrowed}
 use Rattle.c_answers.proofs.StandIns.{RefusedAlike, need-alike, unmet-alike, by-width, within-large, fits-none, fits-large}
 use Rattle.dvs.specs.GroupCalls.{Runs}
-
-never : (x : Refusal) → Refused x ≡ Accepted → ⊥
-never x e = let z : _≡_ {A = ℕ} 0 1 = cc in omega arith
 
 -- the refusal of a run whose start is refused
 stops : (t : Bool) (x : Refusal) → (y : Refusal) × (require t RecordsUnsound (Refused x) ≡ Refused y)

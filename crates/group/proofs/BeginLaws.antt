@@ -1,6 +1,6 @@
 -- Start: its refusals in order, the books laid one after another, and what an accepted start leaves.
 use mathlib.Core.Path.{_≡_, refl, sym, ap, _∙_}
-use mathlib.Core.Bool.{Bool, true, false, not}
+use mathlib.Core.Bool.{Bool, true, false}
 use mathlib.Core.List.{List, _++_}
 use Prim.Native.Nat.{ℕ, zero, suc, _+_, _*_, _/_, _%_, _≤_, _<_}
 use native.Mathlib.Omega.{arith}
@@ -12,11 +12,11 @@ use Rattle.views.specs.declared.refusal.Refusal.the-variants.{MembersOutOfRange
 use Rattle.views.specs.declared.refusal.Verdict.the-variants.{Accepted, Refused}
 use Rattle.views.specs.Limits.{maxMembers, maxViews}
 use Rattle.views.specs.Sizes.{viewSize}
-use Rattle.views.specs.Sets.{both, fits}
 use Rattle.views.specs.Refusals.{left}
 use Rattle.rules.specs.Data.{need}
 use Rattle.rules.specs.Sound.{conditions, setFits}
 use Rattle.rules.specs.Group.{start, firstView}
+use Rattle.rules.proofs.Truth.{both-unit}
 use Rattle.events.specs.Replies.{verdictOf}
 use Rattle.book_bytes.specs.Places.{bookSize}
 use Rattle.book_bytes.specs.Starts.{startBytes}
@@ -54,11 +54,7 @@ module _ (l b q : ℕ) where
 
       pub long-queues : 1 ≤ l / viewSize → l / viewSize ≤ maxViews → (x : Bool) → x ≡ eqb q (queuesSize (l / viewSize)) → x ≡ longFor l b q
       unfolding longFor conditions
-      long-queues h k x e = rw (eq-eqb _ _ whole, eq-eqb _ _ books, le-leb 1 (l / viewSize) h, le-leb (l / viewSize) maxViews k) (e ∙ sym (unit (eqb q (queuesSize (l / viewSize)))))
-        where
-          unit : (c : Bool) → both c true ≡ c
-          unit true = refl
-          unit false = refl
+      long-queues h k x e = rw (eq-eqb _ _ whole, eq-eqb _ _ books, le-leb 1 (l / viewSize) h, le-leb (l / viewSize) maxViews k) (e ∙ sym (both-unit (eqb q (queuesSize (l / viewSize)))))
 
 -- ---- 4, 1, 2, 3
 

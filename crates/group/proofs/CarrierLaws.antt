@@ -11,7 +11,7 @@ use Rattle.views.specs.declared.refusal.Verdict.{Verdict}
 use Rattle.views.specs.declared.refusal.Verdict.the-variants.{Accepted, Refused}
 use Rattle.views.specs.Sets.{one}
 use Rattle.views.specs.Refusals.{left}
-use Rattle.rules.specs.Data.{Step, ok, Result, refused, accepted, need}
+use Rattle.rules.specs.Data.{Step, Result, refused, accepted, need}
 use Rattle.rules.specs.Group.{Next, creates, passStep, orderStep, pick, stepOf}
 use Rattle.rules.specs.Member.{Passing}
 use Rattle.rules.proofs.Holding.{Holds, refuses, gives, given, need-holds, first-holds, after-holds, listed-holds}

@@ -1,5 +1,5 @@
 -- A step with a stand-in for an operand that is too large for its sort is the step with the operand itself.
-use mathlib.Core.Path.{_≡_, refl, sym, ap, _∙_}
+use mathlib.Core.Path.{_≡_, refl, sym, _∙_}
 use mathlib.Core.Logic.{⊎-elim}
 use mathlib.Core.Bool.{true, false}
 use mathlib.Core.List.{List}
@@ -24,7 +24,7 @@ use Rattle.c_answers.specs.Answers.{narrowed}
 use Rattle.c_answers.proofs.StandIns.{by-width, fits-none, fits-large}
 use Rattle.group_bytes.specs.Groups.{Ranges, membersOf, madeOf, viewsMade, placeOf, groupIn, rangesSound}
 use Rattle.group_bytes.specs.Steps.{moved}
-use Rattle.group_steps.specs.CarrierParts.{Ordered, ordering}
+use Rattle.group_steps.specs.CarrierParts.{Ordered}
 use Rattle.group_steps.specs.VisitParts.{Joined}
 use Rattle.rules.specs.Group.{orderStep}
 use Rattle.group_steps.proofs.Rows.{ranged, no-member}

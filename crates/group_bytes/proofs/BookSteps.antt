@@ -1,14 +1,14 @@
 -- A member's own step in a sound group: the ranges with the bytes that the step leaves are the group with the rule's book.
 use mathlib.Core.Path.{_≡_, refl}
 use mathlib.Core.Bool.{true}
-use mathlib.Core.List.{List, _∷_}
-use Prim.Native.Nat.{ℕ, suc, _^_, _≤_, _<_}
+use mathlib.Core.List.{List}
+use Prim.Native.Nat.{ℕ, _^_, _≤_, _<_}
 use borrow.Author.Tests.{le-leb}
 use lib.ListN.{length}
 use Rattle.views.specs.declared.View.{View}
 use Rattle.views.specs.Limits.{maxOpen}
-use Rattle.views.proofs.Members.{In, top, pop}
-use Rattle.wire.proofs.TripViews.{ViewFits, EachFits, AreBytes, views-fit}
+use Rattle.views.proofs.Members.{In}
+use Rattle.wire.proofs.TripViews.{ViewFits, AreBytes, views-fit}
 use Rattle.rules.specs.Data.{Member, Book, Group, Result, refused, accepted, need, after}
 use Rattle.rules.specs.Member.{Done, attempted, joins, attempts, registers, sends, hands, tells, safes, collects}
 use Rattle.rules.specs.Sound.{sound}
@@ -22,6 +22,7 @@ use Rattle.book_steps.proofs.Means.{Means, gave}
 use Rattle.book_steps.proofs.MeansJoin.{join-means, attempt-means}
 use Rattle.book_steps.proofs.MeansMarks.{hand-means, safe-means, collect-means}
 use Rattle.book_steps.proofs.MeansSpeak.{register-means, send-means, tell-means}
+use Rattle.book_steps.proofs.TurnFits.{each-in}
 use Rattle.group_bytes.specs.Places.{bookBytes}
 use Rattle.group_bytes.specs.Groups.{Ranges, membersOf, viewsMade, groupIn}
 use Rattle.group_bytes.specs.Moves.{rebooked, joinRanges}
@@ -47,10 +48,6 @@ attempt-few s h p i weight n =
     view-holds _ _ _ (λ v c. need-holds _ _ _ (λ _. need-holds _ _ _ (λ _. need-holds _ _ _ (λ _. gives (attempt-short s h p i v c)))))
 
 -- ---- the steps
-
-each-in : (l : List View) → EachFits l → (v : View) → In v l → ViewFits v
-each-in (w ∷ l) f v top = f 0
-each-in (w ∷ l) f v (pop i) = each-in l (λ (j : ℕ). f (suc j)) v i
 
 module _ (r : Ranges) (fits : Ranged r) (bytes : RangesBytes r) (sounds : sound (groupIn r) ≡ true) where
   -- a listed view is within its widths

@@ -42,6 +42,7 @@ use Rattle.group_bytes.proofs.BookSounds.{book-is, sound-book}
 use Rattle.group_bytes.proofs.RebookLaws.{rebook}
 use Rattle.group_bytes.proofs.BookSteps.{facts, few-given}
 use Rattle.group_bytes.proofs.Widths.{InWidths, order-widths, told-byte}
+use Rattle.group_bytes.proofs.Tables.{group-as}
 
 -- ---- over a group of the rules: what taking a sound entry leaves
 
@@ -96,9 +97,6 @@ pub record Takes (r : Ranges) (p : Member) (q : Member) (m : Message) : Type 0 w
 
 pub takes-accepted : (r : Ranges) (p q : Member) (m : Message) → Takes r p q m → taking q m (groupIn r .books p) ≡ does ok (delivered q m (groupIn r .books p))
 takes-accepted r p q m t = few-given (does ok (delivered q m (groupIn r .books p))) (gives (t .few))
-
-means-group-as : {r : Ranges} {s t : Group} → s ≡ t → MeansGroup r s → MeansGroup r t
-means-group-as e m = record { group = m .group ∙ e; fits = m .fits; bytes = m .bytes }
 
 module _ (r : Ranges) (fits : Ranged r) (bytes : RangesBytes r) (sounds : sound (groupIn r) ≡ true) (p : ℕ) (member : p < membersOf r) where
   abbrev b : List ℕ
@@ -165,7 +163,7 @@ module _ (r : Ranges) (fits : Ranged r) (bytes : RangesBytes r) (sounds : sound 
       let few : length (delivered q m (bookIn b) .held .opens) ≤ maxOpen = rw (← book-is r fits p member) (t .few) in
       let means = take-means b (book-bytes (r .books) p (bytes .books)) (sound-book r fits p member sounds) q m
       (omega (arith, t .sender, fits .members .1)) (t .widths .message) (t .widths .sets) (t .count) (t .there) (t .room) few in
-      means-group-as (ap (λ (C : Book). booked (groupIn r) p (delivered q m C)) (sym (book-is r fits p member)))
+      group-as (ap (λ (C : Book). booked (groupIn r) p (delivered q m C)) (sym (book-is r fits p member)))
       (rebook r fits bytes p member (takeBytes q m b) (delivered q m (bookIn b)) means)
 
   delivers : Holds (λ (x : Next). Takes r p q m × MeansGroup (deliverRanges r p) (x .state)) (deliverStep (groupIn r) p)
@@ -173,7 +171,7 @@ module _ (r : Ranges) (fits : Ranged r) (bytes : RangesBytes r) (sounds : sound 
   delivers =
       view-holds _ _ _ (λ v c. first-holds _ _ _ (λ e rest d.
       let t = next-takes v e rest c d in
-      gives (t, means-group-as (ap (λ (x : Entry). booked (groupIn r) p (takeFrom x B)) (sym (next-entry v e rest c d .entry))) (deliver-means t))))
+      gives (t, group-as (ap (λ (x : Entry). booked (groupIn r) p (takeFrom x B)) (sym (next-entry v e rest c d .entry))) (deliver-means t))))
 
   -- an accepted deliver takes the next entry
   pub deliver-takes : (x : Next) → deliverStep (groupIn r) p ≡ accepted x

@@ -1,6 +1,6 @@
 -- Demand 2 of the three ranges: a start and each step are the rules', on ranges of any content.
 use mathlib.Core.Path.{_≡_, refl, ap}
-use mathlib.Core.Bool.{Bool, true, false}
+use mathlib.Core.Bool.{true, false}
 use Prim.Native.Nat.{ℕ}
 use native.Mathlib.Omega.{arith}
 use Rattle.views.specs.declared.refusal.Refusal.{Refusal}
@@ -61,7 +61,7 @@ unfolding left
 kept (refused g) m r f e = refl
 kept (accepted y) m r f e = let z : _≡_ {A = ℕ} 0 1 = cc in absurd (omega arith)
 
-step-refused : (r : Ranges) (c : Step) (f : Refusal) → stepReply r c .verdict ≡ Refused f → stepRanges r c ≡ r
+pub step-refused : (r : Ranges) (c : Step) (f : Refusal) → stepReply r c .verdict ≡ Refused f → stepRanges r c ≡ r
 unfolding stepReply stepRanges
 step-refused r c f e = kept (stepResult r c) (moved r c) r f e
 

@@ -1,13 +1,11 @@
 -- The queues of the views made lie within their range, and the first entry of a queue that is not empty.
 use mathlib.Core.Path.{_≡_}
-use mathlib.Core.Bool.{true}
 use mathlib.Core.List.{List, _∷_}
 use Prim.Native.Nat.{ℕ, zero, suc, _+_, _≤_, _<_}
 use native.Mathlib.Omega.{arith}
 use lib.ListN.{length, drop}
-use Rattle.wire.proofs.TripMessages.{both-first}
 use Rattle.rules.specs.Data.{Entry}
-use Rattle.slots.specs.Slots.{slotSize, entryIn, entriesIn, slotFits, slotsFit}
+use Rattle.slots.specs.Slots.{slotSize, entryIn, entriesIn}
 use Rattle.group_bytes.specs.Places.{waitingSize, orderAt, waitingAt}
 use Rattle.slots.specs.Columns.{orderSize}
 use Rattle.group_bytes.specs.Groups.{Ranges, membersOf, madeOf}
@@ -36,8 +34,3 @@ entries-first b at (suc n) e rest h =
     let k : e ≡ entryIn b at = cc in
     let l : rest ≡ entriesIn b (at + slotSize) n = cc in
     record { some = omega arith; entry = k; behind = l }
-
-pub first-fits : (b : List ℕ) (at n : ℕ) → 0 < n → slotsFit b at n ≡ true → slotFits b at ≡ true
-unfolding slotsFit
-first-fits b at zero h e = absurd (omega arith)
-first-fits b at (suc n) h e = both-first (slotFits b at) (slotsFit b (at + slotSize) n) e

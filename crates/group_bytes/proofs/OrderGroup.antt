@@ -28,6 +28,7 @@ use Rattle.slots.proofs.Orders.{length-order, order-changed, order-count, order
 use Rattle.slots.proofs.Outside.{Changed, Apart, queue-whole}
 use Rattle.slots.proofs.Queues.{pop-changed, pop-count, pop-drops, pop-fits}
 use Rattle.slots.proofs.BytesKept.{popped-bytes}
+use Rattle.slots.proofs.Lists.{slots-first}
 use Rattle.book_steps.proofs.Means.{gave}
 use Rattle.group_bytes.specs.Places.{madeAt, waitingSize, orderAt, waitingAt}
 use Rattle.group_bytes.specs.Groups.{Ranges, membersOf, madeOf, viewsMade, placeOf, waitingIn, orderIn, groupIn}
@@ -35,7 +36,7 @@ use Rattle.group_bytes.specs.Moves.{orderRanges}
 use Rattle.group_bytes.proofs.RangesLaws.{RangesBytes, Queued, Columned, Ranged, MeansGroup}
 use Rattle.group_bytes.proofs.PlaceLaws.{length-made, place-found}
 use Rattle.group_bytes.proofs.Apart.{waiting-off-order, count-still, queue-still, queued-still}
-use Rattle.group_bytes.proofs.Inside.{order-inside, waiting-inside, entries-first, first-fits}
+use Rattle.group_bytes.proofs.Inside.{order-inside, waiting-inside, entries-first}
 use Rattle.group_bytes.proofs.Tables.{waiting-at, order-at, place-still, requeued, rewaited, reordered, orders, waits, group-as}
 use Rattle.group_bytes.proofs.Widths.{InWidths, message-widths, told-byte, told-number}
 
@@ -174,7 +175,7 @@ module _ (r : Ranges) (fits : Ranged r) where
           some = one .some;
           few = queued .few;
           room = omega (arith, room, length-order (r .queues) (orderAt i));
-          first = first-fits (r .queues) (w + 1) (getD (r .queues) w 0) (one .some) (queued .slots);
+          first = slots-first (r .queues) (w + 1) (getD (r .queues) w 0) (one .some) (queued .slots);
           told = told;
           count = told-number (r .queues) (w + 1) told;
           waiting = waiting-inside r fits i there p member;

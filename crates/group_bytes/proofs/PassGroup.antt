@@ -21,7 +21,7 @@ use Rattle.rules.proofs.Sound.{sound-says}
 use Rattle.rules.proofs.Holding.{Holds, gives, need-holds, view-holds, first-holds, then-holds}
 use Rattle.slots.specs.Slots.{slotSize, entryIn, queueIn, slotFits}
 use Rattle.slots.proofs.Outside.{Changed, queue-whole}
-use Rattle.slots.proofs.Lists.{length-entries}
+use Rattle.slots.proofs.Lists.{length-entries, slots-first}
 use Rattle.slots.proofs.BytesKept.{take-bytes, drop-bytes}
 use Rattle.book_bytes.specs.Places.{bookSize, outgoingAt}
 use Rattle.book_bytes.specs.Records.{recordIn}
@@ -36,7 +36,7 @@ use Rattle.group_bytes.specs.Moves.{rebooked, slotAdded, passRanges}
 use Rattle.group_bytes.proofs.RangesLaws.{RangesBytes, Queued, Ranged, MeansGroup}
 use Rattle.group_bytes.proofs.PlaceLaws.{length-made, place-in}
 use Rattle.group_bytes.proofs.SlotLaws.{add-changed, add-count, add-appends, add-fits, add-bytes}
-use Rattle.group_bytes.proofs.Inside.{waiting-inside, entries-first, first-fits}
+use Rattle.group_bytes.proofs.Inside.{waiting-inside, entries-first}
 use Rattle.group_bytes.proofs.Tables.{waiting-at, rewaited, waits, group-as}
 
 -- what another book for a member does to the group
@@ -111,7 +111,7 @@ module _ (r : Ranges) (fits : Ranged r) (p : Member) (member : p < membersOf r) 
           there = there;
           some = one .some;
           few = layout .outgoing;
-          first = first-fits b (outgoingAt + 1) (getD b outgoingAt 0) (one .some) (layout .slots);
+          first = slots-first b (outgoingAt + 1) (getD b outgoingAt 0) (one .some) (layout .slots);
           size = layout .size;
           room = omega (arith, room, length-entries (r .queues) (w + 1) (getD (r .queues) w 0));
           waiting = waiting-inside r fits i there p member;

@@ -36,9 +36,6 @@ pub place-one : (g h : ℕ) (l : List View) → placeOf g l < length l → place
 place-one g h l i e =
     sym (place-id h l (rw e i)) ∙ ap (λ (k : ℕ). idOf (getD l k noView)) e ∙ place-id g l i
 
-pub place-apart : (g h : ℕ) (l : List View) → placeOf g l < length l → h ≢ g → placeOf h l ≢ placeOf g l
-place-apart g h l i n e = n (place-one g h l i e)
-
 pub place-found : (g : ℕ) (l : List View) (v : View) → findOf g l ≡ Found v → (placeOf g l < length l) × (getD l (placeOf g l) noView ≡ v) × (idOf v ≡ g)
 unfolding placeOf findOf
 place-found g [] v h = let z : _≡_ {A = ℕ} 0 1 = cc in absurd (omega arith)

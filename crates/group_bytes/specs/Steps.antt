@@ -5,8 +5,6 @@ use Prim.Native.Nat.{ℕ, zero, suc, _%_}
 use lib.Dec.{eqb}
 use lib.ListN.{length}
 use Rattle.views.specs.declared.refusal.Refusal.the-variants.{RecordsUnsound}
-use Rattle.views.specs.declared.refusal.Verdict.{Verdict}
-use Rattle.views.specs.declared.refusal.Verdict.the-variants.{Accepted, Refused}
 use Rattle.views.specs.Limits.{maxViews}
 use Rattle.views.specs.Sizes.{viewSize}
 use Rattle.views.specs.Sets.{one}

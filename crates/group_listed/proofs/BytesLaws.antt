@@ -1,19 +1,16 @@
 -- The list by value as bytes.
-use mathlib.Core.Path.{_≡_, refl, sym, _∙_, ap, subst}
-use mathlib.Core.Bool.{cond}
-use mathlib.Core.List.{List, [], _∷_, _++_, append-nil}
-use Prim.Native.Nat.{ℕ, zero, suc, _+_, _-_, _*_, _≤_, _<_, min}
+use mathlib.Core.Path.{_≡_, refl, sym, _∙_, ap}
+use mathlib.Core.List.{List, _++_, append-nil}
+use Prim.Native.Nat.{ℕ, _+_, _-_, _*_, _≤_, _<_, min}
 use native.Mathlib.Decide.{decLe}
 use native.Mathlib.Omega.{arith}
 use borrow.Author.Tests.{lt-ltb, le-ltb}
-use lib.Dec.{ltb}
-use lib.ListN.{length, getD, take, drop, replicate, length-append, length-take}
+use lib.ListN.{length, take, drop, replicate, length-append, length-take}
 use lib.Seq.{take-all, take-length, take-at}
-use Rattle.views.specs.declared.View.{View}
 use Rattle.views.specs.declared.list.Views.{Views}
 use Rattle.views.specs.Limits.{maxViews}
 use Rattle.views.specs.Sizes.{viewSize}
-use Rattle.views.specs.Lists.{noView, listOf, places, placed}
+use Rattle.views.specs.Lists.{listOf}
 use Rattle.views.proofs.PlaceLaws.{length-used}
 use Rattle.wire.specs.Format.{viewsBytes}
 use Rattle.wire.proofs.SeamLaws.{length-viewsBytes}

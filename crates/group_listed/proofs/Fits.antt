@@ -1,18 +1,14 @@
 -- The views of a list by value are within their widths, as its type says.
-use mathlib.Core.Path.{refl}
 use mathlib.Core.List.{List, [], _∷_, map}
-use Prim.Native.Nat.{ℕ, zero, suc}
+use Prim.Native.Nat.{zero, suc}
 use lib.Dec.{lit<}
-use lib.ListN.{getD}
 use mir.Val.{Val}
-use denote.RattleType.{RattleType}
 use denote.Laws.{Is}
 use denote.Shadow.{shadow}
 use denote.Array.{each}
 use denote.Struct.Laws as LL
 use Rattle.views.specs.declared.View.{View}
 use Rattle.views.specs.declared.list.Views.{Views}
-use Rattle.views.specs.Lists.{noView}
 use Rattle.views.proofs.View as T
 use Rattle.views.proofs.View.Laws as T′
 use Rattle.views.proofs.ViewId as I

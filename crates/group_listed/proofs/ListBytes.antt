@@ -2,7 +2,7 @@
 use mathlib.Core.Path.{_≡_, refl, sym, _∙_, ap, subst}
 use mathlib.Core.Bool.{Bool, true, false}
 use mathlib.Core.List.{List, [], _++_, append-nil}
-use Prim.Native.Nat.{ℕ, zero, suc, _+_, _*_, _<_}
+use Prim.Native.Nat.{ℕ, zero, suc, _+_, _*_}
 use native.Mathlib.Omega.{arith}
 use lib.ListN.{length, length-replicate}
 use lib.Seq.{take-all, drop-nil}
@@ -34,9 +34,9 @@ use Rattle.group_bytes.proofs.Creating.{create-says}
 use Rattle.group_bytes.proofs.RangesLaws.{ranges-says}
 use Rattle.group_bytes.proofs.StartGroup.{start-group}
 use Rattle.group_bytes.proofs.GroupRuns.{start-holds}
+use Rattle.group_bytes.proofs.Demand2.{step-refused}
 use Rattle.group_listed.specs.Calls.{rangesOf, Began, Went}
 use Rattle.group_listed.proofs.ListLaws.{moved-list, step-changed}
-use Rattle.group_listed.proofs.StepLaws.{step-stays}
 
 -- ---- bytes
 
@@ -97,7 +97,7 @@ module _ (l : List View) (b q : List ℕ) (c : Step) (k : List View) (d e : List
   unfolding left
   list-is Accepted f = ap viewsBytes (left-is Accepted f) ∙ views-written list-left n (step-changed R c .long ∙ length-viewsBytes l) are-bytes
   list-is (Refused y) f =
-      ap viewsBytes (left-is (Refused y) f) ∙ sym (ap (λ (r : Ranges). r .list) (step-stays R c y (sym (ap (λ (z : Reply). z .verdict) (w .reply)) ∙ f)))
+      ap viewsBytes (left-is (Refused y) f) ∙ sym (ap (λ (r : Ranges). r .list) (step-refused R c y (sym (ap (λ (z : Reply). z .verdict) (w .reply)) ∙ f)))
 
   fit-left : (v : Verdict) → x .verdict ≡ v → EachFits k
   unfolding left

@@ -1,13 +1,13 @@
 -- The list's records after a step: nothing of the list changes but the record behind the views made.
-use mathlib.Core.Path.{_≡_, refl, sym, _∙_, ap, subst}
+use mathlib.Core.Path.{_≡_, refl, sym, _∙_, ap}
 use mathlib.Core.Logic.{inl, inr}
-use mathlib.Core.List.{List, [], _∷_, _++_, append-nil}
-use Prim.Native.Nat.{ℕ, zero, suc, _+_, _*_, _/_, _≤_, _<_}
+use mathlib.Core.List.{List, [], append-nil}
+use Prim.Native.Nat.{ℕ, zero, suc, _+_, _*_, _<_}
 use native.Mathlib.Decide.{decLe}
 use native.Mathlib.Omega.{arith}
 use borrow.Author.Tests.{lt-ltb}
-use lib.ListN.{length, getD, set, take, length-set}
-use lib.Seq.{ext-getD, getD-set-same, getD-set-other, getD-take}
+use lib.ListN.{length, getD, set, length-set}
+use lib.Seq.{ext-getD, getD-set-same, getD-set-other}
 use Rattle.views.specs.declared.View.{View}
 use Rattle.views.specs.declared.refusal.Verdict.{Verdict}
 use Rattle.views.specs.declared.refusal.Verdict.the-variants.{Accepted, Refused}
@@ -18,7 +18,7 @@ use Rattle.wire.specs.Format.{viewsBytes}
 use Rattle.wire.specs.Reader.{viewIn, viewsIn}
 use Rattle.wire.proofs.ReaderLaws.{length-viewsIn}
 use Rattle.wire.proofs.SeamLaws.{length-viewsBytes}
-use Rattle.wire.proofs.TripViews.{ViewFits, EachFits, views-back}
+use Rattle.wire.proofs.TripViews.{EachFits, views-back}
 use Rattle.rules.specs.Data.{Step}
 use Rattle.slots.proofs.Outside.{Changed, Apart, changed-none, storeView-changed, view-apart}
 use Rattle.wire.specs.Writer.{storeView}

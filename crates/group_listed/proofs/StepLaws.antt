@@ -3,38 +3,38 @@ use mathlib.Core.Path.{_≡_, refl, sym, _∙_, ap, subst}
 use mathlib.Core.List.{List}
 use mathlib.Core.Bool.{true, false}
 use mathlib.Core.Logic.{⊎-elim}
-use Prim.Native.Nat.{ℕ, _*_, _≤_, _<_, min}
+use Prim.Native.Nat.{ℕ, _*_, _≤_, _<_}
 use native.Mathlib.Decide.{decLe}
 use native.Mathlib.Omega.{arith}
 use borrow.Author.Tests.{lt-ltb, le-ltb}
-use lib.Dec.{lit<}
-use lib.ListN.{length, getD, set, take, length-take, List·getD-eq-default}
-use lib.Seq.{getD-take, set-out}
+use lib.ListN.{length, set}
+use lib.Seq.{set-out}
 use Rattle.views.specs.declared.View.{View}
 use Rattle.views.specs.declared.list.Views.{Views}
-use Rattle.views.specs.declared.refusal.Refusal.{Refusal}
 use Rattle.views.specs.declared.refusal.Refusal.the-variants.{RecordsUnsound}
 use Rattle.views.specs.declared.refusal.Verdict.{Verdict}
 use Rattle.views.specs.declared.refusal.Verdict.the-variants.{Accepted, Refused}
 use Rattle.views.specs.Limits.{maxViews}
-use Rattle.views.specs.Lists.{noView, listOf, placed}
+use Rattle.views.specs.Lists.{listOf, placed}
 use Rattle.views.proofs.PlaceLaws.{length-places, list-placed}
 use Rattle.views.proofs.SetLaws.{known}
 use Rattle.views.specs.Refusals.{left}
 use Rattle.wire.specs.Format.{viewsBytes}
 use Rattle.wire.specs.Reader.{viewsIn}
 use Rattle.wire.proofs.SeamLaws.{length-viewsBytes}
-use Rattle.wire.proofs.TripViews.{ViewFits, EachFits}
-use Rattle.rules.specs.Data.{Step, Result, refused, accepted}
-use Rattle.rules.specs.Group.{Next, firstView}
+use Rattle.wire.proofs.TripViews.{EachFits}
+use Rattle.wire.proofs.RecordTrip.{take-fit}
+use Rattle.rules.specs.Data.{Step}
+use Rattle.rules.specs.Group.{firstView}
 use Rattle.events.specs.declared.Reply.{Reply}
-use Rattle.events.specs.Replies.{noEvent, verdictOf}
+use Rattle.events.specs.Replies.{noEvent}
 use Rattle.group_bytes.specs.Places.{roomOf}
 use Rattle.group_bytes.specs.Groups.{Ranges, ranges, madeOf, rangesFit}
 use Rattle.group_bytes.specs.Answers.{nextReply}
-use Rattle.group_bytes.specs.Steps.{moved, stepResult, stepRanges, stepReply}
+use Rattle.group_bytes.specs.Steps.{stepRanges, stepReply}
 use Rattle.group_bytes.proofs.RangesLaws.{ranges-says}
 use Rattle.group_bytes.proofs.StepGroup.{step-unfit}
+use Rattle.group_bytes.proofs.Demand2.{step-refused}
 use Rattle.group.specs.StartCalls.{Began}
 use Rattle.group.specs.StepCalls as bytes
 use Rattle.group_listed.specs.declared.Stepped.{Stepped}
@@ -58,15 +58,6 @@ begun-by l b q p n S k d e v at same began from =
 
 -- ---- a step put to the records
 
--- the views of a list in its places fit if those of the places do
-taken-fit : (k : ℕ) (l : List View) → EachFits l → EachFits (take k l)
-taken-fit k l f j = elim (decLe k j) [ yes h ↦ past h | no h ↦ subst ViewFits (sym (getD-take k l j noView (omega arith))) (f j) ]
-  where
-    past : k ≤ j → ViewFits (getD (take k l) j noView)
-    past h =
-        let n : length (take k l) ≤ j = let m : length (take k l) ≡ min k (length l) = length-take k l in omega (arith, m, h) in
-        subst ViewFits (sym (List·getD-eq-default (take k l) noView n)) (record { id = lit< tt; set = lit< tt })
-
 -- ranges with a list that is too long do not fit
 pub long-unfit : (r : Ranges) → maxViews < roomOf (r .list) → rangesFit r ≡ false
 long-unfit r h =
@@ -74,16 +65,6 @@ long-unfit r h =
     (λ (t : rangesFit r ≡ true). absurd (omega (arith, h, ranges-says r t .room .1)))
     (λ (t : rangesFit r ≡ false). t)
     (known (rangesFit r))
-
--- a refused step leaves the ranges
-refused-stays : (x : Result Next) (new old : Ranges) (r : Refusal) → nextReply x .verdict ≡ Refused r → left (verdictOf x) new old ≡ old
-unfolding left
-refused-stays (refused y) new old r e = refl
-refused-stays (accepted y) new old r e = let i : _≡_ {A = ℕ} 0 1 = cc in absurd (omega arith)
-
-pub step-stays : (r : Ranges) (c : Step) (y : Refusal) → stepReply r c .verdict ≡ Refused y → stepRanges r c ≡ r
-unfolding stepReply stepRanges
-step-stays r c y e = refused-stays (stepResult r c) (moved r c) r y e
 
 module _ (ys : List View) (b q : List ℕ) (c : Step) (l : Views) (same : l ≡ placed ys) (fits : EachFits (l .at)) (d e : List ℕ) (x : Stepped) (s : SteppedBy l b q c d e x) (zs : List View) (put : zs ≡ set ys (x .at) (x .view)) where
   abbrev R : Ranges
@@ -104,7 +85,7 @@ module _ (ys : List View) (b q : List ℕ) (c : Step) (l : Views) (same : l ≡ 
     whole = rw same (list-placed ys h)
 
     each : EachFits ys
-    each = subst EachFits whole (taken-fit (l .count) (l .at) fits)
+    each = subst EachFits whole (take-fit (l .count) (l .at) fits)
 
     bytes-are : bytesIn l ≡ viewsBytes ys
     bytes-are = short-bytes l places-long (omega (arith, count-is, h)) ∙ ap viewsBytes whole
@@ -128,7 +109,7 @@ module _ (ys : List View) (b q : List ℕ) (c : Step) (l : Views) (same : l ≡ 
     unfolding left
     left-views Accepted k = filled
     left-views (Refused y) k =
-        let t : stepRanges R c ≡ R = step-stays R c y (sym (ap (λ (z : Reply). z .verdict) reply-is) ∙ k) in
+        let t : stepRanges R c ≡ R = step-refused R c y (sym (ap (λ (z : Reply). z .verdict) reply-is) ∙ k) in
         filled ∙ ap (λ (r : Ranges). viewsIn (r .list) 0 n) t ∙ views-whole ys each
 
     short-went : Went ys b q c zs d e (x .reply)

@@ -1,5 +1,5 @@
 -- A run's verdict by its tests in order, and the promises of an accepted run.
-use mathlib.Core.Path.{_≡_, refl, sym, _∙_}
+use mathlib.Core.Path.{_≡_, sym, _∙_}
 use mathlib.Core.Bool.{Bool, true, false}
 use mathlib.Core.List.{List}
 use Prim.Native.Nat.{ℕ, _*_, _/_, _%_}
@@ -12,11 +12,12 @@ use Rattle.views.specs.declared.refusal.Refusal.the-variants.{RecordsUnsound}
 use Rattle.views.specs.declared.refusal.Verdict.{Verdict}
 use Rattle.views.specs.declared.refusal.Verdict.the-variants.{Accepted, Refused}
 use Rattle.views.specs.Refusals.{require, left}
-use Rattle.views.specs.Sets.{both}
-use Rattle.rules.specs.Data.{Group, Result, refused, accepted}
+use Rattle.views.proofs.VerdictLaws.{never}
 use Rattle.rules.specs.Sound.{conditions}
 use Rattle.rules.proofs.TestLaws.{conditions-say}
+use Rattle.rules.proofs.Truth.{both-unit}
 use Rattle.events.specs.Replies.{verdictOf}
+use Rattle.events.proofs.ReplyLaws.{accepts}
 use Rattle.group_bytes.specs.Groups.{Ranges}
 use Rattle.group_bytes.specs.Starts.{startRanges}
 use Rattle.group_bytes.specs.Steps.{startResult, lastRanges, repliesOf}
@@ -42,11 +43,7 @@ module _ (s a : ℕ) where
 
     pub answers-counted : a % answerSize ≡ 0 → (x : Bool) → x ≡ eqb (a / answerSize) (s / stepSize) → x ≡ paired s a
     unfolding paired conditions
-    answers-counted h x e = rw (eq-eqb _ _ whole, eq-eqb _ _ h) (e ∙ sym (unit (eqb (a / answerSize) (s / stepSize))))
-      where
-        unit : (c : Bool) → both c true ≡ c
-        unit true = refl
-        unit false = refl
+    answers-counted h x e = rw (eq-eqb _ _ whole, eq-eqb _ _ h) (e ∙ sym (both-unit (eqb (a / answerSize) (s / stepSize))))
 
 -- records that pair have an answer to each step
 pub paired-long : (s a : ℕ) → paired s a ≡ true → a ≡ answerSize * (s / stepSize)
@@ -56,14 +53,6 @@ paired-long s a h =
     omega (arith, eqb-true (a % answerSize) 0 whole, eqb-true (a / answerSize) (s / stepSize) same)
 
 -- ---- the verdict
-
-never : (x : Refusal) → Refused x ≡ Accepted → ⊥
-never x e = let z : _≡_ {A = ℕ} 0 1 = cc in omega arith
-
--- the result of an accepted start
-accepts : (x : Result Group) → verdictOf x ≡ Accepted → (s : Group) × (x ≡ accepted s)
-accepts (refused f) e = absurd (never f e)
-accepts (accepted s) e = (s, refl)
 
 module _ (n S : ℕ) (r : Ranges) (steps a : List ℕ) where
   refused-ran : (x : Refusal) → runVerdict n S r steps a ≡ Refused x → Ran n S r steps a r a (Refused x)

@@ -24,7 +24,7 @@ use Rattle.rules.specs.Sound.{within, conditions, setFits, opensRise, listed, i
 use Rattle.rules.specs.Alone.{viewsOf, infoOf}
 use Rattle.slots.specs.Slots.{kindIn, numberIn, countIn, infoIn, messageBy, messageIn, entryIn, kindFits, slotFits}
 use Rattle.rules.proofs.TestLaws.{within-says, all-at, all-from, listed-in}
-use Rattle.rules.proofs.Truth.{both-unit, stopped}
+use Rattle.rules.proofs.Truth.{both-unit, both-false, stopped}
 use Rattle.book_sound.specs.EntryParts.{entrySound}
 use Rattle.group_sound.specs.Parts.{viewsKnown, infoKnown, entryKnown}
 use Rattle.group_sound.specs.OrderParts.{headFits}
@@ -64,10 +64,6 @@ carried-info [] h = absurd (omega arith)
 carried-info (v ∷ l) h = refl
 
 -- ---- the message of a kind, with the number x, the count k, and c views from a place on
-
-both-none : (t : Bool) → both t false ≡ false
-both-none true = refl
-both-none false = refl
 
 -- of a fitting list of views that it rises and is listed: then its sets fit
 sets-given : (f r t a : Bool) → (a ≡ true → f ≡ true) → conditions (true ∷ conditions (true ∷ f ∷ r ∷ t ∷ []) ∷ a ∷ []) ≡ both t (both r a)
@@ -133,7 +129,7 @@ module _ (b : List ℕ) (from c x k : ℕ) where
     info-asked true h =
         let f = framed h in
         rw (h, f .0, both-unit (ltb s n)) (info-given carried (f .1) (f .2))
-    info-asked false h = rw (h, both-none (both (ltb s n) true))
+    info-asked false h = rw (h, both-false (both (ltb s n) true))
 
     kind-asked : (kind : ℕ) → Kind kind → asked kind ≡ both (headFits n s kind k) (left kind)
     unfolding isKnown headFits entrySound all

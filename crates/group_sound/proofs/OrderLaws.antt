@@ -18,7 +18,7 @@ use Rattle.wire.specs.Reader.{viewIn, viewsIn}
 use Rattle.rules.specs.Member.{every, all}
 use Rattle.rules.specs.Sound.{conditions, setFits, listed, infoListed}
 use Rattle.rules.proofs.TestLaws.{within-says}
-use Rattle.rules.proofs.Truth.{both-unit, three}
+use Rattle.rules.proofs.Truth.{both-unit, both-assoc, three}
 use Rattle.slots.specs.Slots.{kindFits}
 use Rattle.slots.specs.Columns.{orderSender, orderKind, orderCount, orderViews, orderInfo, orderMessage, orderEntry, orderFits}
 use Rattle.slots.proofs.Columns.{firsts-all}
@@ -30,10 +30,6 @@ use Rattle.group_sound.proofs.Walks.{together}
 use Rattle.group_sound.proofs.Infos.{entry-asked}
 
 -- ---- tests of the first numbers
-
-regrouped : (a b c : Bool) → both (both a b) c ≡ both a (both b c)
-regrouped true b c = refl
-regrouped false b c = refl
 
 paired : (a b x y : Bool) → both (both a b) (both x y) ≡ both (both a x) (both b y)
 paired false b x y = refl
@@ -89,8 +85,8 @@ swapped false false = refl
 
 asked-last : (a b l h t : Bool) → both h (both l (both b (both a t))) ≡ conditions (t ∷ both a b ∷ both l h ∷ [])
 asked-last a b l h t =
-    sym (regrouped h l _) ∙ ap₂ both (swapped h l) (sym (regrouped b a t) ∙ swapped (both b a) t ∙ ap (both t) (swapped b a))
-    ∙ swapped (both l h) (both t (both a b)) ∙ regrouped t (both a b) (both l h) ∙ sym (three t (both a b) (both l h))
+    both-assoc h l _ ∙ ap₂ both (swapped h l) (both-assoc b a t ∙ swapped (both b a) t ∙ ap (both t) (swapped b a))
+    ∙ swapped (both l h) (both t (both a b)) ∙ sym (both-assoc t (both a b) (both l h)) ∙ sym (three t (both a b) (both l h))
 
 module _ (n s kind k told : ℕ) where
   pub head-asked : ((kind ≡ 4) × (told ≡ k)) ⊎ ((kind ≡ 4 → ⊥) × (told ≡ 1))
@@ -183,7 +179,7 @@ module _ (q : List ℕ) (c : ℕ) where
           three _ _ _
           ∙ ap₂ (λ (x y : Bool). both (both (leb count maxOrdered) (every count kinds)) (both x y))
           (firsts-all (entrySound n) (orderEntry q c) count) (firsts-all (infoListed views) (orderEntry q c) count)
-          ∙ regrouped (leb count maxOrdered) (every count kinds) (both (every count sound) (every count carried))
+          ∙ sym (both-assoc (leb count maxOrdered) (every count kinds) (both (every count sound) (every count carried)))
           ∙ ap (both (leb count maxOrdered)) (every-three count kinds sound carried
           ∙ ap (every count) (λ i k. column-asked k i)
           ∙ every-both count (headsFit n q c) (infosKnown views q c)

@@ -1,5 +1,5 @@
 -- The parts, by the tests that the code asks one after another.
-use mathlib.Core.Path.{_≡_, refl, ap, _∙_}
+use mathlib.Core.Path.{_≡_, refl}
 use mathlib.Core.Bool.{Bool, true, false, cond}
 use mathlib.Core.Option.{none, some}
 use mathlib.Core.List.{List, [], _∷_}
@@ -29,7 +29,7 @@ use Rattle.book_bytes.proofs.LayoutLaws.{layout-says}
 use Rattle.rules.proofs.Truth.{both-unit}
 use Rattle.book_sound.proofs.Tests.{opens-in}
 use Rattle.group_bytes.specs.Places.{roomOf, booksSize, bookBytes, orderAt, queuesSize}
-use Rattle.group_bytes.specs.Groups.{Ranges, membersOf, madeOf, viewsMade, placeOf}
+use Rattle.group_bytes.specs.Groups.{Ranges, membersOf, madeOf, placeOf}
 use Rattle.group_sound.specs.Parts.{sizesFit, numbersFit, listSound, viewsKnown, recordListed, orderedIn, memberSound}
 use Rattle.group_bytes.proofs.PlaceLaws.{place-in}
 

@@ -13,14 +13,16 @@ use Rattle.views.specs.Limits.{maxOrdered}
 use Rattle.views.specs.Refusals.{left}
 use Rattle.wire.specs.Format.{toldKind}
 use Rattle.wire.proofs.TripViews.{AreBytes}
-use Rattle.rules.specs.Data.{Result, refused, accepted, need, withFirst}
-use Rattle.rules.specs.Group.{Next, withListed, orderStep}
+use Rattle.rules.specs.Data.{need, withFirst}
+use Rattle.rules.specs.Group.{withListed, orderStep}
 use Rattle.rules.specs.Sound.{sound}
 use Rattle.slots.specs.Slots.{slotSize, slotFits, kindIn, numberIn, messageIn}
 use Rattle.slots.specs.Columns.{orderSize}
 use Rattle.slots.specs.Changes.{popped, ordered}
 use Rattle.slots.proofs.Orders.{length-order, order-changed}
 use Rattle.events.specs.Replies.{verdictOf}
+use Rattle.events.proofs.ReplyLaws.{accepts}
+use Rattle.book_bytes.proofs.Blank.{no-entries}
 use Rattle.group_bytes.specs.Places.{orderAt, waitingAt}
 use Rattle.group_bytes.specs.Groups.{Ranges, membersOf, madeOf, viewsMade, placeOf, waitingIn, orderIn, groupIn}
 use Rattle.group_bytes.specs.Moves.{orderRanges}
@@ -29,7 +31,7 @@ use Rattle.group_bytes.proofs.Tables.{waiting-at, order-at}
 use Rattle.group_bytes.proofs.Widths.{message-widths}
 use Rattle.group_bytes.proofs.OrderGroup.{Ordering, order-says}
 use Rattle.group_steps.specs.CarrierParts.{ordering, Ordered}
-use Rattle.group_steps.proofs.Rows.{by-rule, first-of, none-of}
+use Rattle.group_steps.proofs.Rows.{by-rule, first-of}
 use Rattle.group_steps.proofs.Found.{found-at, missing-at}
 
 -- ---- the bytes
@@ -71,10 +73,6 @@ order-accepted r p g q e f = record { verdict = sym e; moved = rw e f }
 
 -- ---- the row
 
-accepts : (x : Result Next) → verdictOf x ≡ Accepted → (y : Next) × (x ≡ accepted y)
-accepts (accepted y) e = (y, refl)
-accepts (refused f) e = let z : _≡_ {A = ℕ} 0 1 = cc in absurd (omega arith)
-
 module _ (r : Ranges) (p g : ℕ) where
   module _ (member : p < membersOf r) where
     -- what sound ranges say of the entry and of its places where order is accepted
@@ -98,7 +96,7 @@ module _ (r : Ranges) (p g : ℕ) where
       unfolding orderStep groupIn withListed withFirst
       none-waiting h =
           let f = found-at r g there in
-          let k : waitingIn r p g ≡ [] = waiting-at r g i refl p member there ∙ none-of (r .queues) (w + 1) (getD (r .queues) w 0) h in
+          let k : waitingIn r p g ≡ [] = waiting-at r g i refl p member there ∙ no-entries (r .queues) (w + 1) (getD (r .queues) w 0) h in
           ap verdictOf (by-rule r p (orderStep (groupIn r) p g) member) ∙ rw (f .1, k)
 
       order-length : length (orderIn r g) ≡ getD (r .queues) (orderAt i) 0

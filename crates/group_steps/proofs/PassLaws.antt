@@ -24,6 +24,7 @@ use Rattle.book_bytes.specs.declared.Seat.{Seat}
 use Rattle.book_bytes.specs.Places.{bookSize, carrierAt, outgoingAt}
 use Rattle.book_bytes.specs.Records.{seatIn, recordIn}
 use Rattle.book_bytes.specs.Books.{bookIn}
+use Rattle.book_bytes.proofs.Blank.{no-entries}
 use Rattle.book_steps.specs.Acts.{passBytes}
 use Rattle.group_bytes.specs.Places.{bookBytes, withBook, waitingAt}
 use Rattle.group_bytes.specs.Groups.{Ranges, membersOf, madeOf, viewsMade, placeOf, groupIn, rangesSound}
@@ -34,7 +35,7 @@ use Rattle.group_bytes.proofs.Inside.{waiting-inside}
 use Rattle.group_bytes.proofs.PassGroup.{carriedIn}
 use Rattle.group_bytes.proofs.Tables.{waiting-at}
 use Rattle.group_steps.specs.CarrierParts.{passing, Passed}
-use Rattle.group_steps.proofs.Rows.{ranged, group-sound, by-rule, first-of, none-of}
+use Rattle.group_steps.proofs.Rows.{ranged, group-sound, by-rule, first-of}
 
 -- ---- the book of p is the part of the books that the code lends
 
@@ -98,7 +99,7 @@ module _ (r : Ranges) (p : ℕ) where
 
       pub none-outgoing : getD b outgoingAt 0 ≡ 0 → verdictOf (passing r p) ≡ Refused NoneOutgoing
       unfolding passStep passes bookIn withView withFirst after
-      none-outgoing h = rule ∙ rw (own, t, none-of b (outgoingAt + 1) (getD b outgoingAt 0) h)
+      none-outgoing h = rule ∙ rw (own, t, no-entries b (outgoingAt + 1) (getD b outgoingAt 0) h)
 
       module _ (some : 0 < getD b outgoingAt 0) where
         pub waiting-full : maxWaiting ≤ getD (r .queues) w 0 → verdictOf (passing r p) ≡ Refused WaitingFull

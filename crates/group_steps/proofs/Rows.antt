@@ -1,7 +1,7 @@
 -- What the rows of the carrier's steps share: what sound ranges say, 6 before the rule, and the first entry of a queue.
 use mathlib.Core.Path.{_≡_, refl}
 use mathlib.Core.Bool.{true}
-use mathlib.Core.List.{List, [], _∷_}
+use mathlib.Core.List.{List, _∷_}
 use Prim.Native.Nat.{ℕ, zero, suc, _≤_, _<_}
 use native.Mathlib.Omega.{arith}
 use borrow.Author.Tests.{lt-ltb, le-ltb}
@@ -51,7 +51,3 @@ pub first-of : (b : List ℕ) (at n : ℕ) → 0 < n → (e : Entry) × (rest : 
 unfolding entriesIn
 first-of b at zero h = absurd (omega arith)
 first-of b at (suc n) h = (_, _, refl)
-
-pub none-of : (b : List ℕ) (at n : ℕ) → n ≡ 0 → entriesIn b at n ≡ []
-unfolding entriesIn
-none-of b at n h = rw h

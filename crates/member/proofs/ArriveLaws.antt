@@ -16,11 +16,11 @@ use Rattle.views.specs.declared.refusal.Verdict.{Verdict}
 use Rattle.views.specs.declared.refusal.Verdict.the-variants.{Accepted, Refused}
 use Rattle.views.specs.Limits.{maxMembers, maxOrdered}
 use Rattle.views.specs.Refusals.{require, left}
-use Rattle.views.specs.Sets.{has, isEmpty, isBeyond, fits}
+use Rattle.views.specs.Sets.{has, isEmpty, isBeyond}
 use Rattle.views.specs.Lists.{idOf, listOf}
 use Rattle.views.proofs.SetLaws.{known, both-true, has-below}
 use Rattle.wire.specs.declared.Frame.{Frame}
-use Rattle.wire.proofs.VerdictLaws.{need-accepted}
+use Rattle.views.proofs.VerdictLaws.{need-accepted}
 use Rattle.rules.specs.Data.{Result, refused, need}
 use Rattle.rules.specs.Member.{Done, all, joins}
 use Rattle.rules.specs.Sound.{setFits}

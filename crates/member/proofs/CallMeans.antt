@@ -12,7 +12,6 @@ use Rattle.views.specs.declared.View.{View}
 use Rattle.views.specs.declared.refusal.Refusal.{Refusal}
 use Rattle.views.specs.Limits.{maxMembers, maxOpen, maxOrdered}
 use Rattle.views.specs.Sets.{one, has}
-use Rattle.views.specs.Refusals.{left}
 use Rattle.views.specs.Lists.{idOf}
 use Rattle.wire.specs.Reader.{readOf}
 use Rattle.wire.proofs.TripViews.{AreBytes}
@@ -27,14 +26,13 @@ use Rattle.book_bytes.specs.Places.{takenAt}
 use Rattle.book_bytes.specs.Records.{recordIn}
 use Rattle.book_bytes.specs.Books.{bookIn, bytesSound, membersIn, selfIn}
 use Rattle.book_bytes.proofs.StartBook.{fits-byte}
-use Rattle.events.specs.declared.Reply.{Reply}
 use Rattle.book_steps.specs.Acts.{joinBytes, passBytes, takeBytes, attemptBytes, registerBytes, sendBytes, handBytes, tellBytes, safeBytes, collectBytes}
 use Rattle.book_steps.proofs.Means.{Means}
 use Rattle.book_steps.proofs.MeansSpeak.{register-means, send-means, tell-means}
 use Rattle.book_steps.proofs.MeansMarks.{hand-means, safe-means, collect-means}
 use Rattle.book_steps.proofs.MeansJoin.{join-means, attempt-means, pass-means}
 use Rattle.book_steps.proofs.MeansTake.{take-means}
-use Rattle.member.specs.Calls.{Gave, joinCall, passCall, takenBytes, deliverCall, deliverBytes, attemptCall, registerCall, sendCall, handCall, tellCall, safeCall, collectCall}
+use Rattle.member.specs.Calls.{joinCall, passCall, takenBytes, deliverCall, deliverBytes, attemptCall, registerCall, sendCall, handCall, tellCall, safeCall, collectCall}
 use Rattle.member.proofs.CallLaws.{need-gave, called-gave}
 use Rattle.member.proofs.ArriveLaws.{carrier-mark, sender-small}
 
@@ -154,9 +152,3 @@ module _ (b : List ℕ) (bytes : AreBytes b) where
       = take-means b bytes (a .sound) q (x .message) (sender-small b v q (a .sound) carrier sender) (carried-fits (x .message) f) (f .sets)
       (told-byte (x .message) (reading-readable m x read .count)) (carrier-mark b v carrier) (rw taken-is at roomy) (leb-true _ _ few) in
       taken-means b q (sentOf (readOf m)) x (delivered q (x .message) (bookIn b)) d read given means
-
--- ---- by a call's contract: the bytes at its exit are the book that the rule gave
-
-pub exit-means : (r : Result Done) (new b exit : List ℕ) (y : Reply) (d : Done) → Gave r new b exit y → r ≡ accepted d → Means b new (d .book) → Means b exit (d .book)
-unfolding left
-exit-means r new b exit y d g e m = let is : exit ≡ new = g .book ∙ rw e refl in rw is m

@@ -33,9 +33,10 @@ use Rattle.rules.specs.Member.{Passing, passing, outgoes, all}
 use Rattle.rules.specs.Sound.{within, countFits, setFits, opensRise}
 use Rattle.rules.specs.Alone.{viewsOf, carriedOf, setsFit, passAlone, bookSound, messageBytes, passedBytes}
 use Rattle.rules.proofs.TestLaws.{all-at, conditions-say, both-from, within-says}
-use Rattle.slots.specs.Slots.{slotSize, kindIn, numberIn, countIn, messageIn, entryIn, entriesIn, slotFits, slotsFit}
+use Rattle.slots.specs.Slots.{slotSize, kindIn, numberIn, countIn, messageIn, entryIn, entriesIn, slotFits}
 use Rattle.slots.specs.FrameParts.{framed, carriedAt, frameAt}
 use Rattle.slots.proofs.Frames.{EntryOk, number-at, frame-carried, frame-views, frame-message}
+use Rattle.slots.proofs.Lists.{slots-first}
 use Rattle.events.specs.Replies.{verdictOf}
 use Rattle.book_bytes.specs.declared.Seat.{Seat}
 use Rattle.book_bytes.specs.Places.{carrierAt, outgoingAt}
@@ -137,11 +138,6 @@ unfolding frameVerdict require
 frame-accepted f m e l c a w = rw (e, l, c, a) w
 
 -- ---- the first of a queue
-
-slots-first : (b : List ℕ) (s n : ℕ) → 0 < n → slotsFit b s n ≡ true → slotFits b s ≡ true
-unfolding slotsFit
-slots-first b s zero h e = absurd (omega arith)
-slots-first b s (suc n) h e = both-true (slotFits b s) (slotsFit b (s + slotSize) n) e .0
 
 entries-first : (b : List ℕ) (s n : ℕ) → 0 < n → (l : List Entry) × (entriesIn b s n ≡ entryIn b s ∷ l)
 unfolding entriesIn

@@ -22,9 +22,9 @@ use Rattle.wire.proofs.TripMessages.{client-number}
 use Rattle.wire.proofs.ReaderLaws.{list-viewsIn}
 use Rattle.rules.specs.Data.{Message, Entry, entry, Result, accepted, withFirst}
 use Rattle.rules.specs.Member.{Passing, passing, outgoes}
-use Rattle.rules.specs.Alone.{sentOf, passAlone, messageBytes, passedBytes}
+use Rattle.rules.specs.Alone.{sentOf, passAlone, passedBytes}
 use Rattle.rules.proofs.Alone.Written.{written-sent}
-use Rattle.slots.specs.Slots.{slotSize, kindIn, numberIn, messageIn, entryIn, entriesIn}
+use Rattle.slots.specs.Slots.{kindIn, numberIn, messageIn, entryIn, entriesIn}
 use Rattle.slots.specs.FrameParts.{framed, frameAt}
 use Rattle.slots.proofs.Frames.{EntryOk, frame-carried, frame-views, frame-message}
 use Rattle.book_bytes.specs.Places.{carrierAt, outgoingAt}

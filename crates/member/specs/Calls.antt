@@ -5,7 +5,7 @@ use mathlib.Core.Path.{_≡_}
 use mathlib.Core.List.{List}
 use Prim.Native.Nat.{ℕ}
 use lib.Dec.{eqb}
-use lib.ListN.{length, set}
+use lib.ListN.{length}
 use Rattle.views.specs.declared.View.{View}
 use Rattle.views.specs.declared.refusal.Refusal.the-variants.{RecordsUnsound}
 use Rattle.views.specs.declared.refusal.Verdict.the-variants.{Accepted, Refused}
@@ -13,7 +13,7 @@ use Rattle.views.specs.Sets.{one}
 use Rattle.views.specs.Refusals.{left}
 use Rattle.wire.specs.Reader.{readOf}
 use Rattle.wire.specs.Writer.{overwritten}
-use Rattle.rules.specs.Data.{Identifier, Member, Book as Ruled, Result, refused, accepted, need}
+use Rattle.rules.specs.Data.{Member, Book as Ruled, Result, refused, accepted, need}
 use Rattle.rules.specs.Member.{Done, Passing, registers, sends, hands, tells, safes, collects}
 use Rattle.rules.specs.Alone.{Sent, sentOf, alone, startAlone, joinAlone, passedBytes, passAlone, deliverAlone}
 use Rattle.rules.specs.Alone.{attemptAlone}

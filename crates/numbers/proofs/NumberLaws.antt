@@ -1,5 +1,5 @@
 -- Laws of numbers in bytes, each once for every width. Callers use these and not the definitions.
-use mathlib.Core.Path.{_≡_, refl, sym, ap, ap₂, _∙_}
+use mathlib.Core.Path.{_≡_, refl, sym, ap, _∙_}
 use mathlib.Core.List.{List, [], _∷_, _++_, append-assoc}
 use Prim.Native.Nat.{ℕ, zero, suc, _+_, _-_, _*_, _/_, _%_, _^_, _<_, _≤_}
 use native.Mathlib.Nat.{pow-suc, pow-le-pow-right, add-zero, add-suc}
@@ -60,12 +60,6 @@ get-put-same b at (suc k) x h l =
       put-past c at k (x / 256) (at + k) (omega arith),
       getD-set-same b (at + k) (x % 256) 0 (omega arith),
     )
-
-pub get-put-below : (b : List ℕ) (at k x j m : ℕ) → j + m ≤ at → get (put b at k x) j m ≡ get b j m
-get-put-below b at k x j m h = get-same (put b at k x) b j j m (λ i l. put-below b at k x (j + i) (omega arith))
-
-pub get-put-past : (b : List ℕ) (at k x j m : ℕ) → at + k ≤ j → get (put b at k x) j m ≡ get b j m
-get-put-past b at k x j m h = get-same (put b at k x) b j j m (λ i l. put-past b at k x (j + i) (omega arith))
 
 -- the number of eight bytes, by the numbers of each four
 pub halves : (b : List ℕ) (at : ℕ) → get b at 8 ≡ get b at 4 * 4294967296 + get b (at + 4) 4

@@ -1,19 +1,15 @@
 -- What the walks over members and over views find, and the seats compared.
 use mathlib.Core.Path.{_≡_, refl, sym}
-use mathlib.Core.Logic.{⊎-elim}
 use mathlib.Core.Bool.{Bool, true, false, cond, not, _||_}
 use mathlib.Core.Option.{none, some}
 use mathlib.Core.List.{List}
-use Prim.Native.Nat.{ℕ, zero, suc, _+_, _<_}
+use Prim.Native.Nat.{ℕ, suc, _+_, _<_}
 use native.Mathlib.Numerals.{add-one}
-use native.Mathlib.Omega.{arith}
-use lib.Dec.{eqb, ltb, eqb·zero-suc}
+use lib.Dec.{eqb, eqb·zero-suc}
 use lib.ListN.{length, getD, take, drop}
-use borrow.Author.Tests.{ltb-true, ltb-false}
 use Rattle.views.specs.declared.View.{View}
-use Rattle.views.specs.Sets.{both, has, one, majorityOf}
+use Rattle.views.specs.Sets.{has, one, majorityOf}
 use Rattle.views.specs.Lists.{idOf, noView}
-use Rattle.views.proofs.SetLaws.{known}
 use Rattle.views.proofs.PlaceLaws.{drop-used}
 use Rattle.rules.specs.Data.{rank}
 use Rattle.rules.specs.Member.{every, all, passes}
@@ -21,10 +17,6 @@ use Rattle.book_bytes.specs.declared.Seat.{Seat}
 use Rattle.book_bytes.specs.Records.{seated}
 
 -- ---- every member
-
-pub both-false : (b : Bool) → both b false ≡ false
-both-false true = refl
-both-false false = refl
 
 module _ (f : ℕ → Bool) where
   pub every-none : every 0 f ≡ true
@@ -34,14 +26,6 @@ module _ (f : ℕ → Bool) where
   pub every-more : (q : ℕ) → every q f ≡ true → f q ≡ true → every (q + 1) f ≡ true
   unfolding every
   every-more q e i = rw (add-one q, e, i)
-
-  pub every-stop : (n q : ℕ) → q < n → f q ≡ false → every n f ≡ false
-  unfolding every
-  every-stop zero q h i = absurd (omega arith)
-  every-stop (suc n) q h i =
-      ⊎-elim (λ (t : ltb q n ≡ true). rw (every-stop n q (ltb-true _ _ t) i))
-      (λ (t : ltb q n ≡ false). let e : n ≡ q = omega (arith, ltb-false q n t) in rw (e, i) (both-false (every q f)))
-      (known (ltb q n))
 
 -- a member of the set is asked, another is not
 module _ (members : ℕ) (f : ℕ → Bool) (q : ℕ) where

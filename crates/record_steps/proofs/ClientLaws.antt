@@ -8,8 +8,8 @@ use borrow.Author.Tests.{eq-eqb, ne-eqb}
 use Rattle.views.specs.Limits.{maxOutgoing}
 use Rattle.views.specs.Sets.{both}
 use Rattle.rules.specs.Data.{Entry, entry, registered}
+use Rattle.rules.proofs.Truth.{both-false}
 use Rattle.book_bytes.specs.declared.Current.{Current}
-use Rattle.record_steps.proofs.AskLaws.{both-false}
 use Rattle.record_steps.specs.Turns.{inStep, roomFor}
 
 -- ---- room for a message

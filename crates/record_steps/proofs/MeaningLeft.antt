@@ -7,19 +7,12 @@ use Prim.Native.Nat.{ℕ, _+_}
 use native.Mathlib.Omega.{arith}
 use Rattle.views.specs.declared.View.{View}
 use Rattle.views.specs.declared.refusal.Refusal.{Refusal}
-use Rattle.views.specs.declared.refusal.Verdict.the-variants.{Accepted}
 use Rattle.rules.specs.Data.{Message, client, registered, told, entry, Book, Answer, Result, refused, accepted, need, withView, withFirst}
 use Rattle.rules.specs.Member.{Done, does, clientIsCarrier, outgoes, queues, noted, moves, joined, attempted, collected, joins, attempts, registers, sends, hands, tells, safes, collects}
-use Rattle.events.specs.Replies.{verdictOf}
 
 -- if it is accepted, the book left is b
 abbrev pub Leaves : Result Done → Book → Type 0
 Leaves r b = (d : Done) → r ≡ accepted d → d .book ≡ b
-
--- what is accepted is given
-pub accepts : {A : Type 0} (r : Result A) → verdictOf r ≡ Accepted → (x : A) × (r ≡ accepted x)
-accepts (refused r) e = let z : _≡_ {A = ℕ} 0 1 = cc in absurd (omega arith)
-accepts (accepted x) e = (x, refl)
 
 -- ---- the refusal table's forms
 

@@ -25,14 +25,6 @@ use Rattle.record_steps.specs.Turns.{itemsOf, stepped, joinVerdict}
 
 -- ---- a row and a step by its verdict
 
-pub met : {b : Bool} (r : Refusal) (rest : Verdict) → b ≡ true → require b r rest ≡ rest
-unfolding require
-met {b} r rest e = rw e
-
-pub unmet : {b : Bool} (r : Refusal) (rest : Verdict) → b ≡ false → require b r rest ≡ Refused r
-unfolding require
-unmet {b} r rest e = rw e
-
 pub refused-by : {v : Verdict} (r : Refusal) (new h : Record) → v ≡ Refused r → stepped (Refused r) h h ≡ stepped v new h
 unfolding stepped
 refused-by {v} r new h e = rw e

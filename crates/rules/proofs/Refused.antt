@@ -1,15 +1,12 @@
 -- A refused step leaves the state as it was: no accepted step answers with a refusal, and what is refused is settled by keeping the state.
-use mathlib.Core.Path.{_≡_, refl, sym, subst}
-use mathlib.Core.Bool.{Bool, true, false, cond}
-use mathlib.Core.List.{List, [], _∷_}
+use mathlib.Core.Path.{_≡_, refl, subst}
 use Prim.Native.Nat.{ℕ}
-use lib.Dec.{ltb}
 use Rattle.views.specs.declared.refusal.Refusal.{Refusal}
-use Rattle.rules.specs.Data.{Member, Group, Step, Answer, ok, event, refusal, Result, refused, accepted, need}
+use Rattle.rules.specs.Data.{Member, Group, Step, Answer, ok, event, refusal, Result, refused, accepted}
 use Rattle.rules.specs.Member.{Done, joins, passing, attempts, registers, sends, hands, tells, safes, collects}
 use Rattle.rules.specs.Group.{Next, own, creates, joinStep, passStep, orderStep, deliverStep, stepOf, settles, step}
 use Rattle.rules.specs.Promise.{RefusedKeeps}
-use Rattle.rules.proofs.Holding.{Holds, refuses, gives, need-holds, view-holds, first-holds, after-holds, then-holds, listed-holds, pick-holds}
+use Rattle.rules.proofs.Holding.{Holds, gives, need-holds, view-holds, first-holds, after-holds, then-holds, listed-holds, pick-holds}
 
 -- no refusal
 abbrev pub Says : Answer → Type 0

@@ -26,6 +26,14 @@ pub both-unit : (t : Bool) → both t true ≡ t
 both-unit true = refl
 both-unit false = refl
 
+pub both-false : (t : Bool) → both t false ≡ false
+both-false true = refl
+both-false false = refl
+
+pub both-assoc : (a b c : Bool) → both a (both b c) ≡ both (both a b) c
+both-assoc true b c = refl
+both-assoc false b c = refl
+
 -- one of the conditions that is unmet
 pub stopped : (l : List Bool) (k : ℕ) → getD l k true ≡ false → conditions l ≡ false
 unfolding conditions

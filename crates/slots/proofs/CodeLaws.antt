@@ -1,12 +1,12 @@
 -- What the code works in steps, put together: bytes that go one at a time, an info stored part by part, a frame loaded part by part.
 use mathlib.Core.Path.{_≡_, sym, ap, _∙_}
 use mathlib.Core.Logic.{_⊎_, inl, ⊎-elim}
-use mathlib.Core.List.{List, [], _∷_, append-assoc}
+use mathlib.Core.List.{List, [], _∷_}
 use Prim.Native.Nat.{ℕ, suc, _+_, _*_, _%_, _<_, _≤_}
 use native.Mathlib.Numerals.{add-one}
 use native.Mathlib.Omega.{arith}
 use borrow.Author.Tests.{eq-eqb, ne-eqb}
-use lib.ListN.{length, getD, set, take, drop, length-drop, take-append-drop}
+use lib.ListN.{length, getD, set, drop, length-drop, take-append-drop}
 use lib.Seq.{paste-suc, getD-drop}
 use Rattle.views.specs.declared.View.{View}
 use Rattle.views.specs.Limits.{maxOpen}
@@ -17,7 +17,8 @@ use Rattle.slots.specs.Changes.{moved, storeInfo}
 use Rattle.slots.specs.FrameParts.{framed}
 use Rattle.wire.specs.Writer.{storeView, storeViews}
 use Rattle.wire.proofs.ReaderLaws.{length-viewsIn}
-use Rattle.wire.proofs.TripViews.{AreBytes, views-again}
+use Rattle.wire.proofs.TripViews.{AreBytes}
+use Rattle.wire.proofs.WriterLaws.{views-copied}
 use Rattle.slots.proofs.Outside.{Changed, changed-within, changed-then, view-apart, views-apart, set-changed, storeView-changed, copy-changed}
 use Rattle.slots.proofs.Stored.{storeViews-cons}
 use Rattle.slots.proofs.BytesKept.{set-bytes, storeView-bytes}
@@ -42,10 +43,9 @@ module _ (b : List ℕ) (from to n i : ℕ) (clear : (to ≤ from) ⊎ (from + n
 -- bytes that go as they stand store the views that are read there
 pub views-moved : (b : List ℕ) (from to n : ℕ) → AreBytes b → from + 5 * n ≤ length b → moved b from to (5 * n) ≡ storeViews b to (viewsIn b from n)
 unfolding storeViews
-views-moved b from to n y h =
-    rw (views-again b from n h y, length-viewsIn b from n) (append-assoc (take to b) (take (5 * n) (drop from b)) (drop (to + 5 * n) b))
+views-moved b from to n y h = rw (length-viewsIn b from n) (views-copied b b to from n h y)
 
-no-views : (b : List ℕ) (at : ℕ) → storeViews b at [] ≡ b
+pub no-views : (b : List ℕ) (at : ℕ) → storeViews b at [] ≡ b
 unfolding storeViews viewsBytes
 no-views b at = let z : at + 0 ≡ at = omega arith in rw z (take-append-drop at b)
 

@@ -1,6 +1,6 @@
 -- The first of a column: how many there are, one more, what they depend on, a test of all of them, and what is left from the k-th on.
 use mathlib.Core.Path.{_≡_, refl, sym, ap, ap₂, _∙_}
-use mathlib.Core.Bool.{Bool, true, false}
+use mathlib.Core.Bool.{Bool}
 use mathlib.Core.List.{List, [], _∷_, _++_}
 use Prim.Native.Nat.{ℕ, zero, suc, _+_, _<_, _≤_}
 use native.Mathlib.Decide.{decLt}
@@ -9,7 +9,7 @@ use native.Mathlib.Omega.{arith}
 use lib.ListN.{length, drop, length-append, drop-of-length-le}
 use Rattle.views.specs.Sets.{both}
 use Rattle.rules.specs.Member.{every, all}
-use Rattle.rules.proofs.Truth.{both-unit}
+use Rattle.rules.proofs.Truth.{both-unit, both-assoc}
 use Rattle.slots.specs.Columns.{firsts}
 
 pub length-firsts : {A : Type 0} (f : ℕ → A) (n : ℕ) → length (firsts f n) ≡ n
@@ -29,11 +29,6 @@ firsts-same f g (suc n) h =
     ap₂ (λ l x. l ++ (x ∷ [])) (firsts-same f g n (λ k i. h k (omega arith))) (h n (omega arith))
 
 -- a test of each is a test of the list
-
-both-assoc : (a b c : Bool) → both a (both b c) ≡ both (both a b) c
-both-assoc true b c = refl
-both-assoc false b c = refl
-
 all-more : {A : Type 0} (p : A → Bool) (l : List A) (x : A) → all p (l ++ (x ∷ [])) ≡ both (all p l) (p x)
 unfolding all
 all-more p [] x = both-unit (p x)

@@ -9,7 +9,6 @@ use lib.Dec.{eqb, leb}
 use lib.ListN.{length}
 use Rattle.views.specs.declared.View.{View}
 use Rattle.views.specs.Limits.{maxViews}
-use Rattle.views.specs.Sets.{both}
 use Rattle.views.specs.Lists.{listOf}
 use Rattle.wire.specs.declared.Message.{Message as Carried}
 use Rattle.wire.specs.declared.Message.the-variants.{Info}
@@ -18,9 +17,9 @@ use Rattle.wire.specs.Reader.{viewsIn, messageOf}
 use Rattle.wire.specs.Writer.{frameBytes, LiesAt}
 use Rattle.wire.proofs.ReaderLaws.{list-viewsIn, length-viewsIn}
 use Rattle.wire.proofs.TripMessages.{both-first, both-second, Kind, kind-of-known, number-lies}
-use Rattle.rules.specs.Data.{Message, client, info, registered, told}
-use Rattle.rules.specs.Alone.{viewsOf, carriedOf, messageOf as whole, messageBytes, infoOf}
-use Rattle.slots.specs.Slots.{kindIn, numberIn, countIn, infoIn, messageIn, slotFits}
+use Rattle.rules.specs.Data.{client, info, registered, told}
+use Rattle.rules.specs.Alone.{viewsOf, carriedOf, messageBytes, infoOf}
+use Rattle.slots.specs.Slots.{kindIn, numberIn, countIn, infoIn, messageBy, messageIn, kindFits, slotFits}
 use Rattle.slots.specs.FrameParts.{framed, carriedAt, frameAt}
 
 -- the slot at a place can be sent as it stands: it fits, and a told's number is a byte, as the frame's is
@@ -30,10 +29,6 @@ pub record EntryOk (b : List ℕ) (at : ℕ) : Type 0 where
 
 -- ---- the message of a kind, over plain numbers and lists
 
--- as a slot holds it
-abbrev held : ℕ → ℕ → List View → Message
-held k x l = cond (eqb k 1) (client x) (cond (eqb k 2) (infoOf l) (cond (eqb k 3) registered (told x)))
-
 info-carried : (l : List View) → Info ≡ carriedOf (infoOf l)
 info-carried [] = refl
 info-carried (v ∷ l) = refl
@@ -42,7 +37,7 @@ info-views : (l : List View) → 1 ≤ length l → l ≡ viewsOf (infoOf {M = �
 info-views [] h = absurd (omega arith)
 info-views (v ∷ l) h = refl
 
-held-carried : (k x : ℕ) (l : List View) → Kind k → (k ≡ 4 → x < 256) → messageOf k x ≡ carriedOf (held k x l)
+held-carried : (k x : ℕ) (l : List View) → Kind k → (k ≡ 4 → x < 256) → messageOf k x ≡ carriedOf (messageBy k x l x)
 unfolding messageOf
 held-carried k x l Kind.client t = refl
 held-carried k x l Kind.info t = info-carried l
@@ -51,7 +46,7 @@ held-carried k x l Kind.told t = let h = t refl in let e : x % 256 ≡ x = omega
 
 -- n views of an info, none of any other kind
 held-views : (b : List ℕ) (at k x n : ℕ) → Kind k → (k ≡ 2 → 1 ≤ n) → (k ≡ 2 → n ≤ maxViews)
-    → viewsIn b at (cond (eqb k 2) n 0) ≡ viewsOf (held k x (viewsIn b at (min n maxViews)))
+    → viewsIn b at (cond (eqb k 2) n 0) ≡ viewsOf (messageBy k x (viewsIn b at (min n maxViews)) x)
 unfolding viewsIn
 held-views b at k x n Kind.client l h = refl
 held-views b at k x n Kind.info l h =
@@ -64,21 +59,22 @@ held-views b at k x n Kind.told l h = refl
 
 -- ---- what a slot that fits says
 
-slot-kind : (b : List ℕ) (at : ℕ) → slotFits b at ≡ true → Kind (kindIn b at)
+pub slot-kind : (b : List ℕ) (at : ℕ) → slotFits b at ≡ true → Kind (kindIn b at)
 unfolding slotFits
 slot-kind b at e = kind-of-known (kindIn b at) (both-first (isKnown (kindIn b at)) _ e)
 
-info-counted : (k n : ℕ) → cond (eqb k 2) (both (leb 1 n) (leb n maxViews)) true ≡ true → k ≡ 2 → both (leb 1 n) (leb n maxViews) ≡ true
-info-counted k n e i = rw i at e
-
-slot-count : (b : List ℕ) (at : ℕ) → slotFits b at ≡ true → kindIn b at ≡ 2 → (1 ≤ countIn b at) × (countIn b at ≤ maxViews)
-unfolding slotFits
-slot-count b at e i =
-    let n = countIn b at in
-    let c = info-counted (kindIn b at) n (both-second (isKnown (kindIn b at)) _ e) i in
+-- an info's count is that of some views, and of no more than places
+pub info-counted : (k n : ℕ) → kindFits k n ≡ true → k ≡ 2 → (1 ≤ n) × (n ≤ maxViews)
+info-counted k n e i =
+    let f : kindFits 2 n ≡ true = rw i at e in
+    let c = both-second (isKnown 2) _ f in
     (leb-true 1 n (both-first (leb 1 n) (leb n maxViews) c), leb-true n maxViews (both-second (leb 1 n) (leb n maxViews) c))
 
-few-framed : (k n : ℕ) → (k ≡ 2 → n ≤ maxViews) → Kind k → cond (eqb k 2) n 0 ≤ maxViews
+pub slot-count : (b : List ℕ) (at : ℕ) → slotFits b at ≡ true → kindIn b at ≡ 2 → (1 ≤ countIn b at) × (countIn b at ≤ maxViews)
+unfolding slotFits
+slot-count b at e i = info-counted (kindIn b at) (countIn b at) e i
+
+pub few-framed : (k n : ℕ) → (k ≡ 2 → n ≤ maxViews) → Kind k → cond (eqb k 2) n 0 ≤ maxViews
 few-framed k n h Kind.client = omega arith
 few-framed k n h Kind.info = h refl
 few-framed k n h Kind.registered = omega arith

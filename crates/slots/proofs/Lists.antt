@@ -1,8 +1,8 @@
--- Entries and slots one at a time: how many there are, and the last one.
+-- Entries and slots one at a time: how many there are, the first and the last one.
 use mathlib.Core.Path.{_≡_, refl, ap}
 use mathlib.Core.Bool.{true}
 use mathlib.Core.List.{List, [], _∷_, _++_}
-use Prim.Native.Nat.{ℕ, zero, suc, _+_, _-_, _*_, _<_}
+use Prim.Native.Nat.{ℕ, zero, suc, _+_, _*_, _<_}
 use native.Mathlib.Nat.{add-zero}
 use native.Mathlib.Omega.{arith}
 use lib.ListN.{length}
@@ -36,10 +36,15 @@ slots-snoc b at (suc n) e f =
     rw (p, both-first (slotFits b at) (slotsFit b (at + slotSize) n) e)
     (slots-snoc b (at + slotSize) n (both-second (slotFits b at) (slotsFit b (at + slotSize) n) e) (rw q at f))
 
+pub slots-first : (b : List ℕ) (at n : ℕ) → 0 < n → slotsFit b at n ≡ true → slotFits b at ≡ true
+unfolding slotsFit
+slots-first b at zero h e = absurd (omega arith)
+slots-first b at (suc n) h e = both-first (slotFits b at) (slotsFit b (at + slotSize) n) e
+
 pub slots-at : (b : List ℕ) (at n k : ℕ) → k < n → slotsFit b at n ≡ true → slotFits b (at + slotSize * k) ≡ true
 unfolding slotsFit
 slots-at b at zero k h e = absurd (omega arith)
-slots-at b at (suc n) zero h e = rw (add-zero at) (both-first (slotFits b at) (slotsFit b (at + slotSize) n) e)
+slots-at b at (suc n) zero h e = rw (add-zero at) (slots-first b at (suc n) h e)
 slots-at b at (suc n) (suc k) h e =
     let p : at + slotSize * suc k ≡ at + slotSize + slotSize * k = omega arith in
     rw p (slots-at b (at + slotSize) n k (omega arith) (both-second (slotFits b at) (slotsFit b (at + slotSize) n) e))

@@ -2,39 +2,33 @@
 use mathlib.Core.Path.{_≡_, refl, sym, ap, ap₂, _∙_}
 use mathlib.Core.Bool.{Bool, true, false, cond}
 use mathlib.Core.Logic.{inr}
-use mathlib.Core.List.{List, [], _∷_, append-assoc}
+use mathlib.Core.List.{List, [], _∷_}
 use Prim.Native.Nat.{ℕ, _+_, _-_, _*_, _%_, _<_, _≤_, min}
 use native.Mathlib.Omega.{arith}
-use borrow.Author.Tests.{eq-eqb, ne-eqb, leb-true}
-use lib.Dec.{eqb, leb}
-use lib.ListN.{length, getD, set, take, drop}
+use borrow.Author.Tests.{eq-eqb, ne-eqb}
+use lib.Dec.{eqb}
+use lib.ListN.{length, getD, set}
 use Rattle.numbers.specs.Number.{get, put}
-use Rattle.numbers.proofs.NumberLaws.{digits-get, put-split}
 use Rattle.views.specs.declared.View.{View}
 use Rattle.views.specs.Limits.{maxViews, maxOrdered}
 use Rattle.wire.specs.declared.Message.{Message}
 use Rattle.wire.specs.declared.Message.the-variants.{Told}
-use Rattle.wire.specs.Format.{isKnown}
 use Rattle.wire.specs.Reader.{viewsIn, messageOf as carriedOf}
 use Rattle.wire.specs.Writer.{storeViews}
 use Rattle.wire.proofs.ReaderLaws.{length-viewsIn}
-use Rattle.wire.proofs.TripMessages.{both-first, both-second, Kind, kind-of-known}
+use Rattle.wire.proofs.WriterLaws.{number-copied}
+use Rattle.wire.proofs.TripMessages.{Kind}
 use Rattle.wire.proofs.TripViews.{AreBytes}
 use Rattle.rules.specs.Data.{client, registered, told}
 use Rattle.rules.specs.Alone.{infoOf}
-use Rattle.slots.specs.Slots.{slotSize, kindIn, numberIn, countIn, infoIn, messageIn, slotFits, kindFits}
+use Rattle.slots.specs.Slots.{slotSize, kindIn, numberIn, countIn, infoIn, messageIn, slotFits}
 use Rattle.slots.specs.Columns.{orderSender, orderKind, orderCount, orderNumber, orderViews, orderSize}
 use Rattle.slots.specs.Changes.{moved, storeHead, storeOrdered}
 use Rattle.slots.specs.FrameParts.{orderFramed, orderCarried}
 use Rattle.slots.proofs.Outside.{Changed, changed-within, changed-then, get-apart, views-apart, set-changed}
 use Rattle.slots.proofs.CodeLaws.{views-moved}
 use Rattle.slots.proofs.BytesKept.{set-bytes}
-
--- bytes that go as they stand store the number that is read there
-pub number-moved : (b : List ℕ) (from to k : ℕ) → AreBytes b → from + k ≤ length b → to + k ≤ length b → moved b from to k ≡ put b to k (get b from k)
-number-moved b from to k y h l =
-    append-assoc (take to b) (take k (drop from b)) (drop (to + k) b)
-    ∙ sym (put-split b to k (get b from k) l ∙ rw (digits-get b from k h (λ j i. y (from + j))))
+use Rattle.slots.proofs.Frames.{slot-kind, slot-count}
 
 -- a number below 256 is its last byte
 pub last-byte : (b : List ℕ) (at : ℕ) → get b at 8 < 256 → getD b (at + 8 - 1) 0 ≡ get b at 8
@@ -73,7 +67,7 @@ module _ (b : List ℕ) (c k at : ℕ) (bytes : AreBytes b) (below : c + orderSi
   client-ordered e d s =
       let n : get begun (at + 2) 8 ≡ numberIn b at = get-apart begun-changed (at + 2) 8 (inr (omega arith)) in
       let m : messageIn b at ≡ client (numberIn b at) = rw e in
-      s ∙ number-moved begun (at + 2) (orderNumber c k) 8 begun-bytes (omega (arith, begun-changed .long)) (omega (arith, begun-changed .long))
+      s ∙ number-copied begun begun (orderNumber c k) (at + 2) 8 (omega (arith, begun-changed .long)) (omega (arith, begun-changed .long)) begun-bytes
       ∙ ap₂ (λ (w : List ℕ) (x : ℕ). put w (orderNumber c k) 8 x) (begun-head 1 e) n ∙ ap (storeOrdered b c k (getD b at 0)) (sym m)
 
   pub told-ordered : kindIn b at ≡ 4 → numberIn b at < 256
@@ -84,20 +78,12 @@ module _ (b : List ℕ) (c k at : ℕ) (bytes : AreBytes b) (below : c + orderSi
       let m : messageIn b at ≡ told (numberIn b at) = rw e in
       ap₂ (λ (w : List ℕ) (x : ℕ). set w (orderCount c k) x) (begun-head 4 e) n ∙ ap (storeOrdered b c k (getD b at 0)) (sym m)
 
-  info-bounds : slotFits b at ≡ true → kindIn b at ≡ 2 → (1 ≤ countIn b at) × (countIn b at ≤ maxViews)
-  unfolding slotFits
-  info-bounds f e =
-      let n = countIn b at in
-      let g : kindFits 2 n ≡ true = sym (ap (λ (j : ℕ). kindFits j n) e) ∙ f in
-      let h = both-second (isKnown 2) _ g in
-      (leb-true 1 n (both-first (leb 1 n) (leb n maxViews) h), leb-true n maxViews (both-second (leb 1 n) (leb n maxViews) h))
-
   -- an info's count as the code reads it
   pub count-begun : getD begun (at + 10) 0 ≡ countIn b at
   count-begun = begun-changed .past (at + 10) (omega arith)
 
   pub few-begun : slotFits b at ≡ true → kindIn b at ≡ 2 → getD begun (at + 10) 0 ≤ maxViews
-  few-begun f e = omega (arith, count-begun, info-bounds f e .1)
+  few-begun f e = omega (arith, count-begun, slot-count b at f e .1)
 
   pub info-ordered : slotFits b at ≡ true → kindIn b at ≡ 2 → (d : List ℕ)
       → d ≡ moved (set begun (orderCount c k) (getD begun (at + 10) 0)) (at + 11) (orderViews c k) (5 * getD begun (at + 10) 0)
@@ -105,7 +91,7 @@ module _ (b : List ℕ) (c k at : ℕ) (bytes : AreBytes b) (below : c + orderSi
   unfolding messageIn infoIn
   info-ordered f e d s =
       let n = countIn b at in
-      let bounds = info-bounds f e in
+      let bounds = slot-count b at f e in
       let w = set begun (orderCount c k) n in
       let x : Changed b w c orderSize =
       changed-then begun-changed (changed-within c orderSize (omega arith) (omega arith) (set-changed begun (orderCount c k) n))
@@ -129,9 +115,9 @@ module _ (b : List ℕ) (c k at : ℕ) (bytes : AreBytes b) (below : c + orderSi
 
   pub registered-ordered : slotFits b at ≡ true → (kindIn b at ≡ 1 → ⊥) → (kindIn b at ≡ 4 → ⊥) → (kindIn b at ≡ 2 → ⊥)
       → begun ≡ storeOrdered b c k (getD b at 0) (messageIn b at)
-  unfolding storeOrdered messageIn slotFits
+  unfolding storeOrdered messageIn
   registered-ordered f p q r =
-      let e : kindIn b at ≡ 3 = registered-kind (kindIn b at) (kind-of-known (kindIn b at) (both-first (isKnown (kindIn b at)) _ f)) p q r in
+      let e : kindIn b at ≡ 3 = registered-kind (kindIn b at) (slot-kind b at f) p q r in
       let m : messageIn b at ≡ registered = rw e in
       begun-head 3 e ∙ ap (storeOrdered b c k (getD b at 0)) (sym m)
 

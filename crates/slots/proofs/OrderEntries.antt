@@ -15,7 +15,7 @@ use Rattle.views.specs.Limits.{maxViews, maxOrdered}
 use Rattle.wire.specs.Format.{isKnown}
 use Rattle.wire.specs.Reader.{viewsIn}
 use Rattle.wire.specs.Writer.{storeViews}
-use Rattle.rules.specs.Data.{Message, client, info, registered, told, entry}
+use Rattle.rules.specs.Data.{Message, client, info, registered, told}
 use Rattle.slots.specs.Slots.{kindFits}
 use Rattle.slots.specs.Columns.{orderSender, orderKind, orderCount, orderNumber, orderViews, orderSize}
 use Rattle.slots.specs.Columns.{orderInfo, orderMessage, orderEntry, entriesOrdered}

@@ -7,8 +7,7 @@ use mathlib.Core.List.{List, [], _∷_, _++_}
 use Prim.Native.Nat.{ℕ, _+_, _%_, _≤_, _<_, min}
 use native.Mathlib.Decide.{decLt}
 use native.Mathlib.Omega.{arith}
-use borrow.Author.Tests.{leb-true}
-use lib.Dec.{eqb, leb}
+use lib.Dec.{eqb}
 use lib.ListN.{length, getD, set, drop}
 use lib.Seq.{getD-set-same, getD-set-other}
 use Rattle.numbers.specs.Number.{get}
@@ -16,7 +15,7 @@ use Rattle.views.specs.Limits.{maxViews, maxOrdered}
 use Rattle.wire.specs.declared.Message.the-variants.{Info}
 use Rattle.wire.specs.Format.{isKnown}
 use Rattle.wire.specs.Reader.{viewsIn, messageOf as carriedOf}
-use Rattle.wire.proofs.TripMessages.{both-first, both-second, Kind, kind-of-known}
+use Rattle.wire.proofs.TripMessages.{both-first, Kind, kind-of-known}
 use Rattle.wire.proofs.TripViews.{AreBytes}
 use Rattle.rules.specs.Data.{Message, client, info, registered, told, Entry, entry}
 use Rattle.rules.specs.Alone.{viewsOf, messageOf}
@@ -28,6 +27,7 @@ use Rattle.slots.specs.FrameParts.{orderFramed, orderCarried}
 use Rattle.slots.proofs.Outside.{Changed, Apart, set-changed}
 use Rattle.slots.proofs.Stored.{MessageFits, toldOf}
 use Rattle.slots.proofs.Columns.{length-firsts, firsts-more, firsts-same, firsts-next}
+use Rattle.slots.proofs.Frames.{info-counted, few-framed}
 use Rattle.slots.proofs.BytesKept.{SetsAreBytes, set-bytes, put-bytes, storeViews-bytes}
 use Rattle.slots.proofs.OrderEntries.{EntrySame, EntryStored, order-entry-same, entry-is-stored}
 pub use Rattle.slots.proofs.OrderEntries.{entry-kept, kind-kept, views-kept, order-kept}
@@ -145,20 +145,14 @@ loaded : (b : List ℕ) (at k x n : ℕ) → Kind k → n < 256 → kindFits k n
 unfolding carriedOf
 loaded b at k x n Kind.client t h = refl
 loaded b at k x n Kind.info t h =
-    let e : min n maxViews ≡ n = omega (arith, leb-true n maxViews (both-second (leb 1 n) (leb n maxViews) (both-second (isKnown 2) _ h))) in rw e
+    let e : min n maxViews ≡ n = omega (arith, info-counted 2 n h refl .1) in rw e
 loaded b at k x n Kind.registered t h = refl
 loaded b at k x n Kind.told t h = let e : n % 256 ≡ n = omega arith in rw e
-
-few-views : (k n : ℕ) → Kind k → kindFits k n ≡ true → cond (eqb k 2) n 0 ≤ maxViews
-few-views k n Kind.client h = omega arith
-few-views k n Kind.info h = leb-true n maxViews (both-second (leb 1 n) (leb n maxViews) (both-second (isKnown 2) _ h))
-few-views k n Kind.registered h = omega arith
-few-views k n Kind.told h = omega arith
 
 some-views : (k x n : ℕ) → Kind k → kindFits k n ≡ true → carriedOf k x ≡ Info → 1 ≤ cond (eqb k 2) n 0
 unfolding carriedOf
 some-views k x n Kind.client h e = let z : _≡_ {A = ℕ} 0 1 = cc in absurd (omega arith)
-some-views k x n Kind.info h e = leb-true 1 n (both-first (leb 1 n) (leb n maxViews) (both-second (isKnown 2) _ h))
+some-views k x n Kind.info h e = info-counted 2 n h refl .0
 some-views k x n Kind.registered h e = let z : _≡_ {A = ℕ} 0 1 = cc in absurd (omega arith)
 some-views k x n Kind.told h e = let z : _≡_ {A = ℕ} 0 1 = cc in absurd (omega arith)
 
@@ -178,7 +172,7 @@ module _ (b : List ℕ) (c k : ℕ) where
   order-message t h = loaded b (orderViews c k) sort (get b (orderNumber c k) 8) many (known h) t h
 
   pub order-framed : kindFits (getD b (orderKind c k) 0) (getD b (orderCount c k) 0) ≡ true → orderFramed b c k ≤ maxViews
-  order-framed h = few-views sort many (known h) h
+  order-framed h = few-framed sort many (λ i. info-counted sort many h i .1) (known h)
 
   pub order-info : kindFits (getD b (orderKind c k) 0) (getD b (orderCount c k) 0) ≡ true → orderCarried b c k ≡ Info → 1 ≤ orderFramed b c k
   order-info h e = some-views sort (cond (eqb sort 4) many (get b (orderNumber c k) 8)) many (known h) h e

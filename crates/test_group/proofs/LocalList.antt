@@ -2,7 +2,7 @@
 --     lies-apart       the local holds xs  ⊢  the first n of xs lie at its place, the others behind them
 --     lies-whole       ys lie at its place, zs behind them, n + m together  ⊢  the local holds ys ++ zs, and they are elements
 -- Assumes `Given`.
-use mathlib.Core.Path.{_≡_, refl}
+use mathlib.Core.Path.{_≡_}
 use Prim.Native.Nat.{ℕ, zero, suc, _+_}
 use mathlib.Core.List.{List, [], _∷_, _++_}
 use lib.ListN.{length, take, drop as behind}
@@ -19,8 +19,8 @@ use types.SemTy.{cells}
 use types.Share.{parts, arr-parts}
 use denote.RattleType.{RattleType}
 use denote.Laws.{Is, Tells, shows}
-use denote.Memory.{cellAt, lone, partAt, mem, shares, partOf}
-use denote.Array.{Array, arrayVal, array-vals, array-tells}
+use denote.Memory.{cellAt, lone, mem, shares, partOf}
+use denote.Array.{Array, array-vals, array-tells}
 use denote.ArrayMemory.{Single, array-apart, array-whole}
 use denote.Steps.{only, peeks, nothing}
 use denote.Struct.Steps.{spelt}

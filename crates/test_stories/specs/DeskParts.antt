@@ -1,11 +1,10 @@
 -- What is remembered about each book.
 use mathlib.Core.List.{List}
-use Prim.Native.Nat.{ℕ, min}
-use lib.ListN.{getD, set, replicate}
+use Prim.Native.Nat.{ℕ}
+use lib.ListN.{set, replicate}
 use Rattle.views.specs.declared.refusal.Verdict.{Verdict}
 use Rattle.views.specs.declared.refusal.Verdict.the-variants.{Accepted, Refused}
 use Rattle.book_bytes.specs.Places.{bookSize}
-use Rattle.test_script.specs.ParseParts.{wordNumber}
 use Rattle.test_stories.specs.declared.desk.Desk.{Desk}
 use Rattle.test_script.specs.OperandParts.{byteWord}
 

@@ -1,6 +1,6 @@
 -- Laws of the operands of a line, a byte at a time, and of views laid in their places.
 use mathlib.Core.Path.{_≡_, refl, sym, ap, _∙_}
-use mathlib.Core.List.{List, [], _∷_, _++_, append-nil}
+use mathlib.Core.List.{List, [], _∷_, append-nil}
 use Prim.Native.Nat.{ℕ, zero, suc, _+_, _-_, _*_, _/_, _<_, _≤_}
 use native.Mathlib.Numerals.{add-one}
 use native.Mathlib.Omega.{arith}
@@ -16,7 +16,7 @@ use Rattle.wire.specs.declared.Message.{Message}
 use Rattle.wire.specs.Reader.{messageOf}
 use Rattle.test_script.specs.ParseParts.{pushed}
 use Rattle.test_script.proofs.ParseLaws.{drop-none}
-use Rattle.test_vectors.specs.LineParts.{lastPlace, endsAt, numbersFrom, countFrom, Numbered}
+use Rattle.test_vectors.specs.LineParts.{endsAt, numbersFrom, countFrom, Numbered}
 use Rattle.test_vectors.specs.LineParts.{asIdentifier, asByte, viewAt, viewsFrom, frameOf}
 
 -- ---- the numbers

@@ -13,14 +13,11 @@ use Rattle.views.specs.declared.View.{View}
 use Rattle.views.specs.Limits.{maxViews}
 use Rattle.views.specs.Lists.{noView}
 use Rattle.views.specs.Sets.{both, isEmpty}
+use Rattle.views.proofs.SetLaws.{both-true}
 use Rattle.wire.specs.Format.{viewsAllowed, numbersAllowed, someEmpty}
 
-both-right : (a b : Bool) → both a b ≡ true → b ≡ true
-both-right true b e = e
-both-right false b e = cc
-
 few-views : (info : Bool) (n : ℕ) → cond info (both (leb 1 n) (leb n maxViews)) (eqb n 0) ≡ true → n ≤ maxViews
-few-views true n e = leb-true n maxViews (both-right (leb 1 n) (leb n maxViews) e)
+few-views true n e = leb-true n maxViews (both-true (leb 1 n) (leb n maxViews) e .1)
 few-views false n e = omega (arith, eqb-true n 0 e)
 
 -- a count of views that a kind allows is that of places at most

@@ -17,7 +17,8 @@ use Rattle.views.specs.Lists.{listOf, places, placed}
 use Rattle.wire.specs.declared.Message.{Message}
 use Rattle.wire.specs.declared.Reading.{Reading}
 use Rattle.wire.specs.Reader.{kindIn, viewIn, viewsIn, viewCount, numbersPlace, numberCount, endOf, numberIn, messageOf, scanOf, wholeOf, refused, readFront, readOf}
-use Rattle.wire.proofs.VerdictLaws.{need-met, need-unmet, need-accepted, given-accepted, given-refused}
+use Rattle.views.proofs.VerdictLaws.{need-met, need-unmet, need-accepted}
+use Rattle.wire.proofs.VerdictLaws.{given-accepted, given-refused}
 use Rattle.views.proofs.PlaceLaws.{places-snoc, list-placed}
 use Rattle.wire.proofs.FormatLaws.{views-few, numbers-few}
 

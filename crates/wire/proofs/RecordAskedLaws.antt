@@ -25,7 +25,7 @@ use Rattle.wire.specs.Format.{kindOf, isKnown, viewsAllowed, toldFits, c
 use Rattle.wire.specs.Reader.{viewsIn, messageOf}
 use Rattle.wire.specs.Writer.{numberOf, frameBytes, frameVerdict, frameFrom, LiesAt, writeVerdict, Wrote}
 use Rattle.wire.specs.Records.{counted, frameOf}
-use Rattle.wire.proofs.VerdictLaws.{need-accepted}
+use Rattle.views.proofs.VerdictLaws.{need-accepted}
 use Rattle.wire.proofs.FormatLaws.{views-few}
 use Rattle.wire.proofs.ReaderLaws.{length-viewsIn, viewsIn-take, list-viewsIn}
 use Rattle.wire.proofs.TripMessages.{Kind, kind-of-known, told-met, told-byte, number-lies}

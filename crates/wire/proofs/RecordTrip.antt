@@ -17,13 +17,13 @@ use Rattle.wire.specs.declared.Message.{Message}
 use Rattle.wire.specs.declared.Message.the-variants.{Client, Info, Registered, Told}
 use Rattle.wire.specs.declared.Frame.{Frame}
 use Rattle.wire.specs.declared.Reading.{Reading}
-use Rattle.wire.specs.Format.{toldKind, kindOf, viewsBytes, isKnown, toldFits, viewsAllowed, contentOf}
+use Rattle.wire.specs.Format.{toldKind, kindOf, viewsBytes, toldFits, viewsAllowed, contentOf}
 use Rattle.wire.specs.Reader.{viewsIn, readFront, readOf}
 use Rattle.wire.specs.Writer.{numberOf, frameBytes, frameVerdict}
-use Rattle.wire.proofs.VerdictLaws.{need-accepted}
+use Rattle.views.proofs.VerdictLaws.{need-accepted}
 use Rattle.wire.proofs.TripViews.{ViewFits, EachFits, AreBytes, get-fits, views-fit, views-back}
 use Rattle.wire.proofs.ReaderLaws.{length-viewsIn}
-use Rattle.wire.proofs.TripMessages.{told-met, number-fits, message-back, client-number}
+use Rattle.wire.proofs.TripMessages.{told-met, number-fits, message-back, client-number, kind-known}
 use Rattle.wire.proofs.RoundTrip.{Fits, canonical, WrittenAs, canonical-same-bytes, written-reads, read-is-written, read-takes-all, read-whole-is-written}
 use Rattle.wire.specs.Records.{recordKind, recordIdentifier, recordNumber, recordCount, recordViews, headBytes, recordBytes, counted, frameOf}
 use Rattle.wire.specs.Promises.{RecordOf}
@@ -44,7 +44,7 @@ append-fit [] m h k j = k j
 append-fit (v ∷ l) m h k zero = h 0
 append-fit (v ∷ l) m h k (suc j) = append-fit l m (λ i. h (suc i)) k j
 
-take-fit : (n : ℕ) (l : List View) → EachFits l → EachFits (take n l)
+pub take-fit : (n : ℕ) (l : List View) → EachFits l → EachFits (take n l)
 take-fit zero l h j = none-fits
 take-fit (suc n) [] h j = none-fits
 take-fit (suc n) (v ∷ l) h zero = h 0
@@ -120,13 +120,6 @@ written-record-returns f fit v =
 kind-in : (f : Frame) → getD (recordBytes f) recordKind 0 ≡ kindOf (f .message)
 unfolding recordBytes headBytes
 kind-in f = refl
-
-kind-known : (m : Message) → isKnown (kindOf m) ≡ true
-unfolding isKnown
-kind-known (Client x) = refl
-kind-known Info = refl
-kind-known Registered = refl
-kind-known (Told k) = refl
 
 -- the record that reading gives is written as the bytes that were read
 pub read-record-is-written : (b : List ℕ) → AreBytes b → readOf b .verdict ≡ Accepted → RecordOf (recordBytes (readOf b .frame)) b

@@ -2,10 +2,10 @@
 -- no two frames share their bytes, and no message is longer than the longest.
 use mathlib.Core.Path.{_≡_, sym, ap, _∙_}
 use mathlib.Core.List.{List, [], _++_, append-nil}
-use Prim.Native.Nat.{ℕ, _+_, _*_, _^_, _≤_, _<_}
+use Prim.Native.Nat.{ℕ, _+_, _*_, _^_, _≤_}
 use native.Mathlib.Omega.{arith}
 use lib.Dec.{leb}
-use lib.ListN.{length, take, drop, length-take}
+use lib.ListN.{length, drop, length-take}
 use lib.Seq.{length-take-le, take-all}
 use borrow.Author.Tests.{le-leb, leb-true}
 use Rattle.views.specs.declared.View.{View}
@@ -13,9 +13,9 @@ use Rattle.views.specs.declared.refusal.Refusal.the-variants.{SectionCount, Byt
 use Rattle.views.specs.declared.refusal.Verdict.the-variants.{Accepted}
 use Rattle.views.specs.Limits.{maxViews, longest}
 use Rattle.views.specs.Refusals.{require}
-use Rattle.views.specs.Lists.{listOf, placed}
+use Rattle.views.specs.Lists.{listOf}
 use Rattle.wire.specs.declared.Message.{Message}
-use Rattle.wire.specs.declared.Message.the-variants.{Client, Info}
+use Rattle.wire.specs.declared.Message.the-variants.{Info}
 use Rattle.wire.specs.declared.Frame.{Frame}
 use Rattle.wire.specs.declared.Reading.{Reading}
 use Rattle.wire.specs.Format.{kindOf, numbersOf, bytesOf, viewsAllowed, contentOf}
@@ -27,7 +27,8 @@ use Rattle.wire.proofs.TripViews.{AreBytes, get-fits, views-fit}
 use Rattle.wire.proofs.TripWritten.{Holds, bytes-hold, held-reads}
 use Rattle.wire.proofs.TripRead.{Scanned, scanned, message-read, list-read, bytes-again, verdict-again}
 use Rattle.wire.proofs.TripMessages.{told-met, number-fits, sections-short}
-use Rattle.wire.proofs.VerdictLaws.{need-accepted, given-met, given-then}
+use Rattle.views.proofs.VerdictLaws.{need-accepted}
+use Rattle.wire.proofs.VerdictLaws.{given-met, given-then}
 use Rattle.views.proofs.PlaceLaws.{length-places, list-placed}
 use Rattle.wire.proofs.FormatLaws.{views-few}
 use Rattle.wire.proofs.WriterLaws.{length-bytes}

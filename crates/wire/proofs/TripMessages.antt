@@ -18,7 +18,7 @@ use Rattle.wire.specs.declared.Message.the-variants.{Client, Info, Regis
 use Rattle.wire.specs.Format.{clientKind, infoKind, registeredKind, kindOf, numbersOf, isKnown, viewsAllowed, numbersAllowed, toldFits, contentOf}
 use Rattle.wire.specs.Reader.{messageOf}
 use Rattle.wire.specs.Writer.{numberOf, LiesAt}
-use Rattle.wire.proofs.VerdictLaws.{need-accepted}
+use Rattle.views.proofs.VerdictLaws.{need-accepted}
 
 -- ---- verdicts taken apart
 

@@ -19,7 +19,8 @@ use Rattle.wire.specs.Reader.{kindIn, viewCount, numberCount, endOf, vie
 use Rattle.wire.specs.Writer.{frameBytes, frameVerdict}
 use Rattle.wire.proofs.TripViews.{AreBytes, views-again}
 use Rattle.wire.proofs.TripMessages.{told-met, Kind, kind-of-known, Again, message-again}
-use Rattle.wire.proofs.VerdictLaws.{need-accepted, given-met, given-then}
+use Rattle.views.proofs.VerdictLaws.{need-accepted}
+use Rattle.wire.proofs.VerdictLaws.{given-met, given-then}
 use Rattle.views.proofs.PlaceLaws.{list-placed}
 use Rattle.wire.proofs.FormatLaws.{views-few}
 use Rattle.wire.proofs.ReaderLaws.{length-viewsIn, no-number}

@@ -9,7 +9,7 @@ use lib.Seq.{getD-append-add, getD-at, drop-cons, drop-drop, take-add}
 use Rattle.numbers.specs.Number.{get, digits}
 use Rattle.numbers.proofs.NumberLaws.{length-digits, get-digits, digits-get}
 use Rattle.views.specs.declared.View.{View}
-use Rattle.views.specs.Lists.{idOf, noView}
+use Rattle.views.specs.Lists.{idOf}
 use Rattle.wire.specs.Format.{viewBytes, viewsBytes}
 use Rattle.wire.specs.Reader.{viewIn, viewsIn}
 use Rattle.wire.proofs.SeamLaws.{length-viewBytes}

@@ -23,7 +23,7 @@ use Rattle.wire.specs.Format.{kindOf, numbersOf, viewsBytes, numbersByte
 use Rattle.wire.specs.Reader.{viewsIn}
 use Rattle.wire.specs.Widths.{AreBytes}
 use Rattle.wire.specs.Writer.{numberOf, frameBytes, frameVerdict, frameFrom, writeVerdict, writtenOf, overwritten, Wrote}
-use Rattle.wire.proofs.VerdictLaws.{need-met, need-unmet, need-accepted, then-accepted, then-refused}
+use Rattle.views.proofs.VerdictLaws.{need-met, need-unmet, need-accepted, then-accepted, then-refused}
 use Rattle.wire.proofs.FormatLaws.{views-few}
 use Rattle.wire.proofs.ReaderLaws.{length-viewsIn, list-viewsIn}
 use Rattle.wire.proofs.TripViews.{views-again}
@@ -144,12 +144,16 @@ views-copied b from to at n h y =
     rw (views-again from at n h y) (append-assoc (take to b) (take (5 * n) (drop at from)) (drop (to + 5 * n) b))
 
 -- a number copied as it stands is the number that is read there, put
-pub number-copied : (b from : List ℕ) (to at k x : ℕ) → k ≡ 1 → to + 8 ≤ length b → at + 8 ≤ length from → AreBytes from → get from at (8 * k) ≡ x
+pub number-copied : (b from : List ℕ) (to at k : ℕ) → to + k ≤ length b → at + k ≤ length from → AreBytes from
+    → paste b to (drop at from) k ≡ put b to k (get from at k)
+number-copied b from to at k h l y =
+    append-assoc (take to b) (take k (drop at from)) (drop (to + k) b)
+    ∙ sym (put-split b to k (get from at k) h ∙ rw (digits-get from at k l (λ j i. y (at + j))))
+
+-- the one number of a message
+pub one-copied : (b from : List ℕ) (to at k x : ℕ) → k ≡ 1 → to + 8 ≤ length b → at + 8 ≤ length from → AreBytes from → get from at (8 * k) ≡ x
     → paste b to (drop at from) 8 ≡ put b to (8 * k) x
-number-copied b from to at k x one h l y e =
-    let there : get from at 8 ≡ x = rw one at e in
-    let same : digits 8 x ≡ take 8 (drop at from) = ap (digits 8) (sym there) ∙ digits-get from at 8 l (λ j m. y (at + j)) in
-    rw (one, put-split b to 8 x h, same) (append-assoc (take to b) (take 8 (drop at from)) (drop (to + 8) b))
+one-copied b from to at k x one h l y e = let there : get from at 8 ≡ x = rw one at e in number-copied b from to at 8 h l y ∙ rw (one, there)
 
 pub from-stored : (g n : ℕ) (m : Message) (from : List ℕ) (at : ℕ) (b b1 b2 b3 : List ℕ) → at + 5 * n ≤ length from → AreBytes from
     → b1 ≡ overwritten (frontBytes (kindOf m) g n) b

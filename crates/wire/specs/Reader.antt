@@ -1,6 +1,6 @@
 -- The reader: the message at the front of bytes, or the first refusal, 32 to 34 as the bytes come, then 35 to 37, and
 -- 38 above it.
-use mathlib.Core.Bool.{Bool, true, false, cond}
+use mathlib.Core.Bool.{cond}
 use mathlib.Core.List.{List, [], _∷_}
 use Prim.Native.Nat.{ℕ, zero, suc, _+_, _*_, _%_}
 use lib.Dec.{eqb, leb}

@@ -1,5 +1,4 @@
 use mathlib.Core.Path.{sym, _∙_}
-use Prim.Native.Nat.{_-_}
 use Rattle.bench_session.proofs.AnswerLaws.{unread-answers, read-answers}
 use borrow.Author.Needs.{needs}
 use Rattle.bench_session.proofs.answer.Statement.{statement}

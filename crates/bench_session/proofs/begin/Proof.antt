@@ -1,4 +1,3 @@
-use Prim.Native.Nat.{_-_}
 use Rattle.bench_session.proofs.AnswerLaws.{group-answers}
 use borrow.Author.Needs.{needs}
 use Rattle.bench_session.proofs.begin.Statement.{statement}

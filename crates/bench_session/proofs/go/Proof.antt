@@ -1,4 +1,3 @@
-use Prim.Native.Nat.{_-_}
 use borrow.Author.Tests.{not-true, not-false}
 use Rattle.bench_session.proofs.AnswerLaws.{idle-answers, step-answers}
 use borrow.Author.Needs.{needs}

@@ -1,4 +1,3 @@
-use Prim.Native.Nat.{_-_}
 use native.Mathlib.Omega.{arith}
 use Rattle.book_bytes.specs.Places.{outgoingAt}
 use Rattle.book_steps.specs.Parts.{saidBytes}

@@ -1,6 +1,5 @@
 -- `group_listed::spread` meets its contract.
 use mathlib.Core.Path.{_≡_}
-use native.Mathlib.Omega.{arith}
 use lib.ListN.{length, length-map}
 use borrow.Author.Needs.{needs}
 use Rattle.group_listed.proofs.BytesLaws.{spread-is}

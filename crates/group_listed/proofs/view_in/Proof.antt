@@ -1,5 +1,4 @@
 -- `group_listed::view_in` meets its contract.
-use native.Mathlib.Omega.{arith}
 use borrow.Author.Tests.{lt-ltb, le-ltb}
 use borrow.Author.Needs.{needs}
 use Rattle.group_listed.specs.Parts.{viewOr}

@@ -28,6 +28,7 @@ use Rattle.rules.proofs.Hosts.Runs.{well, demand3-hosts}
 use Rattle.rules.proofs.Hosts.Kept.{never-wedged-hosts}
 use Rattle.rules.proofs.Hosts.Takes.{takes-next}
 use Rattle.events.specs.Replies.{verdictOf}
+use Rattle.events.proofs.ReplyLaws.{accepts}
 use Rattle.events.proofs.ShownLaws.{answer-shown}
 use Rattle.book_bytes.specs.Books.{bytesSound}
 use Rattle.book_bytes.proofs.LayoutLaws.{layout-from}
@@ -150,10 +151,6 @@ module _ (n S : ℕ) where
     follows-on (H.order p f bytes rest e) = after-order p f bytes rest e
 
   -- ---- the start
-
-  accepts : {A : Type 0} (r : Result A) → verdictOf r ≡ Accepted → (x : A) × (r ≡ accepted x)
-  accepts (accepted x) e = (x, refl)
-  accepts (refused f) e = let z : _≡_ {A = ℕ} 0 1 = cc in absurd (omega arith)
 
   begun : (lent : Member → List ℕ) → 0 < n → ((p : Member) → p < n → verdictOf (startCall n S p (lent p)) ≡ Accepted) → Follows (H.world0 n S lent) []
   begun lent some h =

@@ -4,7 +4,6 @@ use native.Mathlib.Omega.{arith}
 use borrow.Author.Tests.{not-true, not-false}
 use Rattle.member.proofs.StartLaws.{start-length, start-none, start-many, start-unfit, start-beyond, start-passes}
 use borrow.Author.Needs.{needs}
-use Rattle.views.specs.Sets.{fits}
 use Rattle.member.proofs.startable.Statement.{statement}
 use Rattle.member.proofs.startable.Tie as tie
 

@@ -7,7 +7,7 @@ use Rattle.views.specs.declared.View.{View}
 use Rattle.views.specs.Limits.{maxMembers}
 use Rattle.views.specs.Sets.{fits}
 use Rattle.rules.specs.Data.{Member, BookOf, Book, Result, accepted}
-use Rattle.rules.specs.Member.{DoneOf, PassingOf, Passing, passing, attempted, attempts, registers, sends, hands, tells, safes, collects}
+use Rattle.rules.specs.Member.{DoneOf, Passing, passing, attempted, attempts, registers, sends, hands, tells, safes, collects}
 use Rattle.rules.specs.Sound.{within}
 use Rattle.rules.specs.Group.{fresh}
 use Rattle.rules.specs.Alone.{startAlone, alone, joinAlone, passAlone, attemptAlone}

@@ -17,7 +17,7 @@ use Rattle.wire.specs.declared.Reading.{Reading}
 use Rattle.wire.specs.Format.{viewsAllowed, numbersAllowed, toldFits, contentOf}
 use Rattle.wire.specs.Reader.{kindIn, viewCount, numbersPlace, numberCount, viewsIn, numberIn, messageOf as carriedIn, wholeOf, readFront, readOf}
 use Rattle.wire.specs.Writer.{numberOf}
-use Rattle.wire.proofs.VerdictLaws.{need-accepted}
+use Rattle.views.proofs.VerdictLaws.{need-accepted}
 use Rattle.wire.proofs.FormatLaws.{views-few}
 use Rattle.wire.proofs.ReaderLaws.{length-viewsIn, list-viewsIn, front-read}
 use Rattle.wire.proofs.TripViews.{EachFits, AreBytes, get-fits, views-fit}

@@ -1,19 +1,17 @@
 -- A group in which the book of p changed, as the flat group: one equation for each kind of change.
-use mathlib.Core.Path.{_≡_, refl, sym, _∙_, ap}
-use mathlib.Core.Bool.{Bool, true, false, cond}
-use mathlib.Core.Option.{Option, none, some}
+use mathlib.Core.Path.{_≡_, refl, _∙_, ap}
+use mathlib.Core.Bool.{Bool, true}
 use mathlib.Core.List.{List, [], _∷_, _++_, map}
-use Prim.Native.Nat.{ℕ, zero, suc, _+_, _≤_, _<_}
+use Prim.Native.Nat.{ℕ, suc, _+_, _≤_}
 use native.Mathlib.Numerals.{add-one}
-use native.Mathlib.Omega.{arith}
-use lib.ListN.{length, take, drop}
-use lib.Seq.{drop-append-le, take-append-le, length-take-le}
+use lib.ListN.{length, drop}
+use lib.Seq.{drop-append-le, take-append-le}
 use Rattle.views.specs.declared.View.{View}
 use Rattle.views.specs.Points.{at, at2}
 use Rattle.views.specs.Lists.{idOf}
 use Rattle.rules.specs.Data as D
-use Rattle.rules.specs.Data.{MessageOf, EntryOf, entry, Item, item, Held, AtCarrierOf, AtClientOf, BookOf, GroupOf, rank}
-use Rattle.rules.specs.Member.{outgoes, takes, received, moves, noted, joined, learned, opened, attempted, collected}
+use Rattle.rules.specs.Data.{MessageOf, EntryOf, entry, Item, Held, AtCarrierOf, BookOf, GroupOf}
+use Rattle.rules.specs.Member.{outgoes, takes, received, moves, noted, joined, opened, attempted, collected}
 use Rattle.rules.specs.Group.{booked}
 use Rattle.rules.proofs.Flat as F
 use Rattle.rules.proofs.Flat.{Msg, Ent, ent, Flat, joinF, passF, orderF, infoF, heardF, toldF, inwardF, arriveF, attemptF, queueF, handF, safeF, collectF}

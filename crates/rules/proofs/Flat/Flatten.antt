@@ -1,19 +1,17 @@
 -- The group of the rules as the flat group: what each field of the flat record is, and how it follows when one member's book changes.
-use mathlib.Core.Path.{_≡_, refl, sym, _∙_, ap, fun-ext}
+use mathlib.Core.Path.{_≡_, refl, ap, fun-ext}
 use mathlib.Core.Bool.{Bool, true, false, cond}
 use mathlib.Core.List.{List, [], _∷_, _++_, map}
 use Prim.Native.Nat.{ℕ, zero, suc, _+_}
 use native.Mathlib.Numerals.{add-one}
 use native.Mathlib.Omega.{arith}
 use lib.Dec.{eqb}
-use lib.ListN.{length, take, drop}
-use Rattle.views.specs.declared.View.{View}
+use lib.ListN.{take, drop}
 use Rattle.views.specs.Points.{at, at2}
 use Rattle.views.specs.Lists.{idOf}
 use Rattle.views.proofs.PointLaws.{upd-ind}
 use Rattle.rules.specs.Data as D
 use Rattle.rules.specs.Data.{MessageOf, EntryOf, entry, Item, BookOf, GroupOf, rank}
-use Rattle.rules.specs.Group.{booked}
 use Rattle.rules.proofs.Flat as F
 use Rattle.rules.proofs.Flat.{Msg, Ent, ent, Flat}
 

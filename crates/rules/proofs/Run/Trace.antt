@@ -2,7 +2,7 @@
 use mathlib.Core.Path.{_≡_, refl, sym, _∙_, subst, ap}
 use mathlib.Core.Logic.{_⊎_, inl, inr}
 use mathlib.Core.Bool.{cond}
-use mathlib.Core.List.{List, [], _∷_, _++_}
+use mathlib.Core.List.{List, [], _∷_}
 use Prim.Native.Nat.{ℕ, _≤_, _<_}
 use native.Mathlib.Omega.{arith}
 use lib.Dec.{T}
@@ -29,7 +29,7 @@ use Rattle.rules.proofs.Ties.Hand.{hand-at, hand-tied, safe-at, safe-ti
 use Rattle.rules.proofs.Ties.Attempt.{collect-tied}
 use Rattle.rules.proofs.Run.Listed.{Naming, Agrees, to-named, from-named, same-view, same-id, find, added, stays}
 use Rattle.rules.proofs.Run.Events.{first-registered, registered-first}
-use Rattle.rules.proofs.Run.Beside.{E, Beside, Acts, nothing, acts, goes-on, Follows, attempt-beside}
+use Rattle.rules.proofs.Run.Beside.{E, Beside, nothing, acts, goes-on, Follows, attempt-beside}
 
 module _ (size : ℕ) (weight : ℕ → ℕ) (n : Naming size) {M : Type 0} (S : ℕ) where
   module _ (s : Flat M) (ag : Agrees n (s .views)) (a : State) (d : Outer M) (ra : Reach (E size weight n) a) (r : Tied a d s) where

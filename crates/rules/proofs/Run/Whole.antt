@@ -2,7 +2,7 @@
 -- identifiers share a member that weighs something. Attempted and registered go by the events.
 use mathlib.Core.Path.{_≡_, sym}
 use mathlib.Core.List.{List}
-use Prim.Native.Nat.{ℕ, suc, _≤_, _<_}
+use Prim.Native.Nat.{ℕ, suc, _<_}
 use native.Mathlib.Omega.{arith}
 use lib.Dec.{T}
 use Rattle.views.specs.declared.View.{View}
@@ -19,7 +19,7 @@ use Rattle.rules.specs.Data.{Event, attempt}
 use Rattle.rules.specs.Group.{firstView}
 use Rattle.rules.specs.Figure1.{Outer, Run}
 use Rattle.rules.proofs.Flat.{Flat, Steps}
-use Rattle.rules.proofs.Ties.{Tied, client-is, carrier-is, current-is}
+use Rattle.rules.proofs.Ties.{Tied, client-is, current-is}
 use Rattle.rules.proofs.Run.Listed.{Listed, listed, Naming, Agrees, naming, naming-agrees, to-named, from-named, same-view}
 use Rattle.rules.proofs.Run.Events.{Attempted, Registered, attempted-created, event-created, event-current, registered-shown, registered-event}
 use Rattle.rules.proofs.Run.Beside.{E, Beside}
@@ -103,10 +103,6 @@ module _ {M : Type 0} (size : ℕ) (weight : ℕ → ℕ) (S : ℕ) (below : (p 
       where
         none-inside : None (TotReg (E size weight named) state) (idOf w) (idOf v)
         none-inside x h k t = let y = total-shown x t in none (y .0) (y .1) (omega arith) (omega arith)
-
-    -- the client view is at or below the carrier view
-    pub client-below : (p : ℕ) → s .client p ≤ s .carrier p
-    client-below p = omega (arith, inv .client-carrier p, client-is tied p, carrier-is tied p)
 
     -- if every member of w attempted it, each earlier attempted view has a member whose client view is later (Invariant 3.4)
     pub moved-on : (v w : View) → AttE S es v → In w (s .views) → ((p : ℕ) → T (has (w .set) p) → In (attempt p w) es) → idOf v < idOf w

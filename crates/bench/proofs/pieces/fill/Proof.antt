@@ -1,6 +1,6 @@
 -- A read changes nothing before the part that it is lent.
-use mathlib.Core.Path.{_≡_, refl, sym}
-use mathlib.Core.Bool.{true, false, true≢false}
+use mathlib.Core.Path.{refl, sym}
+use mathlib.Core.Bool.{true≢false}
 use Rattle.bench.proofs.PieceLaws.{part-before}
 use borrow.Author.Needs.{needs}
 use Rattle.bench.proofs.pieces.fill.Statement.{statement}

@@ -1,6 +1,6 @@
 -- `book_sound::entries_at::entry_sound` meets its contract: by the sender and the kind, the entry is tested by what is left to ask of it.
 use mathlib.Core.Path.{sym, _∙_}
-use Prim.Native.Nat.{_+_, _-_}
+use Prim.Native.Nat.{_+_}
 use native.Mathlib.Omega.{arith}
 use Rattle.book_sound.proofs.Entries.{info-count, entry-foreign, entry-told, entry-other, entry-info}
 use borrow.Author.Needs.{needs}

@@ -1,8 +1,6 @@
 -- `book_sound::record::views_sound` meets its contract: each way out rewrites the definition with the tests that led to it.
 use mathlib.Core.Path.{sym, _∙_}
-use native.Mathlib.Omega.{arith}
 use borrow.Author.Tests.{not-true, not-false}
-use Rattle.book_bytes.specs.Places.{opensAt}
 use Rattle.book_sound.proofs.Tests.{views-in}
 use borrow.Author.Needs.{needs}
 use Rattle.book_sound.proofs.record.views_sound.Statement.{statement}

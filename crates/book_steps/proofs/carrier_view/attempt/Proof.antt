@@ -1,5 +1,4 @@
 -- `book_steps::carrier_view::attempt` meets its contract: the turn of the record that was loaded, with 43 last, is the rule's.
-use Prim.Native.Nat.{_-_}
 use native.Mathlib.Omega.{arith}
 use Rattle.book_steps.proofs.Committed.{sound-size, loaded-side}
 use Rattle.book_steps.proofs.LentLaws.{attempt-asks, attempt-lent}

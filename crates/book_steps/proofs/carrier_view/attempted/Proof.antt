@@ -1,5 +1,4 @@
 use mathlib.Core.Path.{refl}
-use Prim.Native.Nat.{_-_}
 use Rattle.book_steps.specs.Parts.{attemptEvent}
 use Rattle.book_steps.proofs.carrier_view.attempted.Statement.{statement}
 use Rattle.book_steps.proofs.carrier_view.attempted.Tie as tie

@@ -1,7 +1,7 @@
 use mathlib.Core.List.{List}
 use Rattle.rules.specs.Group.{firstView}
 use mathlib.Core.Path.{ap, _∙_}
-use Prim.Native.Nat.{ℕ, _-_}
+use Prim.Native.Nat.{ℕ}
 use borrow.Author.Needs.{needs}
 use Rattle.wire.specs.Writer.{storeView}
 use Rattle.group.proofs.start.lay_list.Statement.{statement}

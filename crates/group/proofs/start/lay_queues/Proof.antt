@@ -1,7 +1,7 @@
 use mathlib.Core.List.{List}
 use lib.ListN.{set}
 use mathlib.Core.Path.{ap}
-use Prim.Native.Nat.{ℕ, _-_}
+use Prim.Native.Nat.{ℕ}
 use borrow.Author.Needs.{needs}
 use Rattle.group.proofs.start.lay_queues.Statement.{statement}
 use Rattle.group.proofs.start.lay_queues.Tie as tie

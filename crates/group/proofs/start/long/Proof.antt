@@ -1,5 +1,4 @@
 use mathlib.Core.Path.{refl}
-use Prim.Native.Nat.{_-_}
 use native.Mathlib.Omega.{arith}
 use Rattle.group.proofs.BeginLaws.{long-broken, long-books, long-none, long-many, long-queues}
 use borrow.Author.Needs.{needs}

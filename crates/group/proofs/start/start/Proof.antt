@@ -1,5 +1,4 @@
 use mathlib.Core.Path.{sym, _∙_}
-use Prim.Native.Nat.{_-_}
 use Rattle.group.proofs.BeginLaws.{list-room, books-long, members-few, queues-room, start-refused, start-accepted}
 use Rattle.group_bytes.specs.Starts.{startRanges}
 use borrow.Author.Needs.{needs}

@@ -1,5 +1,4 @@
 use mathlib.Core.Path.{sym, _∙_}
-use Prim.Native.Nat.{_-_}
 use native.Mathlib.Omega.{arith}
 use borrow.Author.Tests.{not-true, not-false}
 use Rattle.group.proofs.BeginLaws.{begin-short, begin-none, begin-many, begin-unfit, begin-empty, begin-longer, begin-accepted}

@@ -1,4 +1,3 @@
-use Prim.Native.Nat.{_-_}
 use Rattle.events.specs.Replies.{replied}
 use borrow.Author.Needs.{needs}
 use Rattle.group.proofs.step.plain.Statement.{statement}

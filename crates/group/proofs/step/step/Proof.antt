@@ -1,5 +1,4 @@
 use mathlib.Core.Path.{sym, _∙_}
-use Prim.Native.Nat.{_-_}
 use borrow.Author.Tests.{not-true, not-false}
 use Rattle.group.specs.StepCalls.{asked}
 use Rattle.group.proofs.CarrierLaws.{unsound-went}

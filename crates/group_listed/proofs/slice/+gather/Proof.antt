@@ -1,7 +1,7 @@
 -- `group_listed::slice::gather` meets its contract: a walk of its MIR, by hand, and an induction on the places left. The slice can be copied: one copy goes to each call, and one stays for the exit.
 -- Assumes nothing.
-use mathlib.Core.Path.{_≡_, refl, sym, ap, subst, _∙_}
-use Prim.Native.Nat.{ℕ, _<_, _≤_, _^_, _*_, _+_, _-_}
+use mathlib.Core.Path.{_≡_, refl, ap, subst, _∙_}
+use Prim.Native.Nat.{ℕ, _<_, _^_, _+_, _-_}
 use native.Mathlib.Omega.{arith}
 use mathlib.Core.List.{[], _∷_, List}
 use lib.ListN.{length, getD}
@@ -33,7 +33,7 @@ use denote.Struct.Laws as LL
 use denote.Triple.Statement.{Contract, Triple}
 use denote.Triple.Call.{calls-at, calls-from}
 use denote.Triple.Clauses.{ensured, lasts}
-use denote.Triple.Cycle.{Measure, measured, at-on, mutual-elim}
+use denote.Triple.Cycle.{measured, at-on, mutual-elim}
 use denote.Triple.Entry.{onEntry}
 use denote.Triple.Spec.{tripleOf}
 use denote.Triple.Table.{cited}

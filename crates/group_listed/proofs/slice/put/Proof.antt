@@ -1,7 +1,7 @@
 -- `group_listed::slice::put` meets its contract: a walk of its MIR, by hand. The slice is opened, one view is taken out of the row and stored to, and the slice is closed at the new list; past the end the list stays.
 -- Assumes nothing.
 use mathlib.Core.Path.{_≡_, refl, sym, ap, subst}
-use Prim.Native.Nat.{ℕ, _<_, _^_, _*_, _+_}
+use Prim.Native.Nat.{ℕ, _<_, _^_, _*_}
 use native.Mathlib.Omega.{arith}
 use mathlib.Core.List.{[], _∷_, List}
 use lib.ListN.{length, set, length-set}

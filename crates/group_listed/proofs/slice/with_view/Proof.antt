@@ -6,7 +6,6 @@ use borrow.Author.Needs.{needs}
 use lib.ListN.{length, length-map}
 use lib.Seq.{set-out}
 use Rattle.views.specs.declared.View.{View}
-use Rattle.views.specs.declared.list.Views.{Views}
 use Rattle.group_listed.proofs.slice.with_view.Statement.{statement}
 use Rattle.group_listed.proofs.slice.with_view.Tie as tie
 

@@ -1,5 +1,4 @@
 -- `group_run::turns::ask` meets its contract: what is read is the step in the record, with operands within their widths.
-use native.Mathlib.Omega.{arith}
 use Rattle.group_run.proofs.Turning.{asked-as-held}
 use borrow.Author.Needs.{needs}
 use Rattle.group_run.proofs.turns.ask.Statement.{statement}

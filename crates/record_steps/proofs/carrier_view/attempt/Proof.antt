@@ -5,7 +5,8 @@ use borrow.Author.Tests.{not-true, not-false}
 use borrow.Author.Needs.{needs}
 use Rattle.views.specs.Sets.{one}
 use Rattle.record_steps.specs.Turns.{attemptTurn}
-use Rattle.record_steps.proofs.RowLaws.{met, unmet, refused-by, accepted-by, attempt-row}
+use Rattle.views.proofs.VerdictLaws.{need-met, need-unmet}
+use Rattle.record_steps.proofs.RowLaws.{refused-by, accepted-by, attempt-row}
 use Rattle.record_steps.proofs.carrier_view.attempt.Statement.{statement}
 use Rattle.record_steps.proofs.carrier_view.attempt.Tie as tie
 
@@ -19,7 +20,7 @@ returns c =
     c .refuse .ensures
     ∙ refused-by _ _ _
     (attempt-row 0 (a .h) [] [] [] one (a .n)
-    ∙ unmet _ _ (not-true _ (c .before .if1 .taken)))
+    ∙ need-unmet _ _ (not-true _ (c .before .if1 .taken)))
 
 above-requires : tie.Need-above-requires
 above-requires c κs = search needs
@@ -34,8 +35,8 @@ returns-2 c =
     c .refuse2 .ensures
     ∙ refused-by _ _ _
     (attempt-row 0 (a .h) [] [] [] one (a .n)
-    ∙ met _ _ (not-false _ (c .before .before .before .before .before .if1 .left))
-    ∙ unmet _ _ (sym (c .before .before .above .ensures) ∙ not-true _ (c .before .if2 .taken)))
+    ∙ need-met _ _ (not-false _ (c .before .before .before .before .before .if1 .left))
+    ∙ need-unmet _ _ (sym (c .before .before .above .ensures) ∙ not-true _ (c .before .if2 .taken)))
 
 all-noted-requires : tie.Need-all-noted-requires
 all-noted-requires c κs = search needs
@@ -50,9 +51,9 @@ returns-3 c =
     c .refuse3 .ensures
     ∙ refused-by _ _ _
     (attempt-row 0 (a .h) [] [] [] one (a .n)
-    ∙ met _ _ (not-false _ (c .before .before .before .before .before .before .before .if1 .left))
-    ∙ met _ _ (sym (c .before .before .before .before .above .ensures) ∙ not-false _ (c .before .before .before .if2 .left))
-    ∙ unmet _ _ (sym (c .before .before .all-noted .ensures) ∙ not-true _ (c .before .if3 .taken)))
+    ∙ need-met _ _ (not-false _ (c .before .before .before .before .before .before .before .if1 .left))
+    ∙ need-met _ _ (sym (c .before .before .before .before .above .ensures) ∙ not-false _ (c .before .before .before .if2 .left))
+    ∙ need-unmet _ _ (sym (c .before .before .all-noted .ensures) ∙ not-true _ (c .before .if3 .taken)))
 
 passes-all-requires : tie.Need-passes-all-requires
 passes-all-requires c κs = search needs
@@ -67,10 +68,10 @@ returns-4 c =
     c .refuse4 .ensures
     ∙ refused-by _ _ _
     (attempt-row 0 (a .h) [] [] [] one (a .n)
-    ∙ met _ _ (not-false _ (c .before .before .before .before .before .before .before .before .before .before .before .if1 .left))
-    ∙ met _ _ (sym (c .before .before .before .before .before .before .before .before .above .ensures) ∙ not-false _ (c .before .before .before .before .before .before .before .if2 .left))
-    ∙ met _ _ (sym (c .before .before .before .before .before .before .all-noted .ensures) ∙ not-false _ (c .before .before .before .before .before .if3 .left))
-    ∙ unmet _ _ (sym (c .before .before .passes-all .ensures) ∙ not-true _ (c .before .if4 .taken)))
+    ∙ need-met _ _ (not-false _ (c .before .before .before .before .before .before .before .before .before .before .before .if1 .left))
+    ∙ need-met _ _ (sym (c .before .before .before .before .before .before .before .before .above .ensures) ∙ not-false _ (c .before .before .before .before .before .before .before .if2 .left))
+    ∙ need-met _ _ (sym (c .before .before .before .before .before .before .all-noted .ensures) ∙ not-false _ (c .before .before .before .before .before .if3 .left))
+    ∙ need-unmet _ _ (sym (c .before .before .passes-all .ensures) ∙ not-true _ (c .before .if4 .taken)))
 
 attempted-requires : tie.Need-attempted-requires
 attempted-requires c κs = search needs
@@ -82,10 +83,10 @@ returns-5 c =
     rw (c .attempted .ensures)
     (accepted-by _ _
     (attempt-row 0 (a .h) [] [] [] one (a .n)
-    ∙ met _ _ (not-false _ (c .before .before .before .before .before .before .before .before .before .before .before .if1 .left))
-    ∙ met _ _ (sym (c .before .before .before .before .before .before .before .before .above .ensures) ∙ not-false _ (c .before .before .before .before .before .before .before .if2 .left))
-    ∙ met _ _ (sym (c .before .before .before .before .before .before .all-noted .ensures) ∙ not-false _ (c .before .before .before .before .before .if3 .left))
-    ∙ met _ _ (sym (c .before .before .passes-all .ensures) ∙ not-false _ (c .before .if4 .left))))
+    ∙ need-met _ _ (not-false _ (c .before .before .before .before .before .before .before .before .before .before .before .if1 .left))
+    ∙ need-met _ _ (sym (c .before .before .before .before .before .before .before .before .above .ensures) ∙ not-false _ (c .before .before .before .before .before .before .before .if2 .left))
+    ∙ need-met _ _ (sym (c .before .before .before .before .before .before .all-noted .ensures) ∙ not-false _ (c .before .before .before .before .before .if3 .left))
+    ∙ need-met _ _ (sym (c .before .before .passes-all .ensures) ∙ not-false _ (c .before .if4 .left))))
 
 pub attempt-spec : {M : Type 1} → statement M
 attempt-spec =

@@ -4,7 +4,8 @@ use mathlib.Core.List.{[]}
 use borrow.Author.Tests.{not-true, not-false, lt-ltb, le-ltb}
 use borrow.Author.Needs.{needs}
 use Rattle.record_steps.specs.Turns.{settledAs, collectTurn}
-use Rattle.record_steps.proofs.RowLaws.{met, unmet, refused-by, accepted-by, collect-row}
+use Rattle.views.proofs.VerdictLaws.{need-met, need-unmet}
+use Rattle.record_steps.proofs.RowLaws.{refused-by, accepted-by, collect-row}
 use Rattle.record_steps.proofs.carrier_view.collect.Statement.{statement}
 use Rattle.record_steps.proofs.carrier_view.collect.Tie as tie
 
@@ -18,7 +19,7 @@ returns c =
     c .refuse .ensures
     ∙ refused-by _ _ _
     (collect-row 0 (a .h) [] [] [] (a .n)
-    ∙ unmet _ _ (not-true _ (c .before .if1 .taken)))
+    ∙ need-unmet _ _ (not-true _ (c .before .if1 .taken)))
 
 refuse-requires-2 : tie.Need-refuse-requires-2
 refuse-requires-2 c κs = search needs
@@ -30,8 +31,8 @@ returns-2 c =
     c .refuse2 .ensures
     ∙ refused-by _ _ _
     (collect-row 0 (a .h) [] [] [] (a .n)
-    ∙ met _ _ (not-false _ (c .before .before .before .before .before .if1 .left))
-    ∙ unmet _ _ (le-ltb _ _ (c .before .if2 .taken)))
+    ∙ need-met _ _ (not-false _ (c .before .before .before .before .before .if1 .left))
+    ∙ need-unmet _ _ (le-ltb _ _ (c .before .if2 .taken)))
 
 all-noted-requires : tie.Need-all-noted-requires
 all-noted-requires c κs = search needs
@@ -46,9 +47,9 @@ returns-3 c =
     c .refuse3 .ensures
     ∙ refused-by _ _ _
     (collect-row 0 (a .h) [] [] [] (a .n)
-    ∙ met _ _ (not-false _ (c .before .before .before .before .before .before .before .if1 .left))
-    ∙ met _ _ (lt-ltb _ _ (c .before .before .before .if2 .left))
-    ∙ unmet _ _ (sym (c .before .before .all-noted .ensures) ∙ not-true _ (c .before .if3 .taken)))
+    ∙ need-met _ _ (not-false _ (c .before .before .before .before .before .before .before .if1 .left))
+    ∙ need-met _ _ (lt-ltb _ _ (c .before .before .before .if2 .left))
+    ∙ need-unmet _ _ (sym (c .before .before .all-noted .ensures) ∙ not-true _ (c .before .if3 .taken)))
 
 prune-requires : tie.Need-prune-requires
 prune-requires c κs = search needs
@@ -60,9 +61,9 @@ returns-4 c =
     rw (c .prune .ensures)
     (accepted-by _ _
     (collect-row 0 (a .h) [] [] [] (a .n)
-    ∙ met _ _ (not-false _ (c .before .before .before .before .before .before .before .before .if1 .left))
-    ∙ met _ _ (lt-ltb _ _ (c .before .before .before .before .if2 .left))
-    ∙ met _ _ (sym (c .before .before .before .all-noted .ensures) ∙ not-false _ (c .before .before .if3 .left))))
+    ∙ need-met _ _ (not-false _ (c .before .before .before .before .before .before .before .before .if1 .left))
+    ∙ need-met _ _ (lt-ltb _ _ (c .before .before .before .before .if2 .left))
+    ∙ need-met _ _ (sym (c .before .before .before .all-noted .ensures) ∙ not-false _ (c .before .before .if3 .left))))
 
 pub collect-spec : {M : Type 1} → statement M
 collect-spec =

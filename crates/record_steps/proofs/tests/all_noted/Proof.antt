@@ -8,7 +8,8 @@ use borrow.Author.Tests.{not-true, not-false}
 use borrow.Author.Needs.{needs}
 use Rattle.views.specs.Sets.{has}
 use Rattle.rules.specs.Member.{every}
-use Rattle.record_steps.proofs.AskLaws.{every-none, every-more, every-stop, asked-met, asked-unmet, unasked}
+use Rattle.rules.proofs.Truth.{every-stop}
+use Rattle.record_steps.proofs.AskLaws.{every-none, every-more, asked-met, asked-unmet, unasked}
 use Rattle.record_steps.proofs.tests.all_noted.Statement.{statement}
 use Rattle.record_steps.proofs.tests.all_noted.Tie as tie
 
@@ -31,7 +32,7 @@ returns : tie.Need-returns Inv-loop μ-loop
 returns c =
     let a = c .before .before .before .before .before .before .args in
     let q = c .before .before .before .before .before .loop .q in
-    sym (every-stop _ (a .n) q (c .before .before .before .before .loop-test .taken)
+    sym (every-stop (a .n) _ q (c .before .before .before .before .loop-test .taken)
     (asked-unmet (a .members) (has (a .noted)) q (sym (c .before .before .before .contains .ensures) ∙ c .before .before .if1 .taken) (sym (c .before .contains2 .ensures) ∙ not-true _ (c .if2 .taken))))
 
 add-q : tie.Need-add-q Inv-loop μ-loop

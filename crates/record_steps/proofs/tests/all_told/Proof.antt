@@ -10,7 +10,8 @@ use lib.Dec.{ltb}
 use lib.ListN.{getD}
 use Rattle.views.specs.Sets.{has}
 use Rattle.rules.specs.Member.{every}
-use Rattle.record_steps.proofs.AskLaws.{every-none, every-more, every-stop, asked-met, asked-unmet, unasked}
+use Rattle.rules.proofs.Truth.{every-stop}
+use Rattle.record_steps.proofs.AskLaws.{every-none, every-more, asked-met, asked-unmet, unasked}
 use Rattle.record_steps.proofs.tests.all_told.Statement.{statement}
 use Rattle.record_steps.proofs.tests.all_told.Tie as tie
 
@@ -34,7 +35,7 @@ returns c =
     let a = c .before .before .before .before .before .before .before .args in
     let q = c .before .before .before .before .before .before .loop .q in
     let high : ℕ → Bool = λ q. ltb (a .count .0) (getD (a .tolds) q 0) in
-    sym (every-stop _ (a .n) q (c .before .before .before .before .before .loop-test .taken)
+    sym (every-stop (a .n) _ q (c .before .before .before .before .before .loop-test .taken)
     (asked-unmet (a .members) high q (sym (c .before .before .before .before .contains .ensures) ∙ c .before .before .before .if1 .taken)
     (le-ltb (a .count .0) (getD (a .tolds) q 0) (omega (arith, c .before .before .told-by .ensures, c .if2 .taken)))))
 

@@ -3,7 +3,7 @@ use mathlib.Core.Path.{sym, _∙_}
 use borrow.Author.Tests.{not-true, not-false}
 use borrow.Author.Needs.{needs}
 use Rattle.wire.specs.Format.{contentOf}
-use Rattle.wire.proofs.VerdictLaws.{need-met, need-unmet}
+use Rattle.views.proofs.VerdictLaws.{need-met, need-unmet}
 use Rattle.wire.proofs.format.content.Statement.{statement}
 use Rattle.wire.proofs.format.content.Tie as tie
 

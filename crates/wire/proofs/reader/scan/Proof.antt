@@ -6,7 +6,7 @@ use borrow.Author.Tests.{le-leb, lt-leb, not-true, not-false}
 use borrow.Author.Needs.{needs}
 use lib.ListN.{getD}
 use Rattle.wire.specs.Reader.{scanOf}
-use Rattle.wire.proofs.VerdictLaws.{need-met, need-unmet}
+use Rattle.views.proofs.VerdictLaws.{need-met, need-unmet}
 use Rattle.wire.proofs.reader.scan.Statement.{statement}
 use Rattle.wire.proofs.reader.scan.Tie as tie
 

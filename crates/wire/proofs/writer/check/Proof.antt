@@ -6,7 +6,7 @@ use borrow.Author.Needs.{needs}
 use Rattle.views.specs.Lists.{listOf}
 use Rattle.wire.specs.Format.{viewsAllowed, contentOf}
 use Rattle.wire.specs.Writer.{frameVerdict}
-use Rattle.wire.proofs.VerdictLaws.{need-met, need-unmet}
+use Rattle.views.proofs.VerdictLaws.{need-met, need-unmet}
 use Rattle.wire.proofs.writer.check.Statement.{statement}
 use Rattle.wire.proofs.writer.check.Tie as tie
 

@@ -6,7 +6,7 @@ use borrow.Author.Needs.{needs}
 use lib.ListN.{length-set}
 use Rattle.numbers.specs.Number.{get}
 use Rattle.wire.specs.Writer.{numberOf}
-use Rattle.wire.proofs.WriterLaws.{numbers-stored, no-number-stored, numbers-one, number-copied}
+use Rattle.wire.proofs.WriterLaws.{numbers-stored, no-number-stored, numbers-one, one-copied}
 use Rattle.wire.proofs.writer.copy_numbers.Statement.{statement}
 use Rattle.wire.proofs.writer.copy_numbers.Tie as tie
 
@@ -43,7 +43,7 @@ returns-2 c =
     let k = c .before .before .before .before .before .numbers-in in
     let lies : get (a .from .now) (a .number) (8 * k .result) ≡ numberOf (a .m) = ap (λ (j : ℕ). get (a .from .now) (a .number) (8 * j)) (k .ensures) ∙ c .before .before .before .before .before .before .before .before .pre .2 in
     numbers-stored (a .m) (a .to) (k .result) _ (a .out .now) _ (k .ensures) refl (omega arith)
-    (c .before .before .copy .ensures ∙ number-copied _ (a .from .now) (a .to + 1) (a .number) (k .result) _ one (simp length-set (omega arith)) (omega arith) (λ j. omega (arith, c .before .before .before .before .before .before .shared-slice-known .given j)) lies)
+    (c .before .before .copy .ensures ∙ one-copied _ (a .from .now) (a .to + 1) (a .number) (k .result) _ one (simp length-set (omega arith)) (omega arith) (λ j. omega (arith, c .before .before .before .before .before .before .shared-slice-known .given j)) lies)
 
 pub copy-numbers-spec : {M : Type 1} → statement M
 copy-numbers-spec =
