@@ -15,6 +15,7 @@ constexpr size_t kViewSize = 5, kSlotSize = 171, kBookSize = 5234, kEventSize = 
 constexpr size_t kRecordSize = 174, kLongest = 167, kBooksSize = kMembers * kBookSize;
 constexpr size_t kStepSize = 13, kAnswerSize = 17;
 constexpr size_t kQueuesHead = 64, kWaitingSize = 1 + kWaiting * kSlotSize;
+
 // Places in a book.
 enum Place : size_t {
   kAtMembers = 0, kAtOwn = 1, kAtSettled = 2, kAtCarrier = 7, kAtClient = 13, kAtRegistered = 19, kAtHanded = 20,
@@ -22,8 +23,8 @@ enum Place : size_t {
   kAtOpen = 35, kAtOutgoing = 191, kAtInward0 = 2928, kAtInward1 = 4081
 };
 
-// The columns of an inward list and of a view's order, each behind the count: 128 places, the width of each in the next
-// line. A told's count stands where an info has its number of views.
+// The columns of an inward list and of a view's order, behind the count, 128 places each. A told's count stands where an
+// info has its number of views.
 constexpr size_t kItemSenders = 1, kItemNumbers = kItemSenders + kOrdered, kInwardSize = kItemNumbers + 8 * kOrdered;
 constexpr size_t kOrderSenders = 1, kOrderKinds = kOrderSenders + kOrdered, kOrderCounts = kOrderKinds + kOrdered;
 constexpr size_t kOrderNumbers = kOrderCounts + kOrdered, kOrderViews = kOrderNumbers + 8 * kOrdered;

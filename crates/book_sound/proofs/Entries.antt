@@ -1,26 +1,26 @@
 -- An outgoing entry, by the tests that the code asks of its slot.
 use mathlib.Core.Path.{_≡_, refl}
-use mathlib.Core.Bool.{true, false, cond}
+use mathlib.Core.Bool.{true, false}
 use mathlib.Core.List.{List, [], _∷_}
 use Prim.Native.Nat.{ℕ, _+_, _<_, _≤_, min}
 use native.Mathlib.Omega.{arith}
-use borrow.Author.Tests.{leb-true, eq-eqb, ne-eqb, le-leb, lt-ltb, le-ltb}
-use lib.Dec.{eqb, leb}
+use borrow.Author.Tests.{eq-eqb, ne-eqb, le-leb, lt-ltb, le-ltb}
+use lib.Dec.{leb}
 use lib.ListN.{length, getD}
 use Rattle.views.specs.declared.View.{View}
 use Rattle.views.specs.Limits.{maxViews, maxOrdered}
 use Rattle.views.specs.Sets.{both}
 use Rattle.views.specs.Lists.{isRising}
-use Rattle.views.proofs.SetLaws.{both-true}
-use Rattle.wire.specs.Format.{isKnown, toldFits}
+use Rattle.wire.specs.Format.{toldFits}
 use Rattle.wire.specs.Reader.{viewsIn}
 use Rattle.wire.proofs.ReaderLaws.{length-viewsIn}
-use Rattle.wire.proofs.TripMessages.{Kind, kind-of-known}
+use Rattle.wire.proofs.TripMessages.{Kind}
 use Rattle.rules.specs.Data.{Message, client, registered, told, entry}
 use Rattle.rules.specs.Member.{all}
 use Rattle.rules.specs.Sound.{conditions, setFits}
 use Rattle.rules.specs.Alone.{infoOf}
-use Rattle.slots.specs.Slots.{kindIn, numberIn, countIn, infoIn, messageIn, entryIn, slotFits}
+use Rattle.slots.specs.Slots.{kindIn, numberIn, countIn, infoIn, messageIn, entryIn, slotFits, messageBy}
+use Rattle.slots.proofs.Frames.{slot-kind, slot-count}
 use Rattle.book_sound.specs.EntryParts.{entrySound}
 use Rattle.rules.proofs.Truth.{both-unit, stopped}
 
@@ -39,11 +39,7 @@ info-tests n q (v ∷ l) h m k =
     let f : length l + 1 ≤ maxViews = omega arith in
     rw (le-leb (length l + 1) maxViews f, lt-ltb q n h, both-unit)
 
--- as a slot holds it
-abbrev held : ℕ → ℕ → List View → Message
-held k x l = cond (eqb k 1) (client x) (cond (eqb k 2) (infoOf l) (cond (eqb k 3) registered (told x)))
-
-short-tests : (n q k x : ℕ) (l : List View) → q < n → Kind k → (k ≡ 2 → ⊥) → toldFits k x ≡ entrySound n (entry q (held k x l))
+short-tests : (n q k x : ℕ) (l : List View) → q < n → Kind k → (k ≡ 2 → ⊥) → toldFits k x ≡ entrySound n (entry q (messageBy k x l x))
 unfolding entrySound conditions toldFits all
 short-tests n q k x l h Kind.client i = rw (lt-ltb q n h)
 short-tests n q k x l h Kind.info i = absurd (i refl)
@@ -52,29 +48,19 @@ short-tests n q k x l h Kind.told i = rw (lt-ltb q n h, both-unit)
 
 -- ---- the slot at a place
 
-info-counted : (k n : ℕ) → cond (eqb k 2) (both (leb 1 n) (leb n maxViews)) true ≡ true → k ≡ 2 → both (leb 1 n) (leb n maxViews) ≡ true
-info-counted k n e i = rw i at e
-
-held-info : (k x : ℕ) (l : List View) → k ≡ 2 → infoOf l ≡ held k x l
+held-info : (k x : ℕ) (l : List View) → k ≡ 2 → infoOf l ≡ messageBy k x l x
 held-info k x l i = rw i
 
 module _ (b : List ℕ) (at n : ℕ) (fits : slotFits b at ≡ true) where
-  kind : Kind (kindIn b at)
-  unfolding slotFits
-  kind = kind-of-known (kindIn b at) (both-true (isKnown (kindIn b at)) _ fits .0)
-
   pub info-count : kindIn b at ≡ 2 → (1 ≤ countIn b at) × (countIn b at ≤ maxViews)
-  unfolding slotFits
-  info-count i =
-      let t = both-true _ _ (info-counted (kindIn b at) (countIn b at) (both-true (isKnown (kindIn b at)) _ fits .1) i) in
-      (leb-true _ _ (t .0), leb-true _ _ (t .1))
+  info-count i = slot-count b at fits i
 
   pub entry-foreign : n ≤ getD b at 0 → entrySound n (entryIn b at) ≡ false
   entry-foreign h = foreign n (getD b at 0) (messageIn b at) h
 
   pub entry-short : getD b at 0 < n → (kindIn b at ≡ 2 → ⊥) → toldFits (kindIn b at) (numberIn b at) ≡ entrySound n (entryIn b at)
   unfolding messageIn
-  entry-short h i = short-tests n (getD b at 0) (kindIn b at) (numberIn b at) (infoIn b at) h kind i
+  entry-short h i = short-tests n (getD b at 0) (kindIn b at) (numberIn b at) (infoIn b at) h (slot-kind b at fits) i
 
   -- a told's number, with the kind known
   pub entry-told : getD b at 0 < n → kindIn b at ≡ 4 → both (leb 1 (numberIn b at)) (leb (numberIn b at) maxOrdered) ≡ entrySound n (entryIn b at)

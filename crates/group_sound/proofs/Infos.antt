@@ -23,6 +23,7 @@ use Rattle.rules.specs.Member.{all}
 use Rattle.rules.specs.Sound.{within, conditions, setFits, opensRise, listed, infoListed}
 use Rattle.rules.specs.Alone.{viewsOf, infoOf}
 use Rattle.slots.specs.Slots.{kindIn, numberIn, countIn, infoIn, messageBy, messageIn, entryIn, kindFits, slotFits}
+use Rattle.slots.proofs.Frames.{held-views}
 use Rattle.rules.proofs.TestLaws.{within-says, all-at, all-from, listed-in}
 use Rattle.rules.proofs.Truth.{both-unit, both-false, stopped}
 use Rattle.book_sound.specs.EntryParts.{entrySound}
@@ -58,10 +59,6 @@ known-listed views (e ∷ l) h = let t = both-true (opensRise e) (all opensRise 
 -- listed sets fit where those of the list do
 listed-fit : (views : List View) (n : ℕ) → all (setFits n) views ≡ true → (l : List View) → all (listed views) l ≡ true → all (setFits n) l ≡ true
 listed-fit views n h l t = all-from (setFits n) l (λ x i. all-at (setFits n) views h x (listed-in views x (all-at (listed views) l t x i)))
-
-carried-info : (l : List View) → 1 ≤ length l → viewsOf (infoOf {M = ℕ} l) ≡ l
-carried-info [] h = absurd (omega arith)
-carried-info (v ∷ l) h = refl
 
 -- ---- the message of a kind, with the number x, the count k, and c views from a place on
 
@@ -99,15 +96,13 @@ module _ (b : List ℕ) (from c x k : ℕ) where
       let z : length carried ≡ c = length-viewsIn b from c in
       (ap (viewsIn b from) e, omega (arith, t .0), omega (arith, t .1))
 
-  views-of : (kind : ℕ) → Kind kind → kindFits kind c ≡ true → viewsOf (message kind) ≡ cond (eqb kind 2) carried []
-  unfolding isKnown
-  views-of kind Kind.client h = refl
-  views-of kind Kind.info h = let t = framed h in ap (λ (l : List View). viewsOf (infoOf {M = ℕ} l)) (t .0) ∙ carried-info carried (t .1)
-  views-of kind Kind.registered h = refl
-  views-of kind Kind.told h = refl
+  views-if : (t : Bool) → viewsIn b from (cond t c 0) ≡ cond t carried []
+  unfolding viewsIn
+  views-if true = refl
+  views-if false = refl
 
   pub message-views : (kind : ℕ) → kindFits kind c ≡ true → viewsOf (message kind) ≡ cond (eqb kind 2) carried []
-  message-views kind h = views-of kind (kind-of-known kind (both-true (isKnown kind) _ h .0)) h
+  message-views kind h = sym (held-views b from kind x k c h) ∙ views-if (eqb kind 2)
 
   module _ (views : List View) (n : ℕ) (sets : all (setFits n) views ≡ true) (s : ℕ) where
     abbrev asked : ℕ → Bool

@@ -3,7 +3,7 @@
 use mathlib.Core.Bool.{Bool, true, cond}
 use mathlib.Core.List.{List, [], _∷_}
 use Prim.Native.Nat.{ℕ, zero, suc}
-use lib.Dec.{eqb, ltb, leb}
+use lib.Dec.{eqb, ltb}
 use lib.ListN.{getD}
 use Rattle.views.specs.declared.View.{View}
 use Rattle.views.specs.Limits.{maxViews, maxOrdered}
@@ -35,4 +35,4 @@ unfoldable pub infosKnown : List View → List ℕ → ℕ → ℕ → Bool
 infosKnown views q c k =
     let n = getD q (orderCount c k) 0 in
     cond (eqb (getD q (orderKind c k) 0) infoKind)
-    (both (both (leb 1 n) (leb n maxViews)) (viewsKnown views (viewsIn q (orderViews c k) n))) true
+    (both (within 1 n maxViews) (viewsKnown views (viewsIn q (orderViews c k) n))) true

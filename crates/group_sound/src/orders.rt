@@ -33,7 +33,7 @@ fn fault(sender: u8, kind: u8, count: u8, n: u8) -> u8
     if limits::ORDERED < told { 1 } else { few }
 }
 
-// The first entries of the order at c.
+// The heads of the first entries of the order at c.
 fn heads(q: &[u8], c: usize, count: u8, n: u8) -> Seen
     requires { ⌜ (c + orderSize ≤ length (now q)) × (count ≤ maxOrdered) ⌝ }
     ensures { λ r. ⌜ (r .fit ≡ every count (headsFit n (now (q .entry)) c))
@@ -86,7 +86,7 @@ fn info_known(list: &[u8], q: &[u8], made: u8, c: usize, k: usize) -> bool
     crate::listed::views_known(list, q, made, at, n)
 }
 
-// The first entries of the order at c.
+// The infos among the first entries of the order at c.
 fn infos_known(list: &[u8], q: &[u8], made: u8, c: usize, count: usize) -> bool
     requires { ⌜ (viewSize * made ≤ length (now list)) × (c + orderSize ≤ length (now q)) × (count ≤ maxOrdered)
         × (isRising (viewsIn (now list) 0 made) ≡ true) ⌝ }

@@ -1,13 +1,13 @@
 -- Pass: the first outgoing message of a sound book is one that the writer takes, so its bytes are those of the rule and only 39 is left to refuse it.
 use mathlib.Core.Path.{_≡_, refl, subst, sym, ap, _∙_}
 use mathlib.Core.Logic.{⊎-elim}
-use mathlib.Core.Bool.{Bool, true, false, cond, not}
+use mathlib.Core.Bool.{true, false, not}
 use mathlib.Core.Option.{none, some}
 use mathlib.Core.List.{List, [], _∷_}
 use Prim.Native.Nat.{ℕ, zero, suc, _+_, _≤_, _<_}
 use native.Mathlib.Omega.{arith}
 use borrow.Author.Tests.{leb-true, le-leb, not-true, not-false}
-use lib.Dec.{eqb, leb}
+use lib.Dec.{leb}
 use lib.ListN.{length, getD}
 use Rattle.views.specs.declared.View.{View}
 use Rattle.views.specs.declared.ViewId.{ViewId}
@@ -17,14 +17,14 @@ use Rattle.views.specs.declared.refusal.Verdict.{Verdict}
 use Rattle.views.specs.declared.refusal.Verdict.the-variants.{Accepted, Refused}
 use Rattle.views.specs.Limits.{maxViews, maxOrdered}
 use Rattle.views.specs.Refusals.{require, andThen, left}
-use Rattle.views.specs.Sets.{both, isEmpty, isBeyond}
+use Rattle.views.specs.Sets.{isEmpty, isBeyond}
 use Rattle.views.specs.Lists.{idOf, isRising, listOf}
 use Rattle.views.proofs.SetLaws.{known, both-true}
 use Rattle.views.proofs.Members.{In, top}
 use Rattle.wire.specs.declared.Frame.{Frame}
 use Rattle.wire.specs.declared.Message.{Message as Carried}
 use Rattle.wire.specs.declared.Written.{Written}
-use Rattle.wire.specs.Format.{kindOf, isKnown, viewsAllowed, someEmpty, toldFits, contentOf}
+use Rattle.wire.specs.Format.{kindOf, viewsAllowed, someEmpty, toldFits, contentOf}
 use Rattle.wire.specs.Reader.{viewIn}
 use Rattle.wire.specs.Writer.{numberOf, frameBytes, frameVerdict, writeVerdict, writtenOf, frameFrom, LiesAt, Wrote}
 use Rattle.wire.proofs.ReaderLaws.{list-viewsIn}
@@ -33,9 +33,9 @@ use Rattle.rules.specs.Member.{Passing, passing, outgoes, all}
 use Rattle.rules.specs.Sound.{within, countFits, setFits, opensRise}
 use Rattle.rules.specs.Alone.{viewsOf, carriedOf, setsFit, passAlone, bookSound, messageBytes, passedBytes}
 use Rattle.rules.proofs.TestLaws.{all-at, conditions-say, both-from, within-says}
-use Rattle.slots.specs.Slots.{slotSize, kindIn, numberIn, countIn, messageIn, entryIn, entriesIn, slotFits}
+use Rattle.slots.specs.Slots.{slotSize, kindIn, numberIn, messageIn, entryIn, entriesIn}
 use Rattle.slots.specs.FrameParts.{framed, carriedAt, frameAt}
-use Rattle.slots.proofs.Frames.{EntryOk, number-at, frame-carried, frame-views, frame-message}
+use Rattle.slots.proofs.Frames.{EntryOk, number-at, frame-carried, frame-views, frame-message, slot-framed}
 use Rattle.slots.proofs.Lists.{slots-first}
 use Rattle.events.specs.Replies.{verdictOf}
 use Rattle.book_bytes.specs.declared.Seat.{Seat}
@@ -144,14 +144,6 @@ unfolding entriesIn
 entries-first b s zero h = absurd (omega arith)
 entries-first b s (suc n) h = (entriesIn b (s + slotSize) n, refl)
 
-few-if : (t : Bool) (n : ℕ) → cond t (both (leb 1 n) (leb n maxViews)) true ≡ true → cond t n 0 ≤ maxViews
-few-if true n e = leb-true n maxViews (both-true (leb 1 n) (leb n maxViews) e .1)
-few-if false n e = omega arith
-
-framed-few : (b : List ℕ) (at : ℕ) → slotFits b at ≡ true → framed b at ≤ maxViews
-unfolding slotFits
-framed-few b at e = few-if (eqb (kindIn b at) 2) (countIn b at) (both-true (isKnown (kindIn b at)) _ e .1)
-
 told-small : (b : List ℕ) (at q : ℕ) → countFits (entry q (messageIn b at)) ≡ true → kindIn b at ≡ 4 → numberIn b at < 256
 unfolding messageIn
 told-small b at q h k =
@@ -203,14 +195,14 @@ module _ (b : List ℕ) (sound : bytesSound b ≡ true) where
       let content = message-content (membersIn b) (getD b firstAt 0) (messageIn b firstAt) (says .count) (says .sets) (says .opens) in (
         ok,
         frame-accepted (frameAt b firstAt g) (messageIn b firstAt) (frame-carried b firstAt g ok) (frame-views b firstAt g ok)
-            (frame-count b firstAt g (framed-few b firstAt slot) ∙ ap length (frame-views b firstAt g ok)) (content .0) (content .1),
+            (frame-count b firstAt g (slot-framed b firstAt slot) ∙ ap length (frame-views b firstAt g ok)) (content .0) (content .1),
       )
 
   pub first-lies : 0 < getD b outgoingAt 0 → LiesAt (carriedAt b firstAt) b (firstAt + 2)
   first-lies h = number-at b firstAt (first-frame h 0 .0)
 
   pub first-few : 0 < getD b outgoingAt 0 → framed b (outgoingAt + 1) ≤ maxViews
-  first-few h = framed-few b firstAt (slots-first b firstAt (getD b outgoingAt 0) h (sound-layout b sound .slots))
+  first-few h = slot-framed b firstAt (slots-first b firstAt (getD b outgoingAt 0) h (sound-layout b sound .slots))
 
   module _ (s : Seat) (loaded : s ≡ seatIn b carrierAt) where
     there-is : flagIn b carrierAt ≡ s .there

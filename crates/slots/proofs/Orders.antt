@@ -13,9 +13,8 @@ use lib.Seq.{getD-set-same, getD-set-other}
 use Rattle.numbers.specs.Number.{get}
 use Rattle.views.specs.Limits.{maxViews, maxOrdered}
 use Rattle.wire.specs.declared.Message.the-variants.{Info}
-use Rattle.wire.specs.Format.{isKnown}
 use Rattle.wire.specs.Reader.{viewsIn, messageOf as carriedOf}
-use Rattle.wire.proofs.TripMessages.{both-first, Kind, kind-of-known}
+use Rattle.wire.proofs.TripMessages.{Kind}
 use Rattle.wire.proofs.TripViews.{AreBytes}
 use Rattle.rules.specs.Data.{Message, client, info, registered, told, Entry, entry}
 use Rattle.rules.specs.Alone.{viewsOf, messageOf}
@@ -27,7 +26,7 @@ use Rattle.slots.specs.FrameParts.{orderFramed, orderCarried}
 use Rattle.slots.proofs.Outside.{Changed, Apart, set-changed}
 use Rattle.slots.proofs.Stored.{MessageFits, toldOf}
 use Rattle.slots.proofs.Columns.{length-firsts, firsts-more, firsts-same, firsts-next}
-use Rattle.slots.proofs.Frames.{info-counted, few-framed}
+use Rattle.slots.proofs.Frames.{kind-fits, info-counted, few-framed}
 use Rattle.slots.proofs.BytesKept.{SetsAreBytes, set-bytes, put-bytes, storeViews-bytes}
 use Rattle.slots.proofs.OrderEntries.{EntrySame, EntryStored, order-entry-same, entry-is-stored}
 pub use Rattle.slots.proofs.OrderEntries.{entry-kept, kind-kept, views-kept, order-kept}
@@ -164,7 +163,7 @@ module _ (b : List ℕ) (c k : ℕ) where
   many = getD b (orderCount c k) 0
 
   known : kindFits sort many ≡ true → Kind sort
-  known h = kind-of-known sort (both-first (isKnown sort) _ h)
+  known h = kind-fits sort many h
 
   pub order-message : getD b (orderCount c k) 0 < 256 → kindFits (getD b (orderKind c k) 0) (getD b (orderCount c k) 0) ≡ true
       → messageOf (orderCarried b c k) (viewsIn b (orderViews c k) (orderFramed b c k)) ≡ orderMessage b c k
@@ -172,7 +171,7 @@ module _ (b : List ℕ) (c k : ℕ) where
   order-message t h = loaded b (orderViews c k) sort (get b (orderNumber c k) 8) many (known h) t h
 
   pub order-framed : kindFits (getD b (orderKind c k) 0) (getD b (orderCount c k) 0) ≡ true → orderFramed b c k ≤ maxViews
-  order-framed h = few-framed sort many (λ i. info-counted sort many h i .1) (known h)
+  order-framed h = few-framed sort many h
 
   pub order-info : kindFits (getD b (orderKind c k) 0) (getD b (orderCount c k) 0) ≡ true → orderCarried b c k ≡ Info → 1 ≤ orderFramed b c k
   order-info h e = some-views sort (cond (eqb sort 4) many (get b (orderNumber c k) 8)) many (known h) h e

@@ -3,7 +3,7 @@
 use mathlib.Core.Bool.{Bool, true, cond}
 use mathlib.Core.List.{List, [], _∷_}
 use Prim.Native.Nat.{ℕ, zero, suc, _+_, _*_, min}
-use lib.Dec.{eqb, leb}
+use lib.Dec.{eqb}
 use lib.ListN.{getD}
 use Rattle.numbers.specs.Number.{get}
 use Rattle.views.specs.declared.View.{View}
@@ -13,6 +13,7 @@ use Rattle.views.specs.Sets.{both}
 use Rattle.wire.specs.Format.{isKnown, clientKind, infoKind, registeredKind}
 use Rattle.wire.specs.Reader.{viewsIn}
 use Rattle.rules.specs.Data.{Message, client, registered, told, Entry, entry}
+use Rattle.rules.specs.Sound.{within}
 use Rattle.rules.specs.Alone.{infoOf}
 
 -- ---- an entry: sender 1 byte, kind 1, number 8, count of views 1, 32 places for views of 5
@@ -70,7 +71,7 @@ queueIn b c s = entriesIn b s (getD b c 0)
 
 -- an entry of a kind, with n views where it is an info
 abbrev pub kindFits : ℕ → ℕ → Bool
-kindFits kind n = both (isKnown kind) (cond (eqb kind infoKind) (both (leb 1 n) (leb n maxViews)) true)
+kindFits kind n = both (isKnown kind) (cond (eqb kind infoKind) (within 1 n maxViews) true)
 
 unfoldable pub slotFits : List ℕ → ℕ → Bool
 slotFits b at = kindFits (kindIn b at) (countIn b at)
