@@ -37,7 +37,7 @@ target/unproved/libdvs.a: $(SOURCES)
 # a package. The version stands here alone; tests/checks/header_check.py holds the header and the library to it.
 .PHONY: install
 PREFIX ?= /usr/local
-VERSION := 0.2.1
+VERSION := 0.3.0
 HOST_DOCUMENTS := $(wildcard $(addprefix docs/,HOST.md LAYOUT.md REFUSALS.md SPEC.md))
 CMAKE_FILES := dvsConfig.cmake dvsConfigVersion.cmake
 install: $(LIBRARY)
@@ -99,12 +99,12 @@ SEED := 1
 fuzz: $(BUILT)/outside_test
 	$(BUILT)/outside_test fuzz $(SECONDS) $(SEED)
 
-# One fault after another put into the library's calls: the test from outside must report each.
+# One fault after another put into the library's calls, and one wrong driver after another: the test from outside must report each.
 .PHONY: outside-selftest
 WRAPPED = $(shell sed -nE 's/^uint(32|64)_t (dvs_[a-z_]*).*/\2/p' include/dvs.h)
 outside-selftest: target/outside_wrong
 	tests/strength/run.sh target/outside_wrong
-target/outside_wrong: $(OUTSIDE) tests/strength/wrong.cpp $(LIBRARY)
+target/outside_wrong: $(OUTSIDE) $(wildcard tests/strength/wrong*.?pp) $(LIBRARY)
 	$(CXX) $(OUTSIDE_FLAGS) $(WRAPPED:%=-Wl,--wrap=%) -o $@ tests/outside/outside_test.cpp tests/strength/wrong.cpp $(LIBRARY)
 
 # One rule after another of the plain implementation changed: the test must find a difference each time. Some ten minutes.
@@ -145,12 +145,14 @@ target/reference-unchecked: tests/reference/reference.cpp $(REFERENCE)
 	mkdir -p target
 	$(CXX) $(CXXFLAGS) -DNO_CHECK -o $@ $<
 
-# The benches beside each other: every script with its answers, a random script, and two sent line by line, the second in pieces too; what fails.
+# The benches beside each other: every script with its answers, a random script, and two sent line by line, the second in pieces too; what fails. The
+# driver, which the bench has no line for, by the plain implementations alone.
 .PHONY: compare
 BENCH := $(if $(UNPROVED),target/unproved,target/bin)/bench
 compare: $(BENCH) reference-cpp
 	python3 tests/reference/compare.py corpus tests/scripts $(BENCH) target/reference target/reference-unchecked
 	python3 tests/reference/compare.py random 1 20000 $(BENCH) target/reference target/reference-unchecked
+	python3 tests/reference/compare.py forms 3 20000 "target/reference forms" "target/reference-unchecked forms"
 	python3 tests/reference/compare.py live 2 2000 $(BENCH)
 	python3 tests/scripts/bench_waits.py $(BENCH)
 	python3 tests/scripts/bench_fails.py $(BENCH)
@@ -160,8 +162,9 @@ target/bin/bench: $(SOURCES)
 target/unproved/bench: $(SOURCES)
 	.ci/unproved bench
 
-# What the library costs beside independent implementations in C++: messages, calls of the member and of the group, lines of the bench, and how a step's
-# cost grows with what the records hold. The others are compiled by LLVM too, where it is here, and for speed: make benchmark BENCHMARK_CXX=g++ for another.
+# What the library costs beside independent implementations in C++: messages, calls of the member and of the group, views formed by one call, lines of
+# the bench, and how a step's cost grows with what the records hold. The others are compiled by LLVM too, where it is here, and for speed: make benchmark
+# BENCHMARK_CXX=g++ for another.
 .PHONY: benchmark
 BENCHMARK_CXX := $(or $(shell command -v clang++),$(CXX))
 BENCHMARK_DIR := target/benchmark/$(notdir $(BENCHMARK_CXX))

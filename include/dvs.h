@@ -1,9 +1,10 @@
 /*
  * dvs.h: primary views for up to eight register servers, after the service DVS of MIT-LCS-TR-873.
  *
- * The library keeps no memory of its own, calls nothing but C's memcpy, memmove and memset, and never blocks. 8 KB of stack are
- * enough for any call. Its time is bounded by what the ranges hold: some microseconds for a call on a book; a step of a group looks at all of its
- * group, microseconds for a fresh one and milliseconds for one whose queues are full; a run takes the time of its steps.
+ * The library keeps no memory of its own, calls nothing but C's memcpy, memmove and memset, and never blocks. 8 KB of stack are enough for any call
+ * but dvs_group_form, for which 88 KB are: it keeps there what it may have to put back. Its time is bounded by what the ranges hold: some microseconds
+ * for a call on a book; a step of a group looks at all of its group, microseconds for a fresh one and milliseconds for one whose queues are full;
+ * dvs_group_run and dvs_group_form take the time of their steps.
  *
  * The host lends byte ranges, each as a pointer and a length in bytes, and gives plain numbers. A call answers any bytes, any lengths and any numbers:
  *
@@ -30,7 +31,7 @@ extern "C" {
 
 /* ---- the version: major * 10000 + minor * 100 + patch; dvs_version() gives the library's, which a host compares with this once */
 
-#define DVS_VERSION 201u
+#define DVS_VERSION 300u
 
 /* ---- limits */
 
@@ -46,7 +47,7 @@ extern "C" {
 
 #define DVS_BOOK_SIZE 5234u                                          /* a member's book */
 #define DVS_EVENT_SIZE 16u                                           /* an event that a call gives out, of the kinds below */
-#define DVS_LENGTH_SIZE 4u                                           /* the length of a message that a call gives out */
+#define DVS_LENGTH_SIZE 4u                                           /* a number that a call gives out: the length of a message, how many steps */
 #define DVS_MESSAGE_SIZE 174u                                        /* a message's record, of the kinds below */
 #define DVS_VIEW_SIZE 5u                                             /* a view record: identifier 4, set 1 */
 #define DVS_LIST_SIZE(views) (DVS_VIEW_SIZE * DVS_COUNT(views))      /* a group's list with room for 1 to 32 views */
@@ -194,8 +195,10 @@ extern "C" {
 #define DVS_REFUSED_ANOTHER_VIEW 41u         /* the message was sent in another view */
 #define DVS_REFUSED_SENDER_NOT_IN_VIEW 42u   /* the sender is not in the view */
 #define DVS_REFUSED_TOO_MANY_OPEN 43u        /* more than 31 views would be open */
+#define DVS_REFUSED_VIEW_NOT_FRESH 44u       /* the view to form is not the newest, or a member has joined it */
+#define DVS_REFUSED_FORM_TEST_FAILED 45u     /* the view to form has no majority of a view that one of its servers holds */
 
-#define DVS_REFUSALS 43u /* how many there are: the highest number */
+#define DVS_REFUSALS 45u /* how many there are: the highest number */
 
 /*
  * ---- the library itself
@@ -294,6 +297,13 @@ uint32_t dvs_group_start(uint8_t *list, size_t list_size, uint8_t *books, size_t
 uint32_t dvs_group_step(uint8_t *list, size_t list_size, uint8_t *books, size_t books_size, uint8_t *queues, size_t queues_size, uint32_t kind,
                         uint32_t first, uint64_t second, uint8_t *event, size_t event_size);
 
+/* The driver: the newest view, `view`, which no member has joined, is taken from made to settled at all its k servers by 2 * k * k + 8 * k ordinary steps:
+ * joins; passes, orders and deliveries of the infos; attempts; registers; passes, orders and deliveries of the registrations; collects, each kind by
+ * rising server. Their events are k attempts, then k registers, by rising server. `count` (DVS_LENGTH_SIZE bytes) gets the number of steps. Either all are
+ * taken or none. 4, 10, 44, 45; then, of ranges that no calls lead to, the first refusal among the steps. */
+uint32_t dvs_group_form(uint8_t *list, size_t list_size, uint8_t *books, size_t books_size, uint8_t *queues, size_t queues_size, uint32_t view,
+                        uint8_t *count, size_t count_size);
+
 /* dvs_group_start, then every step of `steps` (whole records of DVS_STEP_SIZE bytes, none or any number) in turn, each with its answer in `answers`
  * (as many records of DVS_ANSWER_SIZE). A refused step does not end the run: its number is in its answer. 4 where the records do not pair, then as
  * dvs_group_start. */
@@ -326,7 +336,7 @@ static inline uint32_t dvs_event_set(const uint8_t *event) { return event[DVS_EV
 static inline uint32_t dvs_event_sender(const uint8_t *event) { return event[DVS_EVENT_SENDER]; }
 static inline uint64_t dvs_event_entry(const uint8_t *event) { return dvs_get64(event + DVS_EVENT_ENTRY); }
 
-/* A length. */
+/* A length, or a count of steps. */
 static inline size_t dvs_length(const uint8_t *length) { return dvs_get32(length); }
 
 /* A view record: in a book, a list or a message's record. */

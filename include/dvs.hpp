@@ -235,6 +235,15 @@ class Group {
     return static_cast<Refusal>(dvs_group_run(list_.data(), list_.size(), books_.data(), books_.size(), queues_.data(), queues_.size(),
                                               members, first.bits, steps.data(), steps.size(), answers.data(), answers.size()));
   }
+  // The newest view, which no member has joined, is taken from made to settled: all its steps, and how many they are, or none. FormedEvents lists
+  // their events. It takes 80 KB of stack.
+  Result<std::size_t> form(Identifier view) noexcept {
+    detail::LengthBytes count{};
+    const auto refusal = static_cast<Refusal>(dvs_group_form(list_.data(), list_.size(), books_.data(), books_.size(), queues_.data(),
+                                                             queues_.size(), number(view), count.data(), count.size()));
+    if (refusal != Refusal::none) return refusal;
+    return dvs_length(count.data());
+  }
   // Whether the ranges are a sound group, which every step takes.
   Result<void> check() const noexcept {
     return static_cast<Refusal>(dvs_group_check(list_.data(), list_.size(), books_.data(), books_.size(), queues_.data(), queues_.size()));

@@ -112,6 +112,8 @@ enum class Refusal : std::uint32_t {
   another_view = DVS_REFUSED_ANOTHER_VIEW,
   sender_not_in_view = DVS_REFUSED_SENDER_NOT_IN_VIEW,
   too_many_open = DVS_REFUSED_TOO_MANY_OPEN,
+  view_not_fresh = DVS_REFUSED_VIEW_NOT_FRESH,
+  form_test_failed = DVS_REFUSED_FORM_TEST_FAILED,
 };
 
 constexpr std::uint32_t number(Refusal refusal) noexcept { return static_cast<std::uint32_t>(refusal); }
@@ -163,6 +165,8 @@ constexpr const char *text(Refusal refusal) noexcept {
     case Refusal::another_view: return "the message was sent in another view";
     case Refusal::sender_not_in_view: return "the sender is not in the view";
     case Refusal::too_many_open: return "more than 31 views would be open";
+    case Refusal::view_not_fresh: return "the view to form is not the newest, or a member has joined it";
+    case Refusal::form_test_failed: return "the view to form has no majority of a view that one of its servers holds";
   }
   return "no refusal of this library";
 }
@@ -373,6 +377,28 @@ constexpr bool operator==(const Event &a, const Event &b) noexcept {
   return a.kind == b.kind && a.member == b.member && a.view == b.view && a.set == b.set && a.sender == b.sender && a.entry == b.entry;
 }
 constexpr bool operator!=(const Event &a, const Event &b) noexcept { return !(a == b); }
+
+// The events of a view that was formed by one call, Group::form, in their order: each of its members attempts it, then each registers in it, rising.
+class FormedEvents {
+ public:
+  constexpr explicit FormedEvents(View view) noexcept {
+    for (Member member : members_of(view)) places_[size_++] = {EventKind::attempted, member, view.identifier, view.set, {}, 0};
+    for (Member member : members_of(view)) places_[size_++] = {EventKind::registered, member, view.identifier, {}, {}, 0};
+  }
+
+  constexpr std::size_t size() const noexcept { return size_; }
+  constexpr bool empty() const noexcept { return size_ == 0; }
+  constexpr const Event *begin() const noexcept { return places_.data(); }
+  constexpr const Event *end() const noexcept { return places_.data() + size_; }
+  constexpr const Event &operator[](std::size_t place) const noexcept { return places_[place]; }
+
+ private:
+  // No view has a member beyond the eighth.
+  static constexpr Set members_of(View view) noexcept { return view.set & Set::below(DVS_MEMBERS); }
+
+  std::array<Event, 2 * DVS_MEMBERS> places_{};
+  std::size_t size_ = 0;
+};
 
 // ---- steps of a group, and the answers of a run
 

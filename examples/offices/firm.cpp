@@ -7,17 +7,6 @@ namespace offices {
 
 namespace {
 
-constexpr std::array<const char *, kOffices> kTowns = {"Ruskmoor",   "Aldersea",  "Halden",     "Fernworth",
-                                                       "Kettlemere", "Thornholm", "Brackwater", "Millhythe"};
-
-std::string name(const Firm &firm, const std::optional<dvs::View> &view) { return view ? name(firm, *view) : "none"; }
-
-std::string open_views(const Firm &firm, const dvs::ViewList &views) {
-  std::string list;
-  for (const dvs::View &view : views) list += (list.empty() ? "" : ", ") + name(firm, view);
-  return list.empty() ? "-" : list;
-}
-
 // "yes", or why not.
 std::string primary(const Office &office) {
   if (office.works()) return "yes";
@@ -28,7 +17,7 @@ std::string primary(const Office &office) {
 }  // namespace
 
 Firm::Firm(std::uint64_t seed, dvs::Set first, Rule rule) : parts_{first}, carrier_(seed, first), watch_(first, rule) {
-  for (dvs::Member own : everyone()) offices_.emplace_back(own, kTowns[dvs::number(own)], first, rule);
+  for (dvs::Member own : everyone()) offices_.emplace_back(own, town(own), first, rule);
 }
 
 void Firm::connect(const std::vector<dvs::Set> &parts) {
@@ -110,26 +99,17 @@ Tally Firm::tally() const {
 
 void Firm::print() const {
   std::printf("    %-11s %-13s %-12s %-13s %-13s %-9s", "office", "carrier view", "primary", "client view", "settled", "open");
-  for (const auto &[mark, line] : offices_[0].marks()) std::printf(" %-13s", offices::name(mark).c_str());
+  for (const auto &[mark, line] : offices_[0].marks()) std::printf(" %-13s", name(mark).c_str());
   std::printf(" tray\n");
   for (const Office &office : offices_) {
     const dvs::BookReader book = office.book();
-    std::printf("    %-11s %-13s %-12s %-13s %-13s %-9s", office.town(), name(*this, book.carrier()).c_str(), primary(office).c_str(),
-                name(*this, book.client()).c_str(), name(*this, book.settled()).c_str(), open_views(*this, book.open()).c_str());
+    std::printf("    %-11s %-13s %-12s %-13s %-13s %-9s", office.town(), name(book.carrier()).c_str(), primary(office).c_str(),
+                name(book.client()).c_str(), name(book.settled()).c_str(), name(book.open()).c_str());
     for (const auto &[mark, line] : office.marks())
-      std::printf(" %-13s", (offices::name(line.section) + (line.safe ? "" : " unsafe")).c_str());
+      std::printf(" %-13s", (name(line.section) + (line.safe ? "" : " unsafe")).c_str());
     std::printf(" %zu\n", office.in_tray());
   }
   std::printf("\n");
 }
-
-std::string initials(const Firm &firm, dvs::Set set) {
-  std::string letters;
-  for (dvs::Member office : everyone())
-    if (set.has(office)) letters += firm[dvs::number(office)].town()[0];
-  return letters;
-}
-
-std::string name(const Firm &firm, dvs::View view) { return std::to_string(dvs::number(view.identifier)) + " " + initials(firm, view.set); }
 
 }  // namespace offices

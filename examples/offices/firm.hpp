@@ -2,6 +2,7 @@
 #pragma once
 
 #include "office.hpp"
+#include "towns.hpp"
 
 #include <vector>
 
@@ -49,9 +50,5 @@ class Firm {
   Watch watch_;
   std::vector<Office> offices_;
 };
-
-// The initials of a set's towns, in the offices' order.
-std::string initials(const Firm &firm, dvs::Set set);
-std::string name(const Firm &firm, dvs::View view);
 
 }  // namespace offices

@@ -37,7 +37,7 @@ void print(const Firm &firm, unsigned changes) {
   const Tally sum = firm.tally();
   const dvs::Set working = firm.working();
   std::printf("    %7u %10u %10u %8u %12u %12u %9u   %s\n", changes, firm.watch().views_attempted(), sum.accepted, sum.refused,
-              sum.only_by_old_program, firm.watch().lines_safe(), sum.too_late, working.empty() ? "nobody" : initials(firm, working).c_str());
+              sum.only_by_old_program, firm.watch().lines_safe(), sum.too_late, working.empty() ? "nobody" : initials(working).c_str());
 }
 
 }  // namespace

@@ -8,7 +8,6 @@ namespace offices {
 
 namespace {
 
-constexpr dvs::Member kRuskmoor{0}, kAldersea{1}, kHalden{2}, kFernworth{3}, kKettlemere{4}, kThornholm{5}, kBrackwater{6}, kMillhythe{7};
 constexpr dvs::Set kFirst{kRuskmoor, kAldersea, kHalden, kFernworth, kKettlemere}, kAll = dvs::Set::below(kOffices);
 constexpr dvs::Set kWest{kRuskmoor, kAldersea}, kEast{kHalden, kFernworth, kKettlemere}, kNew{kThornholm, kBrackwater, kMillhythe};
 constexpr Mark kBeam{'B', 12}, kColumn{'C', 4}, kRafter{'R', 3};

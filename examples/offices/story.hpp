@@ -1,4 +1,4 @@
-// The two parts of the program.
+// The three parts of the program.
 #pragma once
 
 namespace offices {
@@ -7,5 +7,7 @@ namespace offices {
 void story();
 // A season of lines that fail and return by chance, watched.
 void season();
+// A plan at the operator's desk: the whole group in one memory, and views formed by one call.
+void desk();
 
 }  // namespace offices

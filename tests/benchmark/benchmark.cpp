@@ -23,6 +23,7 @@ int main(int argc, char** argv) {
   messages();
   members();
   groups(argv[1]);
+  forms();
   lines(argv[1], {argv[2], argv[3], argv[4]});
   growth();
 }

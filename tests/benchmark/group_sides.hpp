@@ -1,4 +1,4 @@
-// A group on each side: one start, and one step by its numbers.
+// A group on each side: one start, one step by its numbers, and a view formed by one call.
 //
 //   library    the three lent ranges, refusal 4 asked in every step;
 //   structs    tests/reference/reference_group.hpp, whose host keeps structs, refusal 4 asked in every step;
@@ -15,6 +15,10 @@ namespace benchmark {
 // The specification's twelve steps by number; kind 0 is a start.
 struct Step { uint32_t kind, first; uint64_t second; };
 
+// The kinds of steps that form a view, each by every one of its servers, rising; a server delivers one by each of them.
+constexpr uint32_t kForming[] = {DVS_STEP_JOIN,     DVS_STEP_PASS, DVS_STEP_ORDER, DVS_STEP_DELIVER, DVS_STEP_ATTEMPT,
+                                 DVS_STEP_REGISTER, DVS_STEP_PASS, DVS_STEP_ORDER, DVS_STEP_DELIVER, DVS_STEP_COLLECT};
+
 // A group as structs. Its type is hidden: there are two, compiled from one header.
 #define GROUP_OF_STRUCTS(Name)                                                     \
   class Name {                                                                     \
@@ -27,6 +31,7 @@ struct Step { uint32_t kind, first; uint64_t second; };
     Name& operator=(const Name&) = delete;                                         \
     uint32_t start(uint32_t members, uint32_t first_set, unsigned room);           \
     uint32_t step(const Step& step, plain::Event& event);                          \
+    uint32_t form(uint32_t view, uint32_t& count);                                 \
     void forget_sent(unsigned p);  /* empties outgoing: a send can be timed again */ \
   };
 GROUP_OF_STRUCTS(Structured)
@@ -48,6 +53,13 @@ struct Ranges {
   uint32_t step(const Step& s) {
     return dvs_group_step(list.data(), list.size(), books.data(), books.size(), queues.data(), queues.size(), s.kind,
                           s.first, s.second, event, sizeof event);
+  }
+  uint32_t form(uint32_t view, uint32_t& count) {
+    uint8_t bytes[DVS_LENGTH_SIZE] = {};
+    uint32_t answer = dvs_group_form(list.data(), list.size(), books.data(), books.size(), queues.data(), queues.size(),
+                                     view, bytes, sizeof bytes);
+    count = dvs_get32(bytes);
+    return answer;
   }
   uint32_t start_independent(uint32_t members, uint32_t first_set) {
     return independent::group_start(list.data(), list.size(), books.data(), books.size(), queues.data(), queues.size(),

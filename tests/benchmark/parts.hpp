@@ -8,6 +8,7 @@ namespace benchmark {
 void messages();
 void members();
 void groups(const std::string& script);
+void forms();
 void lines(const std::string& script, const std::vector<std::string>& programs);
 void growth();
 

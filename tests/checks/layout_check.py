@@ -52,7 +52,7 @@ lengths = {
     "A member's book": book['SIZE'],
     'The books': group['BOOKS'],
     'An event': event['EVENT'],
-    'A length': event['LENGTH'],
+    'A number that a call gives out': event['LENGTH'],
     "A message's record": record['RECORD'],
 }
 faults = []

@@ -5,7 +5,7 @@
 #include <initializer_list>
 
 #include "../../include/dvs.h"
-#include "group.hpp"
+#include "driver.hpp"
 #include "tally.hpp"
 
 namespace outside {
@@ -48,7 +48,7 @@ class Calls {
   Tally& tally;
   // What calls are lent besides books and a group's ranges. Their contents are whatever the last call left.
   Lent event{"event", 64}, buffer{"buffer", 512}, length{"length", 16}, bytes{"bytes", 1024}, record{"message", 256};
-  Lent steps{"steps", 4096}, answers{"answers", 8192};
+  Lent steps{"steps", 4096}, answers{"answers", 8192}, count{"count", 64};
 
   explicit Calls(Tally& t) : tally(t) { usual(); }
 
@@ -56,8 +56,8 @@ class Calls {
   void usual() {
     event.resize(DVS_EVENT_SIZE, kBack), length.resize(DVS_LENGTH_SIZE, kBack), bytes.resize(0, kBack);
     buffer.resize(DVS_LONGEST, kBack), record.resize(DVS_MESSAGE_SIZE, kBack);
-    steps.resize(2 * DVS_STEP_SIZE, kBack), answers.resize(2 * DVS_ANSWER_SIZE, kBack);
-    for (Lent* lent : {&event, &length, &buffer, &record, &steps, &answers}) lent->copy_to_theirs();
+    steps.resize(2 * DVS_STEP_SIZE, kBack), answers.resize(2 * DVS_ANSWER_SIZE, kBack), count.resize(DVS_LENGTH_SIZE, kBack);
+    for (Lent* lent : {&event, &length, &buffer, &record, &steps, &answers, &count}) lent->copy_to_theirs();
   }
 
   uint32_t start(Lent& book, uint32_t members, uint32_t first_set, uint32_t own) {
@@ -173,6 +173,14 @@ class Calls {
                 [&] {
                   return plain::Group(list.range(), books.range(), queues.range()).step(kind, first, second, event.range());
                 });
+  }
+  uint32_t group_form(Lent& list, Lent& books, Lent& queues, uint32_t view) {
+    return both(kFnGroupForm, {&list, &books, &queues, &count}, {view},
+                [&] {
+                  return dvs_group_form(list.theirs(), list.size(), books.theirs(), books.size(), queues.theirs(),
+                                        queues.size(), view, count.theirs(), count.size());
+                },
+                [&] { return plain::Driver(list.range(), books.range(), queues.range()).form(view, count.range()); });
   }
 };
 

@@ -103,6 +103,7 @@ class Edges {
       c_.group_start(list_, books_, queues_, 2, 4), c_.group_check(list_, books_, queues_);
       c_.group_run(list_, books_, queues_, 9, 0), c_.group_run(list_, books_, queues_, 2, 4);
       c_.group_run(list_, books_, queues_, 2, 3), c_.group_check(list_, books_, queues_);
+      c_.group_form(list_, books_, queues_, 0), c_.group_form(list_, books_, queues_, 1);
     };
     auto fresh = [&] { lend(10, plain::kBooksSize, plain::queues_size(2)), c_.group_start(list_, books_, queues_, 2, 3); };
     for (size_t list = 0; list <= 5 * 36; ++list) {
@@ -123,6 +124,24 @@ class Edges {
       books_.poke(0, 0), calls();
     }
     c_.usual();
+  }
+
+  // A view that could be formed: every length of the count, and numbers near its identifier.
+  void forms() {
+    cut(list_, 10, false), cut(books_, plain::kBooksSize, false), cut(queues_, plain::queues_size(2), false);
+    for (size_t count = 0; count <= 40; ++count) {
+      for (bool sound : {true, false}) {
+        c_.group_start(list_, books_, queues_, 2, 3), c_.group_step(list_, books_, queues_, plain::kCreate, 9, 3);
+        if (!sound) books_.poke(0, 0);
+        cut(c_.count, count, true);
+        for (uint32_t view : {8u, 0u, 9u}) c_.group_form(list_, books_, queues_, view);
+      }
+    }
+    c_.usual();
+    for (uint32_t id : kWords) {
+      c_.group_start(list_, books_, queues_, 8, 255), c_.group_step(list_, books_, queues_, plain::kCreate, id, 255);
+      for (uint32_t view : kWords) c_.group_form(list_, books_, queues_, view);
+    }
   }
 
   // Every length of the steps with every length of the answers: only whole records, as many of each, are taken.
@@ -195,7 +214,7 @@ class Edges {
 
  public:
   explicit Edges(Calls& c) : c_(c) {
-    for (Lent* lent : {&book_, &list_, &books_, &c_.event, &c_.length, &c_.bytes, &c_.buffer, &c_.record, &c_.answers}) {
+    for (Lent* lent : {&book_, &list_, &books_, &c_.event, &c_.length, &c_.bytes, &c_.buffer, &c_.record, &c_.answers, &c_.count}) {
       uint8_t noise[64];
       r_.fill(noise, sizeof noise);
       memcpy(lent->mine(), noise, lent == &c_.length ? 16 : 64);
@@ -204,7 +223,7 @@ class Edges {
 
   void run() {
     c_.usual();
-    book_lengths(), other_lengths(), numbers(), group_lengths(), run_lengths(), group_numbers();
+    book_lengths(), other_lengths(), numbers(), group_lengths(), forms(), run_lengths(), group_numbers();
     inward_columns(), order_columns();
   }
 };

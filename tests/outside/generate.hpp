@@ -21,7 +21,6 @@ struct Pool {
     for (; count < most && id <= UINT32_MAX; id += dense ? 1 : 1 + r.below(300))
       views[count++] = View{static_cast<uint32_t>(id), wide ? r.wide_set(members) : r.set(members)};
   }
-  View any(Random& r) const { return views[r.below(count)]; }
 };
 
 // A count from 0 to its limit: few, or about the limit, or any.
@@ -43,16 +42,19 @@ inline void random_slot(Random& r, const Pool& pool, plain::Slot& slot) {
   slot.write(static_cast<uint8_t>(r.below(pool.members)), m);
 }
 
-// A sound book of member `own`; `ordered` gives how many messages there are to take in a view.
-template <class Ordered> void random_member(Random& r, const Pool& pool, unsigned own, plain::Member& m, Ordered ordered) {
+// A sound book of member `own`; `ordered` gives how many messages there are to take in a view. The carrier view is one of
+// the first `joined`, and what else the book has seldom is another.
+template <class Ordered>
+void random_member(Random& r, const Pool& pool, unsigned joined, unsigned own, plain::Member& m, Ordered ordered) {
+  unsigned some = r.chance(950) ? joined : pool.count;
   m.members = static_cast<uint8_t>(pool.members), m.own = static_cast<uint8_t>(own);
-  unsigned at = r.chance(600) ? 0 : r.below(pool.count), dense = 100 + r.below(901);
+  unsigned at = some == 0 || r.chance(600) ? 0 : r.below(some), dense = 100 + r.below(901);
   m.settled = pool.views[at], m.opens = 0;
   for (unsigned i = at + 1; i < pool.count && m.opens < plain::kOpen; ++i)
     if (r.chance(dense)) m.open[m.opens++] = pool.views[i];
-  m.has_carrier = r.chance(900), m.has_client = r.chance(900);
-  m.carrier = r.chance(500) ? pool.views[pool.count - 1] : pool.any(r);
-  m.client = r.chance(500) ? m.carrier : pool.any(r);
+  m.has_carrier = joined > 0 && r.chance(900), m.has_client = some > 0 && r.chance(900);
+  m.carrier = pool.views[joined == 0 ? 0 : r.chance(500) ? joined - 1 : r.below(joined)];
+  m.client = some == 0 || r.chance(500) ? m.carrier : pool.views[r.below(some)];
   m.registered = r.chance(300), m.side = r.below(2);
   unsigned most = m.has_carrier ? ordered(m.carrier) : 0;
   m.taken = r.chance(500) ? most : count_to(r, most);
@@ -80,14 +82,15 @@ inline void random_book(Random& r, uint8_t* book) {
   r.fill(book, plain::kBookSize);
   plain::Member m;
   memcpy(m.outgoing, book + plain::kAtOutgoing + 1, sizeof m.outgoing);
-  random_member(r, pool, r.below(members), m, [](const View&) { return 128u; });
+  random_member(r, pool, pool.count, r.below(members), m, [](const View&) { return 128u; });
   if (!m.has_carrier && r.chance(500)) m.inward[1 - m.side].count = 0;
   plain::store(m, book);
   if (pool.members < 8 && r.chance(500)) r.fill(book + plain::kAtTolds + members, 8 - members);
 }
 
-// The bytes of a sound group, over noise; the ranges' lengths are right.
-inline void random_group(Random& r, plain::Range list, plain::Range books, plain::Range queues) {
+// The bytes of a sound group, over noise; the ranges' lengths are right. Where the newest view is `fresh` nobody has joined
+// it, and its queues are empty more often than not.
+inline void random_group(Random& r, plain::Range list, plain::Range books, plain::Range queues, bool fresh = false) {
   unsigned members = r.chance(300) ? 8 : r.between(1, 8);
   auto room = static_cast<unsigned>(list.size / plain::kViewSize);
   Pool pool(r, members, r.chance(300) ? room : r.between(1, room));
@@ -96,7 +99,8 @@ inline void random_group(Random& r, plain::Range list, plain::Range books, plain
   queues.at[0] = static_cast<uint8_t>(pool.count);
   auto order = [&](unsigned i) { return queues.at + plain::kQueuesHead + plain::kTableSize * i; };
   for (unsigned i = 0; i < pool.count; ++i) {
-    order(i)[0] = static_cast<uint8_t>(count_to(r, plain::kOrdered));
+    bool empty = fresh && i + 1 == pool.count;
+    order(i)[0] = static_cast<uint8_t>(empty && r.chance(800) ? 0 : count_to(r, plain::kOrdered));
     for (unsigned k = 0; k < order(i)[0]; ++k) {
       plain::Slot entry;
       random_slot(r, pool, entry);
@@ -104,7 +108,7 @@ inline void random_group(Random& r, plain::Range list, plain::Range books, plain
     }
     for (unsigned p = 0; p < members; ++p) {
       uint8_t* queue = order(i) + plain::kOrderSize + plain::kWaitingSize * p;
-      queue[0] = static_cast<uint8_t>(count_to(r, plain::kWaiting));
+      queue[0] = static_cast<uint8_t>(empty && r.chance(850) ? 0 : count_to(r, plain::kWaiting));
       for (unsigned k = 0; k < queue[0]; ++k) random_slot(r, pool, plain::Queue{queue}.slots()[k]);
     }
   }
@@ -112,7 +116,7 @@ inline void random_group(Random& r, plain::Range list, plain::Range books, plain
     uint8_t* book = books.at + plain::kBookSize * p;
     plain::Member m;
     memcpy(m.outgoing, book + plain::kAtOutgoing + 1, sizeof m.outgoing);
-    random_member(r, pool, p, m, [&](const View& v) {
+    random_member(r, pool, pool.count - fresh, p, m, [&](const View& v) {
       unsigned i = 0;
       while (!(pool.views[i] == v)) ++i;
       return unsigned{order(i)[0]};

@@ -1,73 +1,20 @@
 // Cases of the whole group: histories from a start, and groups that no steps need have left; both are damaged now and
-// then. A history that was not damaged is put to tests/reference/reference_group.hpp too, a third implementation.
+// then. A history that was not damaged is put to the third implementation too.
 #pragma once
 
-#include <memory>
-
-#include "../reference/reference_group.hpp"
-#include "calls.hpp"
 #include "damage.hpp"
 #include "generate.hpp"
+#include "lent_group.hpp"
 
 namespace outside {
 
-class GroupCases {
-  Calls& c_;
-  Lent list_{"list", 256}, books_{"books", plain::kBooksSize, false};
-  Lent queues_{"queues", plain::queues_size(plain::kViews), false};
-  std::unique_ptr<reference::Group> third_ = std::make_unique<reference::Group>();
-  unsigned calls_ = 0;
-  bool clean_ = false;  // whether the third implementation has made the same steps
-
-  size_t room() const { return list_.size() / plain::kViewSize; }
-  unsigned members() { return books_.mine()[plain::kAtMembers]; }
-  unsigned made() { return queues_.mine()[0]; }
-  View view(unsigned i) { return plain::get_view(list_.mine() + plain::kViewSize * i); }
-
-  void lend(Random& r, unsigned room) {
-    list_.resize(plain::kViewSize * room, r.chance(500) ? kFront : kBack);
-    books_.resize(plain::kBooksSize, r.chance(500) ? kFront : kBack);
-    queues_.resize(plain::queues_size(room), r.chance(500) ? kFront : kBack);
-    c_.event.resize(plain::kEventSize, r.chance(500) ? kFront : kBack);
-    c_.event.copy_to_theirs();
-  }
-
-  // Small most of the time: every byte of the ranges is compared after every call.
-  static unsigned some_room(Random& r) {
-    if (r.chance(700)) return r.between(1, 2);
-    if (r.chance(800)) return r.between(3, 4);
-    return r.chance(800) ? r.between(5, 9) : r.between(10, 32);
-  }
-
-  // The event that the third implementation showed, as bytes.
-  static void store_third(const reference::Reply& reply, uint8_t* event) {
-    static const uint8_t kinds[] = {0, plain::kAttempt, plain::kRegister, plain::kSend, plain::kHand, plain::kSafe};
-    plain::Event e;
-    e.kind = kinds[reply.event], e.member = reply.member, e.view = reply.id, e.entry = reply.number;
-    (reply.event == reference::kAttempted ? e.set : e.sender) = reply.who;
-    e.store(event);
-  }
-
-  uint32_t call(uint32_t kind, uint32_t first, uint64_t second) {
-    if (++calls_ % 4 == 0) c_.group_check(list_, books_, queues_);
-    uint32_t answer = c_.group_step(list_, books_, queues_, kind, first, second);
-    if (!clean_ || kind > 255) return answer;
-    reference::Reply reply = third_->step(static_cast<uint8_t>(kind), first, second);
-    uint8_t event[plain::kEventSize];
-    store_third(reply, event);
-    bool same_event = answer != plain::kAccepted || memcmp(event, c_.event.mine(), sizeof event) == 0;
-    if (reply.refusal == answer && same_event) return answer;
-    printf("\nDIFFERENCE of tests/reference/reference_group.hpp in step %u %u %" PRIu64 ": %u, expected %u\n", kind,
-           first, second, reply.refusal, answer);
-    c_.tally.say_again();
-  }
-
+class GroupCases : LentGroup {
   // One step of a kind, with operands that fit more often than not.
   uint32_t step(Random& r, unsigned kind, bool wide) {
     uint32_t first = r.below(members() <= 8 ? members() : 8);
     uint64_t second = 0;
     if (kind == plain::kCreate) {
-      uint64_t id = view(made() - 1 < room() ? made() - 1 : 0).id + uint64_t{1} + (r.chance(800) ? 0 : r.below(1000));
+      uint64_t id = newest().id + uint64_t{1} + (r.chance(800) ? 0 : r.below(1000));
       first = id <= UINT32_MAX && r.chance(960) ? static_cast<uint32_t>(id) : r.chance(500) ? view(0).id : r.odd_word();
       second = wide || r.chance(300) ? r.wide_set(members() - 1 < 8 ? members() : 8) : 1 + r.below(255);
       if (r.chance(20)) second = r.odd_long();
@@ -118,6 +65,13 @@ class GroupCases {
       if (r.chance(950)) call(kind, p, kind == plain::kJoin ? view(made() - 1).id : 0);
   }
 
+  // The driver, most often of the newest view, which most often is made first.
+  uint32_t some_form(Random& r, bool wide) {
+    if (r.chance(600)) step(r, plain::kCreate, wide);
+    uint32_t id = r.chance(900) ? newest().id : r.chance(700) ? view(r.below(made() - 1 < room() ? made() : 1)).id : r.odd_word();
+    return form(id);
+  }
+
   // A few bytes changed, a step made; a refused step's damage is taken back.
   void damaged(Random& r) {
     struct { Lent* lent; size_t at; uint8_t was; } changes[8];
@@ -147,14 +101,16 @@ class GroupCases {
     }
     bool was_clean = clean_;
     clean_ = false;
-    uint32_t answer = r.chance(50) ? call(r.odd_word(), r.odd_word(), r.odd_long()) : step(r, r.between(1, 12), true);
+    uint32_t answer = r.chance(50)    ? call(r.odd_word(), r.odd_word(), r.odd_long())
+                      : r.chance(100) ? form(newest().id)
+                                      : step(r, r.between(1, 12), true);
     if (answer == plain::kAccepted) return;
     clean_ = was_clean;
     while (count-- > 0) changes[count].lent->poke(changes[count].at, changes[count].was);
   }
 
  public:
-  explicit GroupCases(Calls& c) : c_(c) {}
+  explicit GroupCases(Calls& c) : LentGroup(c) {}
 
   enum Style { kBalanced, kFilling, kMaking, kStyles };
 
@@ -183,6 +139,7 @@ class GroupCases {
       if (r.chance(40)) flow(r);
       if (r.chance(60)) together(r);
       if (r.chance(40)) damaged(r);
+      if (r.chance(10)) some_form(r, wide);
       if (r.chance(5)) call(r.chance(500) ? r.below(2) * 13 : r.odd_word(), r.odd_word(), r.odd_long());
     }
   }
@@ -192,10 +149,11 @@ class GroupCases {
     lend(r, some_room(r));
     clean_ = false;
     random_group(r, list_.range(), books_.range(), queues_.range());
-    for (Lent* lent : {&list_, &books_, &queues_}) lent->copy_to_theirs();
+    copy_to_theirs();
     for (unsigned n = r.between(10, 60); n > 0; --n) {
       if (step(r, r.between(1, 12), true) == plain::kRecordsUnsound) return;
       if (r.chance(500)) damaged(r);
+      if (r.chance(50)) some_form(r, true);
     }
   }
 
@@ -225,6 +183,7 @@ class GroupCases {
     c_.group_check(list_, books_, queues_);
     if (room() < 1 || room() > plain::kViews) return;
     for (unsigned n = 0; n < 5; ++n) call(r.between(1, 12), r.below(members), r.below(views));
+    form(r.below(views));
   }
 
   // Bytes that mean nothing, or little.
@@ -234,9 +193,10 @@ class GroupCases {
     for (Lent* lent : {&list_, &books_, &queues_}) r.fill(lent->mine(), lent->size());
     if (r.chance(800)) books_.mine()[0] = static_cast<uint8_t>(r.between(1, 8));
     if (r.chance(800)) queues_.mine()[0] = static_cast<uint8_t>(r.between(1, 3));
-    for (Lent* lent : {&list_, &books_, &queues_}) lent->copy_to_theirs();
+    copy_to_theirs();
     for (unsigned n = r.between(1, 4); n > 0; --n)
       call(r.chance(900) ? r.between(1, 12) : r.odd_word(), r.below(9), r.odd_long());
+    form(r.odd_word());
     uint32_t members = r.chance(800) ? r.between(1, 8) : r.odd_word();
     c_.group_start(list_, books_, queues_, members, r.chance(800) ? r.between(1, 255) : r.odd_word());
   }

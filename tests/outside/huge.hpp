@@ -77,7 +77,7 @@ class Huge {
 
   void group() {
     size_t books_size = plain::kBooksSize, queues_size = plain::queues_size(2);
-    uint8_t list[10], event[plain::kEventSize];
+    uint8_t list[10], event[plain::kEventSize], count[plain::kLengthSize] = {};
     Lent books("books", books_size), queues("queues", queues_size);
     books.resize(books_size, kBack), queues.resize(queues_size, kBack);
     uint8_t *b = books.theirs(), *q = queues.theirs();
@@ -85,14 +85,18 @@ class Huge {
     lend(list, 10);
     for (size_t far : {kFar * 5 + 10, kFar + 4 + 10}) {
       expect("dvs_group_step", dvs_group_step(at_, far, b, books_size, q, queues_size, 8, 0, 5, event, 16), 4);
+      expect("dvs_group_form", dvs_group_form(at_, far, b, books_size, q, queues_size, 0, count, 4), 4);
       expect("dvs_group_start", dvs_group_start(at_, far, b, books_size, q, queues_size, 2, 3), 3);
       expect("dvs_group_start", dvs_group_start(at_, far + 1, b, books_size, q, queues_size, 2, 3), 4);
     }
     lend(b, books_size);
     expect("dvs_group_step", dvs_group_step(list, 10, at_, kFar + books_size, q, queues_size, 8, 0, 5, event, 16), 4);
+    expect("dvs_group_form", dvs_group_form(list, 10, at_, kFar + books_size, q, queues_size, 0, count, 4), 4);
     expect("dvs_group_start", dvs_group_start(list, 10, at_, kFar + books_size, q, queues_size, 2, 3), 4);
     lend(q, queues_size);
     expect("dvs_group_step", dvs_group_step(list, 10, b, books_size, at_, kFar + queues_size, 8, 0, 5, event, 16), 4);
+    expect("dvs_group_form", dvs_group_form(list, 10, b, books_size, at_, kFar + queues_size, 0, count, 4), 4);
+    expect("dvs_group_form", dvs_group_form(list, 10, b, books_size, q, queues_size, 0, at_, kFar + 4), 4);
     expect("dvs_group_start", dvs_group_start(list, 10, b, books_size, at_, kFar + queues_size, 2, 3), 4);
     expect("dvs_group_step", dvs_group_step(list, 10, b, books_size, q, queues_size, 8, 0, 5, at_, kFar + 16), 4);
     expect("dvs_group_check", dvs_group_check(list, 10, b, books_size, at_, kFar + queues_size), 4);

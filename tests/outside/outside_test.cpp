@@ -9,24 +9,28 @@
 #include <string>
 
 #include "edges.hpp"
+#include "form_cases.hpp"
+#include "form_refusals.hpp"
 #include "group_cases.hpp"
 #include "huge.hpp"
 #include "member_cases.hpp"
 #include "message_cases.hpp"
 #include "papers.hpp"
+#include "stack.hpp"
 
 namespace {
 
 using namespace outside;
 using Clock = std::chrono::steady_clock;
 
-constexpr uint64_t kShortCases = 1560;
+constexpr uint64_t kShortCases = 1680;
 
 class Test {
   Tally tally_;
   Calls calls_{tally_};
   MemberCases member_{calls_};
   GroupCases group_{calls_};
+  FormCases forms_{calls_};
   MessageCases messages_{calls_};
   Clock::time_point begun_ = Clock::now();
 
@@ -37,9 +41,10 @@ class Test {
     tally_.seed = seed, tally_.number = number;
     Random r(seed, number);
     // Nothing of an earlier case is left in what calls are lent besides books.
-    for (Lent* lent : {&calls_.event, &calls_.buffer, &calls_.length, &calls_.record, &calls_.answers}) r.fill(lent->mine(), lent->most());
+    for (Lent* lent : {&calls_.event, &calls_.buffer, &calls_.length, &calls_.record, &calls_.answers, &calls_.count})
+      r.fill(lent->mine(), lent->most());
     calls_.usual();
-    switch (number % 13) {
+    switch (number % 14) {
       case 0: case 1: case 2: case 3: return member_.history(r);
       case 4: case 5: case 6: case 7:
         for (unsigned n = 0; n < 40; ++n) member_.single(r);
@@ -50,6 +55,7 @@ class Test {
       case 9: return group_.history(r);
       case 10: return group_.made_up(r);
       case 11: return group_.run(r);
+      case 12: return forms_.made_up(r);
       default: return messages_.some(r);
     }
   }
@@ -66,12 +72,12 @@ class Test {
   int run_short(uint64_t seed) {
     if (!guards_work()) return printf("the pages beside a lent range can be touched\n"), 1;
     if (!library_agrees()) return 1;
-    if (!Papers(calls_).run()) return 1;
+    if (!Papers(calls_).run() || !forms_.run() || !FormRefusals(calls_).run()) return 1;
     for (uint64_t number = 0; number < kShortCases; ++number) run_case(seed, number);
     Random r(seed);
     messages_.every(r);
     Edges(calls_).run();
-    if (!std::make_unique<Huge>()->run()) return 1;
+    if (!std::make_unique<Huge>()->run() || !std::make_unique<Stack>()->run()) return 1;
     bool whole = tally_.print();
     print_rate();
     if (!whole) printf("not every answer that the header names was seen, or another was\n");

@@ -26,9 +26,9 @@ static_assert(named_in_order() && sizeof kNamed / sizeof kNamed[0] == kAnswers, 
 // The exported functions; a group's step is counted by its kind.
 enum Function : unsigned {
   kFnStart, kFnJoin, kFnPass, kFnDeliver, kFnAttempt, kFnRegister, kFnSend, kFnHand, kFnTell, kFnSafe, kFnCollect,
-  kFnCheck, kFnRead, kFnWrite, kFnGroupStart, kFnGroupRun, kFnGroupCheck, kFnStepOther, kFnStepCreate, kFnStepJoin, kFnStepPass, kFnStepOrder,
-  kFnStepDeliver, kFnStepAttempt, kFnStepRegister, kFnStepSend, kFnStepHand, kFnStepTell, kFnStepSafe,
-  kFnStepCollect, kFunctions
+  kFnCheck, kFnRead, kFnWrite, kFnGroupStart, kFnGroupForm, kFnGroupRun, kFnGroupCheck, kFnStepOther, kFnStepCreate, kFnStepJoin,
+  kFnStepPass, kFnStepOrder, kFnStepDeliver, kFnStepAttempt, kFnStepRegister, kFnStepSend, kFnStepHand, kFnStepTell,
+  kFnStepSafe, kFnStepCollect, kFunctions
 };
 
 struct Promise {
@@ -37,7 +37,8 @@ struct Promise {
   const char* refusals;  // in the order in which they are checked
 };
 
-// After include/dvs.h. A group's step of each kind has its row of the specification's table behind 4 and 6.
+// After include/dvs.h. A group's step of each kind has its row of the specification's table behind 4 and 6. The driver has
+// its own refusals and, of made-up records, those of its steps that can be met; 4 is among these too.
 constexpr Promise kPromises[kFunctions] = {
     {"dvs_start", true, "4 1 2 6"},
     {"dvs_join", true, "4 6 7 11 12"},
@@ -54,6 +55,7 @@ constexpr Promise kPromises[kFunctions] = {
     {"dvs_read", true, "4 32 33 34 35 36 37 38"},
     {"dvs_write", true, "4 33 34 35 36 37 39"},
     {"dvs_group_start", true, "4 1 2 3"},
+    {"dvs_group_form", true, "4 10 44 45 15 16 19 20 21 30 31"},
     {"dvs_group_run", true, "4 1 2 3"},
     {"dvs_group_check", true, "4"},
     {"dvs_group_step ?", false, "4 5"},

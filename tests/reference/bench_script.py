@@ -44,10 +44,16 @@ NEAR_WIDTHS = [
 ]
 
 
-class Script:
-    """Lines with their replies; `seed` determines both."""
+# Of a thousand lines that are tried, how many form a view, in a script that has such lines.
+FORMS = 30
 
-    def __init__(self, seed):
+
+class Script:
+    """Lines with their replies; `seed` determines both. With `forms` there are lines `form IDENTIFIER`
+    among them, which no bench reads: they are put to the references alone."""
+
+    def __init__(self, seed, forms=False):
+        self.forms = forms
         self.draw = random.Random(seed)
         self.group = None
         self.lines = []
@@ -72,6 +78,8 @@ class Script:
                 self.begin()
             elif self.draw.randrange(100) < HOSTILE:
                 self.put(self.hostile_line())
+            elif self.forms and self.draw.randrange(1000) < FORMS:
+                self.form()
             else:
                 self.next_step()
             self.lines_left -= 1
@@ -86,6 +94,14 @@ class Script:
         self.put(b"group %d %d" % (members, first))
         self.lines_left = draw.choice([150, 600, 1500, 4000, 8000])
         self.mood_left = 0
+
+    def form(self):
+        """A view is made and formed, whether or not the last one was settled; or any other one is."""
+        identifier = self.some_identifier()
+        if self.draw.random() < 0.8:
+            identifier = self.new_identifier()
+            self.put(line_of((1, identifier, self.new_set())))
+        self.keep(b"form %d" % identifier, self.group.form(identifier))
 
     def next_step(self):
         draw = self.draw

@@ -1,6 +1,7 @@
 """Benches beside each other: the same script for every command, their answers line by line.
 
     python3 tests/reference/compare.py random SEED LINES CMD...   a random script
+    python3 tests/reference/compare.py forms SEED LINES CMD...    one with lines for the driver, of references alone
     python3 tests/reference/compare.py live SEED LINES CMD...     each line sent when the last was answered
     python3 tests/reference/compare.py corpus DIR CMD...          every DIR/NAME.txt, with DIR/NAME.out as answers
     python3 tests/reference/compare.py write SEED LINES           the random script itself, to standard output
@@ -65,17 +66,29 @@ def same(script, expected, name, answers, what):
     return False
 
 
-def compare_random(seed, lines, commands):
-    script = bench_script.Script(seed)
+def random_script(seed, lines, forms=False):
+    script = bench_script.Script(seed, forms)
     script.write(lines)
+    return script
+
+
+def compare_random(seed, script, commands):
     given, expected = script.bytes(), script.answers()
     return all([same(given, expected, c, run(c, given), f"seed {seed}") for c in commands])
 
 
+def compare_forms(seed, script, commands):
+    """The driver: views of every size, and each of its refusals that steps lead to, must have come."""
+    seen = {reply for line, reply in zip(script.lines, script.replies) if line.startswith(b"form ")}
+    wanted = {f"formed {2 * k * k + 8 * k}" for k in range(1, 9)} | {"refused 10", "refused 44", "refused 45"}
+    for reply in sorted(seen ^ wanted):
+        print(f"seed {seed}: the driver's answer '{reply}' {'was not seen' if reply in wanted else 'is none of its own'}")
+    return compare_random(seed, script, commands) and seen == wanted
+
+
 def compare_live(seed, lines, commands):
     """A bench answers a line as it comes: the next is sent only then."""
-    script = bench_script.Script(seed)
-    script.write(lines)
+    script = random_script(seed, lines)
     for command in commands:
         with subprocess.Popen(shlex.split(command), stdin=subprocess.PIPE, stdout=subprocess.PIPE) as bench:
             for number, (line, reply) in enumerate(zip(script.lines, script.replies)):
@@ -106,8 +119,7 @@ def compare_corpus(folder, commands):
 
 
 def histogram(seed, lines):
-    script = bench_script.Script(seed)
-    script.write(lines)
+    script = random_script(seed, lines)
     sorts = collections.Counter(r if r.startswith("refused") else r.split(" ")[0] for r in script.replies)
     for sort, count in sorted(sorts.items(), key=lambda s: (s[0].startswith("refused"), len(s[0]), s[0])):
         print(f"{count:8} {sort}")
@@ -119,7 +131,9 @@ def histogram(seed, lines):
 def main(arguments):
     mode, *rest = arguments or [""]
     if mode == "random" and len(rest) >= 3:
-        return compare_random(int(rest[0]), int(rest[1]), rest[2:])
+        return compare_random(rest[0], random_script(int(rest[0]), int(rest[1])), rest[2:])
+    if mode == "forms" and len(rest) >= 3:
+        return compare_forms(rest[0], random_script(int(rest[0]), int(rest[1]), forms=True), rest[2:])
     if mode == "live" and len(rest) >= 3:
         return compare_live(int(rest[0]), int(rest[1]), rest[2:])
     if mode == "corpus" and len(rest) >= 1:
@@ -127,9 +141,7 @@ def main(arguments):
     if mode == "histogram" and len(rest) == 2:
         return histogram(int(rest[0]), int(rest[1]))
     if mode == "write" and len(rest) == 2:
-        script = bench_script.Script(int(rest[0]))
-        script.write(int(rest[1]))
-        sys.stdout.buffer.write(script.bytes())
+        sys.stdout.buffer.write(random_script(int(rest[0]), int(rest[1])).bytes())
         return True
     print(__doc__)
     return False

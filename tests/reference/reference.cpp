@@ -1,4 +1,6 @@
 // The bench over the plain C++ group, to compare answers and speed with: the specification's lines in, its replies out.
+// With the word `forms` behind its name it reads lines `form IDENTIFIER` too, which no bench has, and says how many steps
+// formed the view.
 #include <cerrno>
 #include <unistd.h>
 
@@ -23,6 +25,8 @@ constexpr Command kCommands[] = {
     {"hand", 9, 1, {kByte, 0}},       {"tell", 10, 1, {kByte, 0}},      {"safe", 11, 1, {kByte, 0}},
     {"collect", 12, 1, {kByte, 0}},
 };
+constexpr uint8_t kForm = 255;
+constexpr Command kFormCommand = {"form", kForm, 1, {kWord, 0}};
 
 // Takes a numeral at the front; false if there is none within the width.
 bool numeral(const char*& at, const char* end, uint64_t widest, uint64_t& value) {
@@ -36,17 +40,20 @@ bool numeral(const char*& at, const char* end, uint64_t widest, uint64_t& value)
   return at != from && (*from != '0' || at == from + 1);
 }
 
-const Command* parse(const char* line, size_t size, uint64_t operands[2]) {
-  const char* end = line + size;
-  for (const Command& c : kCommands) {
-    size_t name = strlen(c.name);
-    if (size <= name || memcmp(line, c.name, name) != 0 || line[name] != ' ') continue;
-    const char* at = line + name;
-    for (unsigned i = 0; i < c.operands; ++i)
-      if (at == end || *at++ != ' ' || !numeral(at, end, c.widest[i], operands[i])) return nullptr;
-    return at == end ? &c : nullptr;
-  }
-  return nullptr;
+bool named(const Command& c, const char* line, size_t size) {
+  size_t name = strlen(c.name);
+  return size > name && memcmp(line, c.name, name) == 0 && line[name] == ' ';
+}
+
+const Command* parse(const char* line, size_t size, bool forms, uint64_t operands[2]) {
+  const Command* c = forms && named(kFormCommand, line, size) ? &kFormCommand : nullptr;
+  for (const Command& other : kCommands)
+    if (named(other, line, size)) c = &other;
+  if (!c) return nullptr;
+  const char *at = line + strlen(c->name), *end = line + size;
+  for (unsigned i = 0; i < c->operands; ++i)
+    if (at == end || *at++ != ' ' || !numeral(at, end, c->widest[i], operands[i])) return nullptr;
+  return at == end ? c : nullptr;
 }
 
 class Output {
@@ -71,6 +78,9 @@ class Output {
     bytes_[size_++] = ' ';
     while (count) bytes_[size_++] = digits[--count];
   }
+  void formed(const Reply& r) {
+    room(), text("formed"), number(r.number), text("\n");
+  }
   void reply(const Reply& r) {
     static const char* const names[] = {"ok", "attempt", "register", "send", "hand", "safe"};
     room();
@@ -88,13 +98,17 @@ class Output {
 
 struct Bench {
   Group group;
-  bool running;
+  bool running, forms;
   Output out;
 
   void answer(const char* line, size_t size) {
     uint64_t operands[2] = {0, 0};
-    const Command* c = size > kLine ? nullptr : parse(line, size, operands);
+    const Command* c = size > kLine ? nullptr : parse(line, size, forms, operands);
     if (!c || (c->kind != 0 && !running)) return out.reply(refuse(kLineUnreadable));
+    if (c->kind == kForm) {
+      Reply r = group.form(operands[0]);
+      return r.refusal == kAccepted ? out.formed(r) : out.reply(r);
+    }
     if (c->kind != 0) return out.reply(group.step(c->kind, operands[0], operands[1]));
     Refusal r = group.start(operands[0], operands[1], kLent);
     if (r == kAccepted) running = true;
@@ -106,8 +120,9 @@ Bench bench;
 
 }  // namespace
 
-int main() {
+int main(int count, char** words) {
   static char input[1 << 16];
+  bench.forms = count == 2 && strcmp(words[1], "forms") == 0;
   char rest[kLine + 1];  // the beginning of a line whose end has not come, as far as it matters
   size_t kept = 0;
   auto keep = [&](const char* from, size_t size) {

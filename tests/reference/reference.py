@@ -11,6 +11,7 @@ A queue entry is a pair (sender, message); a message is one of
     ("registered",)             ("told", count)
 """
 
+import copy
 import sys
 
 from refusals import (
@@ -19,7 +20,7 @@ from refusals import (
     ORDER_FULL, NONE_WAITING, NONE_TO_DELIVER, NOT_ABOVE_CLIENT, INFO_MISSING, TEST_FAILED, NO_CLIENT_VIEW,
     ALREADY_REGISTERED, OUTGOING_FULL, NONE_TO_HAND, CLIENT_NOT_CARRIER, NOTHING_NEW_TO_TELL, NONE_TO_REPORT,
     TOLD_TOO_LOW, NOT_ABOVE_SETTLED, REGISTRATION_MISSING, ENDS_EARLY, UNKNOWN_KIND, SECTION_COUNT, EMPTY_SET,
-    NOT_RISING, TOLD_OUT_OF_RANGE, BYTES_LEFT_OVER, LINE_UNREADABLE, Refused, refuse_if,
+    NOT_RISING, TOLD_OUT_OF_RANGE, BYTES_LEFT_OVER, LINE_UNREADABLE, VIEW_NOT_FRESH, FORM_TEST_FAILED, Refused, refuse_if,
 )
 
 # "Words and bounds"
@@ -122,6 +123,16 @@ class Group:
                 return does(self, x, y)
             refuse_if(x >= self.members, NO_SUCH_MEMBER)
             return does(self, x, y)
+        except Refused as refusal:
+            return ("refused", refusal.number)
+
+    def form(self, identifier):
+        """The driver: ("formed", how many steps), or ("refused", R) and nothing changes."""
+        try:
+            tried = copy.deepcopy(self)
+            count = form(tried, identifier)
+            self.__dict__ = tried.__dict__
+            return ("formed", count)
         except Refused as refusal:
             return ("refused", refusal.number)
 
@@ -360,6 +371,40 @@ STEPS = {
     11: ("safe", safe, [MEMBER_WIDTH]),
     12: ("collect", collect, [MEMBER_WIDTH]),
 }
+
+
+# The driver
+
+
+def form_steps(view):
+    """"joins, infos, attempts, registrations and collects in that order; infos and registrations
+    go by passes, orders, then deliveries, and each kind of step by rising server, one's steps together"."""
+    identifier, servers = view[0], members_of(view[1])
+
+    def each(name, times=1):
+        kind = next(k for k in STEPS if STEPS[k][0] == name)
+        return [(kind, p, identifier) for p in servers for _ in range(times)]
+
+    exchange = each("pass") + each("order") + each("deliver", len(servers))
+    return each("join") + exchange + each("attempt") + each("register") + exchange + each("collect")
+
+
+def form(group, identifier):
+    """"the newest view, not yet joined by anybody (no member's carrier view)"; "the first refusal among
+    them is returned". How many steps there were."""
+    view = view_made(group, identifier)
+    newest = all(made <= identifier for made, _ in group.views)
+    joined = any(m["carrier"] is not None and m["carrier"][0] == identifier for m in group.member)
+    refuse_if(not newest or joined, VIEW_NOT_FRESH)
+    # "passes the test against every view held by any of its servers"
+    servers = [group.member[p] for p in members_of(view[1])]
+    held = [h for m in servers for h in [m["settled"]] + m["open"]]
+    refuse_if(any(not passes_test(view[1], h) for _, h in held), FORM_TEST_FAILED)
+    steps = form_steps(view)
+    for step in steps:
+        reply = group.step(*step)
+        refuse_if(reply[0] == "refused", reply[-1])
+    return len(steps)
 
 
 # "Message bytes": the reader

@@ -3,7 +3,9 @@
     python3 tests/reference/reference_cases.py
 """
 
-from reference import Group, Refused, bench, read_message, start
+import copy
+
+from reference import Group, Refused, bench, form_steps, members_of, read_message, start
 
 KIND = {
     "create": 1, "join": 2, "pass": 3, "order": 4, "deliver": 5, "attempt": 6,
@@ -204,6 +206,55 @@ def bench_lines():
     )
 
 
+def formed(group, identifier, members_set):
+    """The view is made and formed; the steps by hand leave the same."""
+    all_ok(group, ("create", identifier, members_set))
+    by_hand, servers = copy.deepcopy(group), members_of(members_set)
+    steps, count = form_steps((identifier, members_set)), 2 * len(servers) ** 2 + 8 * len(servers)
+    assert len(steps) == count and group.form(identifier) == ("formed", count)
+    replies = [by_hand.step(*step) for step in steps]
+    assert vars(by_hand) == vars(group)
+    # The outward history: the attempts, then the registers, by rising server.
+    events = [("attempt", p, identifier, members_set) for p in servers] + [("register", p, identifier) for p in servers]
+    assert [reply for reply in replies if reply != ("ok",)] == events
+    for p in servers:
+        assert group.member[p]["settled"] == (identifier, members_set) and group.member[p]["open"] == []
+    return count
+
+
+def formed_by_one_to_eight():
+    for servers, count in enumerate([10, 24, 42, 64, 90, 120, 154, 192], 1):
+        group = Group(servers, 2**servers - 1, 32)
+        assert formed(group, 1, 2**servers - 1) == count and formed(group, 9, 2**servers - 1) == count
+        # A further one where the last is left with entries in every queue.
+        for p in range(servers):
+            for entry in range(16):
+                assert do(group, "send", p, entry)[0] == "send"
+        assert formed(group, 10, 2**servers - 1) == count
+
+
+def form_refusals():
+    group = Group(5, 0b11111, 32)
+    assert group.form(0) == ("refused", 44) and group.form(1) == ("refused", 10)
+    all_ok(group, ("create", 1, 0b00011))
+    assert group.form(1) == ("refused", 45) and group.form(0) == ("refused", 44) and group.form(2) == ("refused", 10)
+    # Older, and it would fail the test: 44 is asked before 45.
+    all_ok(group, ("create", 2, 0b00111))
+    assert group.form(1) == ("refused", 44)
+    all_ok(group, ("join", 2, 2))
+    assert group.form(2) == ("refused", 44)
+    assert formed(group, 3, 0b00111) == 42 and group.form(3) == ("refused", 44)
+
+
+def form_fails_where_steps_pass():
+    """Server 7 still holds the first view: {0,1,7} has no majority of it, and the infos would take it away."""
+    group = Group(8, 0b11111111, 32)
+    assert formed(group, 1, 0b00011111) == 90 and formed(group, 2, 0b00000111) == 42
+    all_ok(group, ("create", 3, 0b10000011))
+    assert group.form(3) == ("refused", 45)
+    assert [reply for reply in [group.step(*step) for step in form_steps((3, 0b10000011))] if reply[0] == "refused"] == []
+
+
 CASES = [
     whole_case,
     three_of_five_pass,
@@ -220,6 +271,9 @@ CASES = [
     list_of_length_1,
     start_refusals,
     bench_lines,
+    formed_by_one_to_eight,
+    form_refusals,
+    form_fails_where_steps_pass,
 ]
 
 if __name__ == "__main__":

@@ -103,6 +103,8 @@ struct Group {
 
   Refusal start(uint64_t members_given, uint64_t first, uint64_t length_given);
   Reply step(uint8_t kind, uint64_t first, uint64_t second);
+  // The driver: `number` is how many steps it took.
+  Reply form(uint64_t id);
 
  private:
   bool set_allowed(uint64_t set) const { return set != 0 && set >> members == 0; }
@@ -123,6 +125,8 @@ struct Group {
   Reply tell(Book& b, uint8_t p);
   Reply safe(Book& b, uint8_t p);
   Reply collect(Book& b);
+  bool joined(uint64_t id) const;
+  bool passes_held(const View& v) const;
 };
 
 inline Refusal Group::start(uint64_t members_given, uint64_t first, uint64_t length_given) {
@@ -417,6 +421,41 @@ inline Reply Group::collect(Book& b) {
   b.settled = b.carrier;
   prune(b);
   return Reply();
+}
+
+// Whether the view is some member's carrier view.
+inline bool Group::joined(uint64_t id) const {
+  for (unsigned p = 0; p < members; ++p)
+    if (books[p].has_carrier && books[p].carrier.id == id) return true;
+  return false;
+}
+
+// The test against every view held by any of the view's servers.
+inline bool Group::passes_held(const View& v) const {
+  for (unsigned p = 0; p < members; ++p) {
+    if (!(v.set >> p & 1)) continue;
+    if (!majority(v.set, books[p].settled.set)) return false;
+    for (unsigned i = 0; i < books[p].opens; ++i)
+      if (!majority(v.set, books[p].open[i].set)) return false;
+  }
+  return true;
+}
+
+inline Reply Group::form(uint64_t id) {
+  // Joins; passes, orders, deliveries of infos; attempts; registers; the same of registrations; collects.
+  static const uint8_t kinds[] = {2, 3, 4, 5, 6, 7, 3, 4, 5, 12};
+  if (kCheck && !sound()) return refuse(kRecordsUnsound);
+  if (find(id) == made) return refuse(kNoSuchView);
+  if (list[made - 1].id != id || joined(id)) return refuse(kViewNotFresh);
+  const View v = list[made - 1];
+  if (!passes_held(v)) return refuse(kFormTestFailed);
+  const Group before = *this;
+  Reply reply;
+  for (uint8_t kind : kinds)
+    for (unsigned p = 0; p < kMembers; ++p)
+      for (unsigned n = 0; n < (v.set >> p & 1) * (kind == 5 ? ones(v.set) : 1); ++n, ++reply.number)
+        if (Refusal r = step(kind, p, id).refusal) return *this = before, refuse(r);
+  return reply;
 }
 
 }  // namespace reference

@@ -1,13 +1,15 @@
 """The two references beside each other: random steps of a group, each put to the
 reference of the group and to references of the member by itself, one for each member,
-whose bytes are carried in the same order. Their answers must be the same. Every refusal
-that a step has in both must have come, and every step must have succeeded: where one
-was not seen the exit status is 1.
+whose bytes are carried in the same order. Their answers must be the same. The driver is one
+call of the group, and its steps of the members. Every refusal that a step has in both and
+every one of the driver's must have come, and every step must have succeeded: where one was
+not seen the exit status is 1.
 
     python3 tests/reference/references_agree.py SEED STEPS
 """
 
 import collections
+import copy
 import random
 import sys
 
@@ -33,17 +35,19 @@ SHARED = {
     "tell": [22, 24, 26, 27],
     "safe": [22, 26, 28, 29],
     "collect": [13, 30, 31],
+    "form": [10, 44, 45],
 }
 CARRIERS_OWN = [10, 15, 16, 17, 18]
 
 KINDS = {name: kind for kind, (name, _, _) in group.STEPS.items()}
+NAMES = {kind: name for name, kind in KINDS.items()}
 
 
 class Beside:
     def __init__(self, draw, seen):
         self.draw = draw
         self.seen = seen
-        members = draw.choice([1, 2, 2, 3, 3, 4, 8])
+        members = draw.choice([1, 2, 2, 3, 3, 4, 5, 6, 7, 8])
         first_set = draw.choice([2**members - 1, draw.randint(1, 2**members - 1)])
         self.group = group.start(members, first_set, ROOM)
         self.members = [alone.Member() for _ in range(members)]
@@ -94,7 +98,7 @@ class Beside:
         some = self.draw.choice([whole, whole, self.draw.randint(1, whole), self.draw.randrange(256)])
         self.group.step(KINDS["create"], identifier, some)
 
-    def form(self):
+    def meet(self):
         """The members of the last view join it, hear of each other and attempt it, also where it fails the test."""
         identifier, members_set = self.group.views[-1]
         inside = [p for p in range(len(self.members)) if members_set >> p & 1]
@@ -107,6 +111,29 @@ class Beside:
         for p in inside:
             self.put("attempt", p, identifier)
 
+    def form(self):
+        """The driver: a new view, or another one. One call of the group is to leave what its steps leave."""
+        if self.draw.random() < 0.8:
+            self.create()
+        identifier = self.draw.choice([v for v, _ in self.group.views[-1:] * 8 + self.group.views[-2:]] + [2**32 - 1])
+        called = copy.deepcopy(self.group)
+        answer, number = called.form(identifier)
+        self.seen["form", number if answer == "refused" else 0] += 1
+        steps = [] if answer == "refused" else group.form_steps(group.view_made(called, identifier))
+        accepted = [self.put(NAMES[kind], p, x) for kind, p, x in steps]
+        if not all(accepted) or vars(called) != vars(self.group):
+            sys.exit(f"form {identifier}: the call says {answer} {number}, and leaves other than its steps")
+        if steps:
+            self.formed(called.views[-1], number)
+
+    def formed(self, view, number):
+        """"the view settled and nothing open at all k, after exactly 2k²+8k steps", in both."""
+        servers = group.members_of(view[1])
+        held = [(self.group.member[p]["settled"], self.group.member[p]["open"]) for p in servers]
+        held += [(self.members[p].settled, self.members[p].open) for p in servers]
+        if number != 2 * len(servers) ** 2 + 8 * len(servers) or any(h != (view, []) for h in held):
+            sys.exit(f"form {view}: {number} steps leave {held}")
+
     def fill(self, p):
         """The member sends until its outgoing list is full, and then has more to say."""
         self.put("hand", p, 0)
@@ -118,10 +145,13 @@ class Beside:
     def step(self):
         draw = self.draw
         name = draw.choice(["create"] + ["join"] * 3 + ["pass", "order", "deliver", "deliver"] * 20
-                           + ["attempt", "register", "send", "hand", "tell", "safe", "collect"] * 5 + ["form", "fill"])
+                           + ["attempt", "register", "send", "hand", "tell", "safe", "collect"] * 5
+                           + ["meet", "form", "fill"])
         p = draw.randrange(len(self.members))
         if name == "create":
             self.create()
+        elif name == "meet":
+            self.meet()
         elif name == "form":
             self.form()
         elif name == "fill":

@@ -29,6 +29,9 @@ COMING = "if (has_carrier && coming().count > taken) return false;"
 RISING = "(i > 0 && e.view(i).id <= e.view(i - 1).id)"
 OPEN_RISING = "open[i].id <= (i ? open[i - 1] : settled).id"
 FULL = "if (in_step() && outgoings == kOutgoing) return kOutgoingFull;"
+FRESH = "if (newest().id != id || joined(id)) return kViewNotFresh;"
+TRIED = "if (Refusal r = tried.step(s.kind, s.first, s.second, Range{event, kEventSize})) return r;"
+COUNTED = "put(count.at, kLengthSize, steps(newest()).size());"
 MOVED_UP = "for (unsigned i = 0; i < outgoings; ++i) outgoing[i] = outgoing[i + 1];"
 
 # For each file what stands there, and what is put in its place: at its first occurrence.
@@ -169,6 +172,30 @@ CHANGES = {
         ("answers.size != count * kAnswerSize", "answers.size < count * kAnswerSize"),
         gone("memset(answer, 0, kAnswerSize);"),
         ("return sound() ? kAccepted : kRecordsUnsound;", "return lengths() ? kAccepted : kRecordsUnsound;"),
+    ],
+    "driver.hpp": [
+        gone("count.size != kLengthSize || "),
+        gone(" || Group(list_, books_, queues_).check()"),
+        exchanged("    if (!is_made(id)) return kNoSuchView;", "    " + FRESH),
+        exchanged("    " + FRESH, "    if (!passes_held(newest())) return kFormTestFailed;"),
+        gone("newest().id != id || "),
+        gone(" || joined(id)"),
+        gone("member(p).has_carrier && "),
+        ("if (member(p).has_carrier", "if ((newest().set >> p & 1) && member(p).has_carrier"),
+        gone("if (!(v.set >> p & 1)) continue;"),
+        gone("if (!majority(v.set, m.settled.set)) return false;"),
+        ("i < m.opens", "i + 1 < m.opens"),
+        gone("if (!passes_held(newest())) return kFormTestFailed;"),
+        ("kAttempt, kRegister, kPass", "kRegister, kAttempt, kPass"),
+        ("kDeliver, kCollect", "kDeliver"),
+        ("p < kMembers; ++p)\n        for", "p < 7; ++p)\n        for"),
+        ("kind == kDeliver ? ones(v.set) : 1", "1"),
+        ("Range{books.data(), books.size()}", "books_"),
+        ("Range{queues.data(), queues.size()}", "queues_"),
+        (TRIED, TRIED.replace("return r;", "continue;")),
+        gone("memcpy(queues_.at, queues.data(), queues.size());"),
+        ("    std::vector<uint8_t> books", "    " + COUNTED + "\n    std::vector<uint8_t> books"),
+        (COUNTED, COUNTED.replace("size());", "size() - 1);")),
     ],
 }
 

@@ -6,12 +6,13 @@
 //                    outside: an accepted call writes beside a range
 //   WRONG_RANGE      which of its lent ranges, from 0
 //
-// Only the tenth call that could show the fault has it.
+// Only the tenth call that could show the fault has it. The driver has faults of its own, in every call: wrong_driver.hpp.
 #include <cstdlib>
 #include <cstring>
 #include <initializer_list>
 
 #include "../../include/dvs.h"
+#include "wrong_driver.hpp"
 
 namespace {
 
@@ -88,6 +89,15 @@ WRAP(dvs_group_start, (THREE, uint32_t m, uint32_t s), (list, list_size, books, 
      IN(list), IN(books), IN(queues))
 WRAP(dvs_group_step, (THREE, uint32_t k, uint32_t f, uint64_t s, EVENT),
      (list, list_size, books, books_size, queues, queues_size, k, f, s, event, event_size), IN(list), IN(books), IN(queues), IN(event))
+// The driver, or a wrong one in its place.
+extern "C" uint32_t __real_dvs_group_form(THREE, uint32_t v, uint8_t* count, size_t count_size);
+extern "C" uint32_t __wrap_dvs_group_form(THREE, uint32_t v, uint8_t* count, size_t count_size);
+extern "C" uint32_t __wrap_dvs_group_form(THREE, uint32_t v, uint8_t* count, size_t count_size) {
+  if (strcmp(function, "dvs_group_form") == 0 && strncmp(fault, "driver-", strlen("driver-")) == 0)
+    return WrongDriver{fault, list, books, queues, list_size, books_size, queues_size, v}.form(count, count_size);
+  uint32_t answer = __real_dvs_group_form(list, list_size, books, books_size, queues, queues_size, v, count, count_size);
+  return spoil("dvs_group_form", answer, {IN(list), IN(books), IN(queues), IN(count)});
+}
 WRAP(dvs_group_run, (THREE, uint32_t m, uint32_t s, const uint8_t* steps, size_t steps_size, uint8_t* answers, size_t answers_size),
      (list, list_size, books, books_size, queues, queues_size, m, s, steps, steps_size, answers, answers_size), IN(list), IN(books), IN(queues),
      IN(answers))

@@ -1,4 +1,5 @@
-/* The C header in a C99 program: a book, its event read by the header's readers, and what a shared object answers where one is linked. */
+/* The C header in a C99 program: a book, its event read by the header's readers, a view formed, and what a shared object answers where one is
+ * linked. */
 #include <dvs.h>
 
 #ifdef SHARED
@@ -23,6 +24,12 @@ int main(void) {
   if (dvs_deliver(book, sizeof book, buffer, dvs_length(length), 1) != DVS_ACCEPTED) return 14;
   if (dvs_book_infos(book) != 2 || dvs_book_registrations(book) != 0 || dvs_book_told(book, 1) != 0) return 15;
   if (dvs_view_identifier(book + DVS_BOOK_CARRIER + 1) != 258 || dvs_view_set(book + DVS_BOOK_CARRIER + 1) != 6) return 16;
+  static uint8_t list[DVS_LIST_SIZE(2)], books[DVS_BOOKS_SIZE], queues[DVS_QUEUES_SIZE(2)], count[DVS_LENGTH_SIZE];
+  if (dvs_group_start(list, sizeof list, books, sizeof books, queues, sizeof queues, 3, 7) != DVS_ACCEPTED) return 18;
+  if (dvs_group_form(list, sizeof list, books, sizeof books, queues, sizeof queues, 0, count, sizeof count) != DVS_REFUSED_VIEW_NOT_FRESH) return 19;
+  if (dvs_group_step(list, sizeof list, books, sizeof books, queues, sizeof queues, DVS_STEP_CREATE, 258, 6, event, sizeof event) != DVS_ACCEPTED) return 20;
+  if (dvs_group_form(list, sizeof list, books, sizeof books, queues, sizeof queues, 258, count, sizeof count) != DVS_ACCEPTED) return 21;
+  if (dvs_length(count) != 24 || dvs_view_identifier(books + DVS_BOOK_SIZE + DVS_BOOK_SETTLED) != 258) return 22;
 #ifdef SHARED
   if (in_a_shared_object(book) != DVS_VERSION) return 17;
 #endif

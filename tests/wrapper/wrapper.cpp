@@ -274,6 +274,53 @@ void groups() {
   EXPECT(dvs::Group(list, rest, queues).start(2, Set{3}).refusal() == Refusal::list_length);
 }
 
+// A view formed by one call: its count, its refusals with every byte as it was, and the events listed for it, which are those of the same steps by hand.
+constexpr dvs::FormedEvents kEvents({Identifier{7}, Set{0x181}});
+static_assert(kEvents.size() == 4 && !kEvents.empty() && kEvents.end() - kEvents.begin() == 4 && dvs::FormedEvents({}).empty());
+static_assert(kEvents[1] == dvs::Event{dvs::EventKind::attempted, Member{7}, Identifier{7}, Set{0x181}, {}, 0});
+static_assert(kEvents[2] == dvs::Event{dvs::EventKind::registered, Member{0}, Identifier{7}, {}, {}, 0});
+static_assert(dvs::FormedEvents({Identifier{1}, Set::below(32)}).size() == 2 * DVS_MEMBERS);
+
+void forms() {
+  static dvs::GroupMemory<4> memory, before;
+  dvs::Group group(memory), by_hand(before);
+  const auto same = [&] { return memory.list == before.list && memory.books == before.books && memory.queues == before.queues; };
+  const auto refused = [&](std::uint32_t view, Refusal refusal) {
+    before = memory;
+    return group.form(Identifier{view}).refusal() == refusal && same();
+  };
+  EXPECT(refused(0, Refusal::records_unsound) && group.start(3, Set{7}).accepted());
+  EXPECT(refused(0, Refusal::view_not_fresh) && refused(1, Refusal::no_such_view));
+  EXPECT(group.create({Identifier{1}, Set{4}}).accepted() && refused(1, Refusal::form_test_failed));
+  const dvs::View view{Identifier{2}, Set{5}};
+  EXPECT(group.create(view).accepted() && refused(1, Refusal::view_not_fresh));
+  const auto formed = group.form(view.identifier);
+  EXPECT(formed && *formed == 24);
+  for (Member member : view.set) EXPECT(group.look(member).settled() == view && group.look(member).open().empty() && group.look(member).in_primary());
+  EXPECT(group.look(Member{1}).settled().identifier == Identifier{0} && group.check().accepted());
+
+  std::vector<dvs::Event> events;
+  std::size_t steps = 0;
+  const auto each = [&](dvs::StepKind kind, unsigned times = 1) {
+    for (Member member : view.set)
+      for (unsigned i = 0; i < times; ++i, ++steps) {
+        const auto event = by_hand.step({kind, dvs::number(member), dvs::number(view.identifier)});
+        EXPECT(event.accepted());
+        if (event->kind != dvs::EventKind::none) events.push_back(*event);
+      }
+  };
+  for (const auto &[first, last] : {std::pair(dvs::StepKind::join, dvs::StepKind::attempt), {dvs::StepKind::register_view, dvs::StepKind::collect}}) {
+    each(first);
+    each(dvs::StepKind::pass);
+    each(dvs::StepKind::order);
+    each(dvs::StepKind::deliver, view.set.count());
+    each(last);
+  }
+  const dvs::FormedEvents listed(view);
+  EXPECT(same() && steps == *formed && std::equal(events.begin(), events.end(), listed.begin(), listed.end()));
+  EXPECT(refused(2, Refusal::view_not_fresh));
+}
+
 }  // namespace
 
 int main() {
@@ -285,5 +332,6 @@ int main() {
   books();
   entries();
   groups();
+  forms();
   std::puts("wrapper: every name in its place");
 }

@@ -3,6 +3,7 @@ pub mod BookNarrowing
 pub mod MessageLaws
 pub mod EventLaws
 pub mod GroupLaws
+pub mod FormLaws
 pub mod GroupNarrowing
 pub mod Chain
 pub mod Demand2

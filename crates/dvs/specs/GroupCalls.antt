@@ -3,16 +3,18 @@
 use mathlib.Core.Path.{_≡_}
 use mathlib.Core.List.{List}
 use Prim.Native.Nat.{ℕ}
+use lib.ListN.{length}
 use Rattle.views.specs.declared.refusal.Refusal.the-variants.{RecordsUnsound}
 use Rattle.views.specs.declared.refusal.Verdict.{Verdict}
 use Rattle.views.specs.declared.refusal.Verdict.the-variants.{Accepted}
 use Rattle.views.specs.Refusals.{codeOf, require, left}
-use Rattle.rules.specs.Data.{Step}
+use Rattle.rules.specs.Data.{Identifier, Step}
 use Rattle.events.specs.Replies.{verdictOf}
 use Rattle.group_bytes.specs.Groups.{Ranges, rangesSound}
 use Rattle.group_bytes.specs.Starts.{startRanges}
-use Rattle.group_bytes.specs.Steps.{startResult, stepRanges, stepReply}
-use Rattle.c_answers.specs.Answers.{eventSize, eventBytes, sized}
+use Rattle.group_bytes.specs.Steps.{startResult, stepRanges, stepReply, lastRanges}
+use Rattle.group_bytes.specs.Forming.{formVerdict, formTaken}
+use Rattle.c_answers.specs.Answers.{eventSize, eventBytes, lengthSize, lengthBytes, sized}
 use Rattle.group_run.specs.Runs.{runVerdict, Ran}
 
 -- a start with n members and the first set S
@@ -37,6 +39,18 @@ pub record Steps (r : Ranges) (c : Step) (d : Ranges) (e e' : List ℕ) (x : ℕ
 pub record Runs (n S : ℕ) (r : Ranges) (steps a : List ℕ) (d : Ranges) (a' : List ℕ) (x : ℕ) : Type 0 where
   pub number : x ≡ codeOf (runVerdict n S r steps a)
   pub ran : Ran n S r steps a d a' (runVerdict n S r steps a)
+
+-- 4 for a count range of another length, then the driver's own verdict
+abbrev pub forming : Ranges → Identifier → List ℕ → Verdict
+forming r g c = sized c lengthSize (formVerdict r g)
+
+-- the driver with the identifier g: the number of its steps goes to the count c
+pub record Forms (r : Ranges) (g : Identifier) (d : Ranges) (c c' : List ℕ) (x : ℕ) : Type 0 where
+  pub number : x ≡ codeOf (forming r g c)
+  pub list : d .list ≡ left (forming r g c) (lastRanges r (formTaken r g) .list) (r .list)
+  pub books : d .books ≡ left (forming r g c) (lastRanges r (formTaken r g) .books) (r .books)
+  pub queues : d .queues ≡ left (forming r g c) (lastRanges r (formTaken r g) .queues) (r .queues)
+  pub count : c' ≡ left (forming r g c) (lengthBytes (length (formTaken r g))) c
 
 -- whether the ranges are a group that the steps take: 4
 unfoldable pub groupChecking : Ranges → Verdict

@@ -1,11 +1,12 @@
--- The reply to a step shows the outward event of its answer.
-use mathlib.Core.Path.{_≡_, refl}
-use mathlib.Core.List.{[], _∷_}
+-- The reply to a step shows the outward event of its answer; replies after others show theirs after the others'.
+use mathlib.Core.Path.{_≡_, refl, sym, ap, _∙_}
+use mathlib.Core.List.{List, [], _∷_, _++_, append-assoc}
 use Prim.Native.Nat.{ℕ}
 use Rattle.rules.specs.Data.{item, Event as Outward, attempt, register, send, hand, safe, Answer, ok, event, refusal}
 use Rattle.rules.specs.Runs.{eventsOf}
 use Rattle.events.specs.Replies.{outwardOf, eventOf}
-use Rattle.events.specs.Shown.{shown}
+use Rattle.events.specs.declared.Reply.{Reply}
+use Rattle.events.specs.Shown.{shown, shownBy, eventsShown}
 
 outward-shown : (e : Outward ℕ) → shown (outwardOf e) ≡ e ∷ []
 unfolding shown
@@ -20,3 +21,10 @@ unfolding shown eventsOf
 answer-shown ok = refl
 answer-shown (event e) = outward-shown e
 answer-shown (refusal r) = refl
+
+pub shown-append : (l m : List Reply) → eventsShown (l ++ m) ≡ eventsShown l ++ eventsShown m
+unfolding eventsShown
+shown-append [] m = refl
+shown-append (x ∷ l) m =
+    let e = shownBy (x .verdict) (x .event) in
+    ap (λ (k : List (Outward ℕ)). e ++ k) (shown-append l m) ∙ sym (append-assoc e (eventsShown l) (eventsShown m))

@@ -56,7 +56,7 @@ step-events r s m c l k e =
 
 -- ---- the list of steps
 
-runs : (r : Ranges) (s : Group) → MeansGroup r s → (steps : List Step) → AllGiven steps
+pub runs : (r : Ranges) (s : Group) → MeansGroup r s → (steps : List Step) → AllGiven steps
     → (eventsShown (repliesOf r steps) ≡ eventsOf (answersOf one s steps)) × MeansGroup (lastRanges r steps) (lastOf one s steps)
 unfolding repliesOf eventsShown answersOf lastRanges lastOf eventsOf
 runs r s m [] w = (refl, m)
@@ -107,7 +107,7 @@ start-holds n S r =
     )))))
 
 -- what an accepted start says
-start-says : (n S : ℕ) (r : Ranges) (s : Group) → startResult n S r ≡ accepted s
+pub start-says : (n S : ℕ) (r : Ranges) (s : Group) → startResult n S r ≡ accepted s
     → Startable n S r × (start n S (roomOf (r .list)) ≡ accepted s) × (s ≡ started n S (roomOf (r .list)))
 start-says n S r s e = gave (startResult n S r) s (start-holds n S r) e
 

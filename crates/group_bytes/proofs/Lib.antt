@@ -20,5 +20,8 @@ pub mod CreateGroup
 pub mod PassGroup
 pub mod StepGroup
 pub mod GroupRuns
+pub mod Confined
 pub mod Demand2
 pub mod GroupReplies
+pub mod GivenSteps
+pub mod GroupForms

@@ -83,7 +83,7 @@ module _ (r : Ranges) (fits : Ranged r) (bytes : RangesBytes r) (p : ℕ) (membe
   widths : InWidths m
   widths = message-widths (r .queues) (w + 1) (bytes .queues)
 
-  add-within : Changed (r .queues) added (orderAt i) orderSize
+  pub add-within : Changed (r .queues) added (orderAt i) orderSize
   add-within = order-changed (r .queues) (orderAt i) q m (widths .message) (o .room) (o .order)
 
   added-columned : Columned added (orderAt i)
@@ -112,7 +112,7 @@ module _ (r : Ranges) (fits : Ranged r) (bytes : RangesBytes r) (p : ℕ) (membe
   pub order-held : waitingAt i p + 1 + slotSize * getD (orderAdded r p i) (waitingAt i p) 0 ≤ length (orderAdded r p i)
   order-held = omega (arith, same, o .few, o .waiting, add-within .long)
 
-  pop-within : Changed added left w waitingSize
+  pub pop-within : Changed added left w waitingSize
   pop-within =
       queue-whole (pop-changed added w (w + 1) (omega arith) order-some order-held) w waitingSize
       (omega arith) (omega arith) (omega arith) (omega (arith, same, o .few))

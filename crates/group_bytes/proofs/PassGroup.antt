@@ -138,7 +138,7 @@ module _ (r : Ranges) (fits : Ranged r) (p : Member) (member : p < membersOf r) 
     space : w + 1 + slotSize * (getD (r .queues) w 0 + 1) ≤ length (r .queues)
     space = omega (arith, o .waiting, o .room)
 
-    add-within : Changed (r .queues) added w waitingSize
+    pub add-within : Changed (r .queues) added w waitingSize
     add-within =
         queue-whole (add-changed (r .queues) w b (outgoingAt + 1) inside space) w waitingSize
         (omega arith) (omega arith) (omega arith) (omega (arith, o .room))

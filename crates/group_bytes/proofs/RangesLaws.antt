@@ -20,6 +20,10 @@ use Rattle.group_bytes.specs.Places.{roomOf, booksSize, bookBytes, order
 use Rattle.group_bytes.specs.Groups.{Ranges, membersOf, madeOf, queueFits, tableFits, seatFits, rangesFit, groupIn}
 pub use Rattle.group_bytes.specs.Promises.{RangesBytes}
 
+-- ranges are their three parts
+pub same-ranges : (x y : Ranges) → x .list ≡ y .list → x .books ≡ y .books → x .queues ≡ y .queues → x ≡ y
+same-ranges x y p q r = λ i. record { list = p i; books = q i; queues = r i }
+
 -- ---- a queue with its count at c
 
 pub record Queued (q : List ℕ) (limit c : ℕ) : Type 0 where

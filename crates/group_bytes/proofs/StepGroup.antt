@@ -15,7 +15,7 @@ use Rattle.rules.specs.Data.{Group, Step, Result, refused, accepted, need, afte
 use Rattle.rules.specs.Member.{Done}
 use Rattle.rules.specs.Sound.{sound}
 use Rattle.rules.specs.Group.{Next, own, booked, joinStep, pick, stepOf, settles, step}
-use Rattle.rules.proofs.Holding.{Holds, refuses, gives, given, need-holds, listed-holds}
+use Rattle.rules.proofs.Holding.{Holds, refuses, gives, given, holds-from, need-holds, listed-holds}
 use Rattle.events.specs.Replies.{verdictOf}
 use Rattle.group_bytes.specs.Groups.{Ranges, membersOf, viewsMade, groupIn, rangesFit, rangesSound}
 use Rattle.group_bytes.specs.Moves.{viewAt, joinRanges}
@@ -33,10 +33,6 @@ use Rattle.group_bytes.proofs.PassGroup.{pass-group}
 -- the ranges m are the group that the result x gives, if it gives one
 abbrev Leaves : Result Next → Ranges → Type 0
 Leaves x m = Holds (λ (y : Next). MeansGroup m (y .state)) x
-
-from-accepted : (x : Result Next) (m : Ranges) → ((y : Next) → x ≡ accepted y → MeansGroup m (y .state)) → Leaves x m
-from-accepted (refused f) m h = refuses
-from-accepted (accepted y) m h = gives (h y refl)
 
 -- ---- by its kind's number
 
@@ -82,11 +78,11 @@ module _ (r : Ranges) (fits : Ranged r) (bytes : RangesBytes r) (sounds : sound 
   unfolding stepOf moved groupIn
   step-leaves =
       pick-leaves (c .kind) r _ _ (
-      next (from-accepted _ _ (λ x e. create-group r fits bytes (c .first) (c .second) (width .first) x e)) (
+      next (holds-from _ (λ x e. create-group r fits bytes (c .first) (c .second) (width .first) x e)) (
       next (by-leaves _ _ _ join-leaves) (
-      next (by-leaves _ _ _ (λ i. from-accepted _ _ (λ x e. pass-group r fits bytes sounds (rebook r fits bytes) p i x e))) (
-      next (by-leaves _ _ _ (λ i. from-accepted _ _ (λ x e. order-group r fits bytes sounds p (c .second) i x e))) (
-      next (by-leaves _ _ _ (λ i. from-accepted _ _ (λ x e. deliver-group r fits bytes sounds p i x e))) (
+      next (by-leaves _ _ _ (λ i. holds-from _ (λ x e. pass-group r fits bytes sounds (rebook r fits bytes) p i x e))) (
+      next (by-leaves _ _ _ (λ i. holds-from _ (λ x e. order-group r fits bytes sounds p (c .second) i x e))) (
+      next (by-leaves _ _ _ (λ i. holds-from _ (λ x e. deliver-group r fits bytes sounds p i x e))) (
       next (by-leaves _ _ _ (λ i. own-leaves r p _ _ (λ d e. attempt-group r fits bytes sounds p i one d e))) (
       next (by-leaves _ _ _ (λ i. own-leaves r p _ _ (λ d e. register-group r fits bytes sounds p i d e))) (
       next (by-leaves _ _ _ (λ i. own-leaves r p _ _ (λ d e. send-group r fits bytes sounds p i (c .second) (width .second) d e))) (

@@ -5,3 +5,4 @@ pub mod Starts
 pub mod Answers
 pub mod Steps
 pub mod Promises
+pub mod Forming

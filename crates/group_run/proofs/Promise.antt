@@ -21,13 +21,13 @@ use Rattle.events.proofs.ReplyLaws.{accepts}
 use Rattle.group_bytes.specs.Groups.{Ranges}
 use Rattle.group_bytes.specs.Starts.{startRanges}
 use Rattle.group_bytes.specs.Steps.{startResult, lastRanges, repliesOf}
+use Rattle.group_bytes.proofs.RangesLaws.{same-ranges}
 use Rattle.group_bytes.proofs.GroupRuns.{demand3-ranges, never-wedged-ranges}
 use Rattle.group.specs.StartCalls.{Began}
 use Rattle.group_run.specs.Records.{stepSize, stepsIn, answerSize}
 use Rattle.group_run.specs.Runs.{paired, runVerdict, Ran}
 use Rattle.group_run.specs.Parts.{Turns}
 use Rattle.group_run.proofs.Shown.{events-back}
-use Rattle.group_run.proofs.Turning.{same-ranges}
 
 -- ---- the lengths
 

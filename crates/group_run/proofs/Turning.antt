@@ -12,14 +12,11 @@ use Rattle.events.specs.declared.Reply.{Reply}
 use Rattle.group_bytes.specs.Groups.{Ranges}
 use Rattle.group_bytes.specs.Steps.{stepRanges, stepReply, lastRanges, repliesOf}
 use Rattle.group_bytes.specs.Promises.{Given, AllGiven}
+use Rattle.group_bytes.proofs.RangesLaws.{same-ranges}
 use Rattle.group.specs.StepCalls.{asked, Went}
 use Rattle.group_run.specs.Records.{stepSize, stepAt, stepsFrom, stepsIn, answerSize, answerBytes, answersBytes}
 use Rattle.group_run.specs.Parts.{answered, Fits, AllFit, Wrote, Asked, Turned, Turns}
 use Rattle.group_run.proofs.Answers.{length-answer, length-answered}
-
--- ranges are their three parts
-pub same-ranges : (x y : Ranges) → x .list ≡ y .list → x .books ≡ y .books → x .queues ≡ y .queues → x ≡ y
-same-ranges x y p q r = λ i. record { list = p i; books = q i; queues = r i }
 
 -- ---- one step
 

@@ -24,6 +24,10 @@ HoldsEach P (r ∷ l) = Holds P r × HoldsEach P l
 pub given : {A : Type 0} {P : A → Type 0} {x : A} → Holds P (accepted x) → P x
 given (gives h) = h
 
+pub holds-from : {A : Type 0} {P : A → Type 0} (x : Result A) → ((y : A) → x ≡ accepted y → P y) → Holds P x
+holds-from (refused r) h = refuses
+holds-from (accepted y) h = gives (h y refl)
+
 pub need-holds : {A : Type 0} {P : A → Type 0} (c : Bool) (r : Refusal) (x : Result A) → (c ≡ true → Holds P x) → Holds P (need c r x)
 unfolding need
 need-holds true r x h = h refl

@@ -7,6 +7,7 @@ pub mod Ties
 pub mod Run
 pub mod Demand3
 pub mod NeverWedged
+pub mod Forming
 pub mod Alone
 pub mod Refused
 pub mod Cases

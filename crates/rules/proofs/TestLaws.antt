@@ -1,5 +1,5 @@
 -- Laws of the tests that the rules are written in: over the members, over a list, a list of conditions, a view among those made. Both directions each.
-use mathlib.Core.Path.{_≡_, refl, sym, ap}
+use mathlib.Core.Path.{_≡_, refl, sym, ap, ap₂}
 use mathlib.Core.Logic.{⊎-elim}
 use mathlib.Core.Bool.{Bool, true, false, true≢false}
 use mathlib.Core.Option.{Option, none, some}
@@ -26,6 +26,12 @@ within-says lo x hi h = let t = both-true (leb lo x) (leb x hi) h in (leb-true l
 
 pub within-from : (lo x hi : ℕ) → lo ≤ x → x ≤ hi → within lo x hi ≡ true
 within-from lo x hi h k = both-from (leb lo x) (leb x hi) (le-leb lo x h) (le-leb x hi k)
+
+-- tests that agree below n
+pub every-same : (n : ℕ) (f g : ℕ → Bool) → ((p : ℕ) → p < n → f p ≡ g p) → every n f ≡ every n g
+unfolding every
+every-same zero f g h = refl
+every-same (suc n) f g h = ap₂ both (every-same n f g (λ p i. h p (omega arith))) (h n (omega arith))
 
 pub every-at : (n : ℕ) (f : ℕ → Bool) → every n f ≡ true → (p : ℕ) → p < n → f p ≡ true
 unfolding every

@@ -5,6 +5,7 @@ pub mod Group
 pub mod Figure1
 pub mod Runs
 pub mod Promise
+pub mod Forming
 pub mod Alone
 pub mod Cases
 pub mod Hosts

@@ -1,11 +1,11 @@
 -- A function changed at one number, or at a pair. Each change has one law, by which what holds of the new function follows from what held of the old.
-use mathlib.Core.Path.{_≡_, refl, sym, subst}
+use mathlib.Core.Path.{_≡_, refl, sym, subst, fun-ext}
 use mathlib.Core.Logic.{_≢_}
 use mathlib.Core.Bool.{Bool, true, false, cond}
 use Prim.Native.Nat.{ℕ, _≤_}
 use native.Mathlib.Omega.{arith}
 use lib.Dec.{eqb}
-use borrow.Author.Tests.{eqb-true, eqb-false}
+use borrow.Author.Tests.{eqb-true, eqb-false, eq-eqb}
 use Rattle.views.specs.Points.{at as upd, at2 as upd2}
 
 -- ---- a function changed at one number
@@ -60,6 +60,29 @@ upd2-ind p g x f P at off = upd2-ind2 p g x f x f (λ q h a _. P q h a) at off
 
 pub upd-here : {A : Type 0} (p : ℕ) (x : A) (f : ℕ → A) → upd p x f p ≡ x
 upd-here p x f = upd-ind p x f (λ q c. q ≡ p → c ≡ x) (λ _. refl) (λ q n e. absurd (n e)) p refl
+
+-- elsewhere it is what it was
+pub upd-other : {A : Type 0} (p : ℕ) (x : A) (f : ℕ → A) (q : ℕ) → q ≢ p → upd p x f q ≡ f q
+upd-other p x f q n = upd-ind p x f (λ r y. r ≢ p → y ≡ f r) (λ m. absurd (m refl)) (λ r _ _. refl) q n
+
+pub upd2-here : {A : Type 0} (p g : ℕ) (x : A) (f : ℕ → ℕ → A) → upd2 p g x f p g ≡ x
+unfolding upd2
+upd2-here p g x f = rw (eq-eqb p p refl, eq-eqb g g refl)
+
+pub upd2-other : {A : Type 0} (p g : ℕ) (x : A) (f : ℕ → ℕ → A) (q : ℕ) → q ≢ p → upd2 p g x f q g ≡ f q g
+upd2-other p g x f q n = upd2-ind p g x f (λ r h y. r ≢ p → y ≡ f r h) (λ m. absurd (m refl)) (λ r h _ _. refl) q g n
+
+-- of two changes at one number the last counts, and a value put where it stands changes nothing
+pub upd-again : {A : Type 0} (p : ℕ) (x y : A) (f : ℕ → A) → upd p y (upd p x f) ≡ upd p y f
+unfolding upd
+upd-again {A} p x y f = fun-ext (λ q. go (eqb q p) (f q))
+  where
+    go : (b : Bool) (z : A) → cond b y (cond b x z) ≡ cond b y z
+    go true z = refl
+    go false z = refl
+
+pub upd-itself : {A : Type 0} (p : ℕ) (f : ℕ → A) → upd p (f p) f ≡ f
+upd-itself p f = fun-ext (upd-ind p (f p) f (λ q x. x ≡ f q) refl (λ q _. refl))
 
 -- a number put where a lower one was: nothing falls
 pub upd-up : (p x : ℕ) (f : ℕ → ℕ) → f p ≤ x → (q : ℕ) → f q ≤ upd p x f q

@@ -63,6 +63,9 @@ pub enum Refusal {
     AnotherView,
     SenderNotInView,
     TooManyOpen,
+    // driver
+    ViewNotFresh,
+    FormTestFailed,
 }
 
 // The refusal's number.
@@ -113,6 +116,8 @@ pub fn number(r: Refusal) -> u8
         Refusal::AnotherView => 41,
         Refusal::SenderNotInView => 42,
         Refusal::TooManyOpen => 43,
+        Refusal::ViewNotFresh => 44,
+        Refusal::FormTestFailed => 45,
     }
 }
 

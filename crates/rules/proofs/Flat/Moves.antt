@@ -36,7 +36,7 @@ use Rattle.rules.proofs.Flat.Firm.{true-T, T-true, set-below, set-some,
 use Rattle.rules.proofs.TestLaws.{every-at, all-at}
 use Rattle.rules.proofs.Holding.{Holds, gives, need-holds, view-holds, first-holds, after-holds}
 
-if-has : (a b : Bool) → (not a || b) ≡ true → a ≡ true → b ≡ true
+pub if-has : (a b : Bool) → (not a || b) ≡ true → a ≡ true → b ≡ true
 if-has true b e _ = e
 if-has false b e f = let z : _≡_ {A = Bool} false true = f in absurd (subst T (sym z) tt)
 

@@ -134,6 +134,12 @@ enum-told-42 c = search needs
 enum-told-43 : tie.Need-enum-told-43
 enum-told-43 c = search needs
 
+enum-told-44 : tie.Need-enum-told-44
+enum-told-44 c = search needs
+
+enum-told-45 : tie.Need-enum-told-45
+enum-told-45 c = search needs
+
 returns : tie.Need-returns
 returns c = sym (ap numberOf (c .enum-told .given .1))
 
@@ -263,6 +269,12 @@ returns-42 c = sym (ap numberOf (c .enum-told42 .given .1))
 returns-43 : tie.Need-returns-43
 returns-43 c = sym (ap numberOf (c .enum-told43 .given .1))
 
+returns-44 : tie.Need-returns-44
+returns-44 c = sym (ap numberOf (c .enum-told44 .given .1))
+
+returns-45 : tie.Need-returns-45
+returns-45 c = sym (ap numberOf (c .enum-told45 .given .1))
+
 pub number-spec : {M : Type 1} → statement M
 number-spec =
     tie.close
@@ -310,6 +322,8 @@ number-spec =
     enum-told-41
     enum-told-42
     enum-told-43
+    enum-told-44
+    enum-told-45
     returns
     returns-2
     returns-3
@@ -352,4 +366,6 @@ number-spec =
     returns-40
     returns-41
     returns-42
-    returns-43)
+    returns-43
+    returns-44
+    returns-45)

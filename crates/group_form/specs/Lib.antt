@@ -1,0 +1,2 @@
+pub mod FormCalls
+pub mod Parts

@@ -1,0 +1,161 @@
+// Views formed by one call, beside the same steps by hand and beside structs that do as much by their own steps.
+#include "group_sides.hpp"
+
+namespace benchmark {
+
+namespace {
+
+constexpr size_t kKept = DVS_BOOKS_SIZE + DVS_QUEUES_SIZE(1);  // the books, the queues' head and one view's queues
+
+std::vector<Step> steps_of(uint32_t set, uint32_t view) {
+  std::vector<Step> steps;
+  for (uint32_t kind : kForming)
+    for (unsigned p = 0; p < DVS_MEMBERS; ++p)
+      for (unsigned i = plain::ones(set & 1u << p) * (kind == DVS_STEP_DELIVER ? plain::ones(set) : 1); i > 0; --i)
+        steps.push_back({kind, p, view});
+  return steps;
+}
+
+// A group of so many servers in which one view after another, of all of them, is made and formed.
+class Forming {
+  const unsigned servers_, views_;
+  const uint32_t set_ = (1u << servers_) - 1;
+  const unsigned room_ = views_ + 2;  // the first view, and one that is not to be formed
+  Ranges library_{room_}, by_hand_{room_};
+  Structured structs_;
+  Unchecked unchecked_;
+  std::vector<std::vector<Step>> steps_;  // by view, the first one at 0
+  std::vector<uint8_t> kept_ = std::vector<uint8_t>(kKept);
+
+  uint32_t start(Ranges& side) { return side.start(servers_, set_); }
+  template <class Side> uint32_t start(Side& side) { return side.start(servers_, set_, room_); }
+  uint32_t step(Ranges& side, const Step& s, plain::Event&) { return side.step(s); }
+  template <class Side> uint32_t step(Side& side, const Step& s, plain::Event& event) { return side.step(s, event); }
+
+  // The runs: how many views were made, and formed.
+  template <class Side> uint64_t make(Side& side) {
+    plain::Event event;
+    uint64_t made = 0;
+    if (start(side)) return 0;
+    for (uint32_t view = 1; view <= views_; ++view) made += !step(side, {DVS_STEP_CREATE, view, set_}, event);
+    return made;
+  }
+  template <class Side, class Form> uint64_t make_and_form(Side& side, Form form) {
+    plain::Event event;
+    uint64_t formed = 0;
+    if (start(side)) return 0;
+    for (uint32_t view = 1; view <= views_; ++view) {
+      uint32_t refused = step(side, {DVS_STEP_CREATE, view, set_}, event);
+      formed += !refused && form(view);
+    }
+    return formed;
+  }
+  template <class Side> uint64_t by_call(Side& side) {
+    return make_and_form(side, [&](uint32_t view) {
+      uint32_t count = 0;
+      return side.form(view, count) == DVS_ACCEPTED && count == steps_[view].size();
+    });
+  }
+  uint64_t by_steps() {
+    return make_and_form(by_hand_, [&](uint32_t view) {
+      size_t accepted = 0;
+      for (const Step& s : steps_[view]) accepted += by_hand_.step(s) == DVS_ACCEPTED;
+      return accepted == steps_[view].size();
+    });
+  }
+  // What the call keeps of the group, so that a refusal can put it back.
+  uint64_t keep() {
+    for (unsigned view = 1; view <= views_; ++view) {
+      uint8_t* to = kept_.data();
+      memcpy(to, library_.books.data(), DVS_BOOKS_SIZE);
+      memcpy(to + DVS_BOOKS_SIZE, library_.queues.data(), DVS_QUEUES_SIZE(0));
+      memcpy(to + DVS_BOOKS_SIZE + DVS_QUEUES_SIZE(0), library_.queues.data() + DVS_QUEUES_ORDER(view),
+             DVS_QUEUES_SIZE(1) - DVS_QUEUES_SIZE(0));
+    }
+    return views_;
+  }
+
+  void same_ranges() const {
+    if (library_.list != by_hand_.list || library_.books != by_hand_.books || library_.queues != by_hand_.queues)
+      fail("a formed view's group is otherwise than by its steps");
+  }
+  void same_refusal(uint32_t view, uint32_t refusal) {
+    uint32_t count = 0;
+    if (library_.form(view, count) != refusal || structs_.form(view, count) != refusal ||
+        unchecked_.form(view, count) != refusal)
+      fail("a view that is not to be formed is answered otherwise");
+    same_ranges();
+  }
+
+ public:
+  Forming(unsigned servers, unsigned views) : servers_(servers), views_(views) {
+    for (uint32_t view = 0; view <= views; ++view) steps_.push_back(steps_of(set_, view));
+  }
+  size_t steps() const { return steps_[0].size(); }
+
+  void compare() {
+    if (by_call(library_) != views_ || by_steps() != views_ || by_call(structs_) != views_ ||
+        by_call(unchecked_) != views_)
+      fail("a view is not formed");
+    same_refusal(views_, DVS_REFUSED_VIEW_NOT_FRESH);
+    same_refusal(views_ + 1, DVS_REFUSED_NO_SUCH_VIEW);
+    for (uint32_t kind = DVS_STEP_JOIN; kind <= DVS_STEP_COLLECT; ++kind)
+      for (unsigned p = 0; p < servers_; ++p) {
+        Step s = {kind, p, views_};
+        plain::Event event, quick;
+        uint32_t answer = library_.step(s);
+        if (by_hand_.step(s) != answer || structs_.step(s, event) != answer || unchecked_.step(s, quick) != answer)
+          fail("a step behind a formed view is answered otherwise");
+        if (answer == DVS_ACCEPTED && (!library_.shows(event) || !library_.shows(quick)))
+          fail("an event behind a formed view is otherwise");
+      }
+    same_ranges();
+    if (servers_ == 1) return;
+    Step alone = {DVS_STEP_CREATE, views_ + 1, 1};
+    plain::Event event;
+    if (library_.step(alone) || by_hand_.step(alone) || structs_.step(alone, event) || unchecked_.step(alone, event))
+      fail("a view is not made");
+    same_refusal(views_ + 1, DVS_REFUSED_FORM_TEST_FAILED);
+  }
+
+  // One call, by hand, structs, unchecked, each less what its start and its creates take; and the copy alone.
+  std::vector<Times> times() {
+    std::vector<Times> all = measure(views_, {[&] { return by_call(library_); }, [&] { return by_steps(); },
+                                              [&] { return by_call(structs_); }, [&] { return by_call(unchecked_); },
+                                              [&] { return make(library_); }, [&] { return make(by_hand_); },
+                                              [&] { return make(structs_); }, [&] { return make(unchecked_); },
+                                              [&] { return keep(); }});
+    for (size_t side = 0; side < 4; ++side)
+      for (double& round : all[side].rounds) round -= all[side + 4].best();
+    all.erase(all.begin() + 4, all.begin() + 8);
+    return all;
+  }
+};
+
+}  // namespace
+
+void forms() {
+  head("A view formed by one call, by servers and steps, ns per view. by hand: the same steps, a call each. structs,\n"
+       "unchecked: as above, all or none too.",
+       {"library", "by hand", "structs", "unchecked"});
+  constexpr unsigned kSizes[][2] = {{1, 1}, {2, 1}, {5, 1}, {8, 1}, {8, DVS_VIEWS - 2}};
+  std::string parts;
+  double kept = 0;
+  for (auto [servers, views] : kSizes) {
+    Forming forming(servers, views);
+    forming.compare();
+    std::vector<Times> times = forming.times();
+    const Times copy = times.back();
+    times.pop_back();
+    std::string what = std::to_string(servers) + (servers > 1 ? " servers, " : " server, ");
+    row(what + std::to_string(forming.steps()) + (views > 1 ? ", views 1 to " + std::to_string(views) : ""), times);
+    char part[64];
+    snprintf(part, sizeof part, "%s%.1f %%", parts.empty() ? "" : ", ", 100 * ratio(copy, times[0]));
+    parts += part;
+    kept = copy.best();
+  }
+  printf("Of the library's time the copy of %zu bytes that a refusal would put back, %.0f ns, is, by rows:\n%s\n",
+         kKept, kept, parts.c_str());
+}
+
+}  // namespace benchmark

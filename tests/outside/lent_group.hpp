@@ -1,0 +1,93 @@
+// A whole group's three ranges, lent for one case after another, and the calls on them. As long as they were not damaged,
+// the calls are put to tests/reference/reference_group.hpp too, a third implementation.
+#pragma once
+
+#include <memory>
+
+#include "../reference/reference_group.hpp"
+#include "calls.hpp"
+#include "random.hpp"
+
+namespace outside {
+
+using plain::View;
+
+class LentGroup {
+  unsigned calls_ = 0;
+
+  // The event that the third implementation showed, as bytes.
+  static void store_third(const reference::Reply& reply, uint8_t* event) {
+    static const uint8_t kinds[] = {0, plain::kAttempt, plain::kRegister, plain::kSend, plain::kHand, plain::kSafe};
+    plain::Event e;
+    e.kind = kinds[reply.event], e.member = reply.member, e.view = reply.id, e.entry = reply.number;
+    (reply.event == reference::kAttempted ? e.set : e.sender) = reply.who;
+    e.store(event);
+  }
+
+  // Of a step, or of the driver as kind 0.
+  [[noreturn]] void third_differs(uint32_t kind, uint32_t first, uint64_t second, uint32_t third, uint32_t answer) {
+    printf("\nDIFFERENCE of tests/reference/reference_group.hpp in step %u %u %" PRIu64 ": %u, expected %u\n", kind, first,
+           second, third, answer);
+    c_.tally.say_again();
+  }
+
+ protected:
+  Calls& c_;
+  Lent list_{"list", 256}, books_{"books", plain::kBooksSize, false};
+  Lent queues_{"queues", plain::queues_size(plain::kViews), false};
+  std::unique_ptr<reference::Group> third_ = std::make_unique<reference::Group>();
+  bool clean_ = false;  // whether the third implementation has made the same steps
+
+  explicit LentGroup(Calls& c) : c_(c) {}
+
+  size_t room() const { return list_.size() / plain::kViewSize; }
+  unsigned members() { return books_.mine()[plain::kAtMembers]; }
+  unsigned made() { return queues_.mine()[0]; }
+  View view(unsigned i) { return plain::get_view(list_.mine() + plain::kViewSize * i); }
+  // The last view made, or the first where the bytes have no such number.
+  View newest() { return view(made() - 1 < room() ? made() - 1 : 0); }
+
+  void lend(Random& r, unsigned room) {
+    list_.resize(plain::kViewSize * room, r.chance(500) ? kFront : kBack);
+    books_.resize(plain::kBooksSize, r.chance(500) ? kFront : kBack);
+    queues_.resize(plain::queues_size(room), r.chance(500) ? kFront : kBack);
+    c_.event.resize(plain::kEventSize, r.chance(500) ? kFront : kBack);
+    c_.count.resize(plain::kLengthSize, r.chance(500) ? kFront : kBack);
+    c_.event.copy_to_theirs(), c_.count.copy_to_theirs();
+  }
+
+  void copy_to_theirs() {
+    for (Lent* lent : {&list_, &books_, &queues_}) lent->copy_to_theirs();
+  }
+
+  // Small most of the time: every byte of the ranges is compared after every call.
+  static unsigned some_room(Random& r) {
+    if (r.chance(700)) return r.between(1, 2);
+    if (r.chance(800)) return r.between(3, 4);
+    return r.chance(800) ? r.between(5, 9) : r.between(10, 32);
+  }
+
+  uint32_t call(uint32_t kind, uint32_t first, uint64_t second) {
+    if (++calls_ % 4 == 0) c_.group_check(list_, books_, queues_);
+    uint32_t answer = c_.group_step(list_, books_, queues_, kind, first, second);
+    if (!clean_ || kind > 255) return answer;
+    reference::Reply reply = third_->step(static_cast<uint8_t>(kind), first, second);
+    uint8_t event[plain::kEventSize];
+    store_third(reply, event);
+    bool same_event = answer != plain::kAccepted || memcmp(event, c_.event.mine(), sizeof event) == 0;
+    if (reply.refusal == answer && same_event) return answer;
+    third_differs(kind, first, second, reply.refusal, answer);
+  }
+
+  // The driver.
+  uint32_t form(uint32_t id) {
+    uint32_t answer = c_.group_form(list_, books_, queues_, id);
+    if (!clean_) return answer;
+    reference::Reply reply = third_->form(id);
+    uint64_t count = plain::get(c_.count.mine(), plain::kLengthSize);
+    if (reply.refusal == answer && (answer != plain::kAccepted || reply.number == count)) return answer;
+    third_differs(0, id, 0, reply.refusal, answer);
+  }
+};
+
+}  // namespace outside
