@@ -1,5 +1,5 @@
--- What the calls of the C interface have in common: the bytes of an event, which a run writes too, and of a message's
--- length that a call gives out, a range that must have its length, a number that is taken in one byte.
+-- What the calls of the C interface have in common: the bytes of an event, which a run writes too, and of a length or a
+-- count that a call gives out, a range that must have its length, a number that is taken in one byte.
 use mathlib.Core.Bool.{cond}
 use mathlib.Core.List.{List, _∷_, _++_}
 use Prim.Native.Nat.{ℕ, _+_}

@@ -1,5 +1,5 @@
 // Answers as numbers and lent bytes: a verdict's number; the bytes of an event, which the calls of the C interface and
-// the answers of a run share, and of a message's length; and numbers of 32 bits taken in a byte.
+// the answers of a run share, and of a number that a call gives out; and numbers of 32 bits taken in a byte.
 use events::Event;
 use events::Reply;
 use views::refusal;
@@ -25,7 +25,7 @@ pub const ENTRY: usize = SENDER + 1;
 // Bytes of an event.
 pub const EVENT: usize = ENTRY + sizes::NUMBER;
 
-// Bytes of the length of a message.
+// Bytes of a number that a call gives out: the length of a message, how many steps.
 pub const LENGTH: usize = 4;
 
 // 0 for accepted, or the refusal's number.
@@ -80,7 +80,7 @@ pub fn answer(out: &mut [u8], r: Reply) -> u32
     }
 }
 
-// The number of a call that gives the length n of a message out: a refusal leaves the bytes.
+// The number of a call that gives a length or a count n out: a refusal leaves the bytes.
 pub fn measure(out: &mut [u8], v: Verdict, n: usize) -> u32
     requires { ⌜ length (now out) ≡ lengthSize ⌝ }
     ensures { λ x. ⌜ (x ≡ codeOf v) × (now (out .exit) ≡ left v (lengthBytes n) (now (out .entry))) ⌝ }

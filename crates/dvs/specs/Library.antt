@@ -17,7 +17,7 @@ version = 300
 
 -- ---- the length of a range by its number
 
--- a book 1, an event 2, a length 3, a message's record 4, a buffer for any message 5
+-- a book 1, an event 2, a length or a count 3, a message's record 4, a buffer for any message 5
 unfoldable pub memberSize : ℕ → ℕ → ℕ
 memberSize range other =
     cond (eqb range 1) bookSize (
