@@ -16,7 +16,9 @@ slice-aggregate-save : tie.Need-slice-aggregate-save
 slice-aggregate-save c = search needs
 
 save-requires : tie.Need-save-requires
-save-requires c κs = (length-replicate {A = ℕ} 32905 0, stands-low (c .before .before .before .before .before .pre), stands-inside (c .before .before .before .before .before .pre))
+save-requires c κs =
+    let s = c .before .before .before .before .before .pre in
+    (length-replicate {A = ℕ} 32905 0, omega (arith, stands-low s), omega (arith, stands-inside s))
 
 steps-requires : tie.Need-steps-requires
 steps-requires c κs = search needs
@@ -33,7 +35,7 @@ slice-aggregate-restore c = search needs
 restore-requires : tie.Need-restore-requires
 restore-requires c κs =
     let s = c .before .before .before .before .before .before .before .before .before .before .before .before .before .before .before .before .before .before .before .before .before .pre in
-    (ap length (c .before .before .before .before .before .before .before .before .before .before .before .before .before .before .before .save .ensures) ∙ queues-size _ _ (stands-inside s), stands-low s, search (needs, stands-inside s))
+    (ap length (c .before .before .before .before .before .before .before .before .before .before .before .before .before .before .before .save .ensures) ∙ queues-size _ _ (stands-inside s), omega (arith, stands-low s), omega (arith, stands-inside s))
 
 same-length : tie.Need-same-length
 same-length c = search needs
