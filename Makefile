@@ -5,11 +5,11 @@
 test:
 	SHORT=1 .ci/run
 
-# The bench, compiled without proving, on the specification's whole case: each line and its answer.
+# The bench, compiled without proving, on the specification's whole case: each line and its answer, of which `all` has none.
 CASE := tests/scripts/whole-case
 run: target/unproved/bench
 	@$< < $(CASE).txt > $<.out
-	@paste $(CASE).txt $<.out | expand -t 20
+	@{ echo; cat $<.out; } | paste $(CASE).txt - | expand -t 20
 	@diff $(CASE).out $<.out
 	@echo "These answers are the specification's. Nothing was proved for them: make lib proves the library, make test all there is. To type lines: $<"
 
@@ -145,8 +145,8 @@ target/reference-unchecked: tests/reference/reference.cpp $(REFERENCE)
 	mkdir -p target
 	$(CXX) $(CXXFLAGS) -DNO_CHECK -o $@ $<
 
-# The benches beside each other: every script with its answers, a random script, and two sent line by line, the second in pieces too; what fails. The
-# driver, which the bench has no line for, by the plain implementations alone.
+# The benches beside each other: every script with its answers, a random script, and others sent line by line, some in pieces too, with `all` before them
+# and without; what fails. The driver, which the bench has no line for, by the plain implementations alone.
 .PHONY: compare
 BENCH := $(if $(UNPROVED),target/unproved,target/bin)/bench
 compare: $(BENCH) reference-cpp

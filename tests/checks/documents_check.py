@@ -101,8 +101,10 @@ def stored(path):
     return (ROOT / path).read_text().splitlines()
 
 
-session = [re.split(r' {2,}', line)[:2] for line in shown('A session with the bench')]
-if session != [list(pair) for pair in zip(stored('tests/scripts/readme-session.txt'), stored('tests/scripts/readme-session.out'))]:
+# what is typed, what is answered and what it means stand in columns; `all`, which is first, has no answer
+session = [(line[:18].rstrip(), line[18:38].rstrip()) for line in shown('A session with the bench')]
+typed, answers = stored('tests/scripts/readme-session.txt'), [''] + stored('tests/scripts/readme-session.out')
+if len(typed) != len(answers) or session != list(zip(typed, answers)):
     faults.append('README.md shows another session than tests/scripts/readme-session')
 example = [line for line in stored('examples/first/first.cpp') if line and not line.startswith('//')]
 if example != [line for line in shown('How to link it') if line in example]:

@@ -47,10 +47,24 @@ NEAR_WIDTHS = [
 # Of a thousand lines that are tried, how many form a view, in a script that has such lines.
 FORMS = 30
 
+# The line that shows refusals where it is the first; to how many lines there is one that is not.
+ALL = b"all"
+LINES_TO_AN_ALL = 40
+
+
+def everything(reply):
+    """What is shown where `all` is the first line."""
+    return True
+
+
+def accepted(reply):
+    """What is shown otherwise."""
+    return not reply.startswith("refused")
+
 
 class Script:
-    """Lines with their replies; `seed` determines both. With `forms` there are lines `form IDENTIFIER`
-    among them, which no bench reads: they are put to the references alone."""
+    """Lines with their replies, without a first line `all`; `seed` determines both. With `forms` there are lines
+    `form IDENTIFIER` among them, which no bench reads: they are put to the references alone."""
 
     def __init__(self, seed, forms=False):
         self.forms = forms
@@ -84,6 +98,12 @@ class Script:
                 self.next_step()
             self.lines_left -= 1
             self.mood_left -= 1
+
+    def put_alls(self):
+        """Lines `all` behind the first one, where they are unreadable and change nothing."""
+        for at in sorted(self.draw.sample(range(1, len(self.lines) + 1), len(self.lines) // LINES_TO_AN_ALL), reverse=True):
+            self.lines.insert(at, ALL)
+            self.replies.insert(at, "refused 40")
 
     def begin(self):
         """A fresh group; the first view has most members, or all, or any."""
@@ -230,12 +250,15 @@ class Script:
         return good[:at] + self.draw.choice([b"", byte, byte]) + good[at + self.draw.randrange(2):]
 
     def bytes(self):
-        """The script; whether the last line ends in byte 10 is drawn by its length."""
+        """The script, whose first line is not `all`; whether the last line ends in byte 10 is drawn by its length."""
+        assert self.lines[:1] != [ALL]
         whole = b"".join(line + b"\n" for line in self.lines)
         return whole[:-1] if self.lines and self.lines[-1] and len(whole) % 2 else whole
 
-    def answers(self):
-        return "".join(reply + "\n" for reply in self.replies).encode()
+    def answers(self, shows):
+        """The lines whose replies are shown, and those."""
+        shown = [(line, reply) for line, reply in zip(self.lines, self.replies) if shows(reply)]
+        return [line for line, _ in shown], "".join(reply + "\n" for _, reply in shown).encode()
 
 
 def line_of(step):

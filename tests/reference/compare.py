@@ -3,12 +3,14 @@
     python3 tests/reference/compare.py random SEED LINES CMD...   a random script
     python3 tests/reference/compare.py forms SEED LINES CMD...    one with lines for the driver, of references alone
     python3 tests/reference/compare.py live SEED LINES CMD...     each line sent when the last was answered
-    python3 tests/reference/compare.py corpus DIR CMD...          every DIR/NAME.txt, with DIR/NAME.out as answers
+    python3 tests/reference/compare.py corpus DIR CMD...          every DIR/NAME.txt, with DIR/NAME.out as answers, and those
+                                                                  that begin with `all` without it too
     python3 tests/reference/compare.py write SEED LINES           the random script itself, to standard output
     python3 tests/reference/compare.py histogram SEED LINES       how often each answer comes in it
 
 A command is one argument, taken apart at spaces. The answers of tests/reference/reference.py are
-always among those compared. The exit status is 1 where two answers differ.
+always among those compared. A random script is put to each twice: with `all` as its first line, and without it, where
+a refusal gets no answer. The exit status is 1 where two answers differ.
 """
 
 import collections
@@ -17,17 +19,34 @@ import pathlib
 import shlex
 import subprocess
 import sys
+import threading
 
 import bench_script
 import reference
 
 TAIL = 15
+# How long a bench that is sent its lines one at a time may take for all of them.
+SECONDS = 120
+ALL = bench_script.ALL + b"\n"
+# Which replies a bench shows, and what asks it to before the script.
+WAYS = ((bench_script.everything, ALL), (bench_script.accepted, b""))
 
 
 def reference_answers(script):
-    replies = []
-    reference.bench(io.BytesIO(script), replies.append)
-    return "".join(replies).encode()
+    """The lines that get an answer, and the answers."""
+    heard, answered, replies = [b""], [], []
+
+    def lines():
+        for line in io.BytesIO(script):
+            heard[0] = line.removesuffix(b"\n")
+            yield line
+
+    def write(reply):
+        answered.append(heard[0])
+        replies.append(reply)
+
+    reference.bench(lines(), write)
+    return answered, "".join(replies).encode()
 
 
 def run(command, script):
@@ -52,13 +71,13 @@ def line_at(answers, number):
     return lines[number].decode(errors="replace") if number < len(lines) else "(nothing)"
 
 
-def same(script, expected, name, answers, what):
+def same(lines, expected, name, answers, what):
+    """Whether the answers are those expected; `lines` are those that get one."""
     number = first_difference(expected, answers)
     if number is None:
         return True
-    print(f"{what}: line {number + 1} differs")
-    lines = script.split(b"\n")
-    for i in range(max(0, number - TAIL), number):
+    print(f"{what}: answer {number + 1} differs")
+    for i in range(max(0, min(number, len(lines)) - TAIL), min(number, len(lines))):
         print(f"  {lines[i]!r:40} {line_at(expected, i)}")
     print(f"  {lines[number] if number < len(lines) else b''!r}")
     print(f"    expected  {line_at(expected, number)}")
@@ -73,8 +92,12 @@ def random_script(seed, lines, forms=False):
 
 
 def compare_random(seed, script, commands):
-    given, expected = script.bytes(), script.answers()
-    return all([same(given, expected, c, run(c, given), f"seed {seed}") for c in commands])
+    script.put_alls()
+    good = True
+    for shows, first in WAYS:
+        given, (lines, expected) = first + script.bytes(), script.answers(shows)
+        good &= all([same(lines, expected, c, run(c, given), f"seed {seed}, {shows.__name__}") for c in commands])
+    return good
 
 
 def compare_forms(seed, script, commands):
@@ -87,34 +110,55 @@ def compare_forms(seed, script, commands):
 
 
 def compare_live(seed, lines, commands):
-    """A bench answers a line as it comes: the next is sent only then."""
+    """A bench answers a line as it comes: the next is sent only then, or at once behind a line that gets no answer."""
     script = random_script(seed, lines)
-    for command in commands:
-        with subprocess.Popen(shlex.split(command), stdin=subprocess.PIPE, stdout=subprocess.PIPE) as bench:
-            for number, (line, reply) in enumerate(zip(script.lines, script.replies)):
-                bench.stdin.write(line + b"\n")
-                bench.stdin.flush()
-                answer = bench.stdout.readline().decode()
-                if answer != reply + "\n":
-                    print(f"seed {seed}: line {number + 1} {line!r}: expected {reply}, {command} gives {answer!r}")
-                    bench.kill()
-                    return False
-            bench.stdin.close()
-            if bench.stdout.read() != b"":
-                print(f"seed {seed}: {command} writes after the last answer")
-                return False
-    return True
+    script.put_alls()
+    return all([live(seed, script, command, shows, first) for command in commands for shows, first in WAYS])
+
+
+def live(seed, script, command, shows, first):
+    with subprocess.Popen(shlex.split(command), stdin=subprocess.PIPE, stdout=subprocess.PIPE) as bench:
+        patience = threading.Timer(SECONDS, bench.kill)
+        patience.start()
+        wrong = live_difference(bench, script, shows, first)
+        patience.cancel()
+        if wrong:
+            print(f"seed {seed}, {shows.__name__}, {command}: {wrong}")
+            bench.kill()
+        return not wrong
+
+
+def live_difference(bench, script, shows, first):
+    """What is wrong with the answers, if anything is."""
+    bench.stdin.write(first)
+    for number, (line, reply) in enumerate(zip(script.lines, script.replies)):
+        bench.stdin.write(line + b"\n")
+        bench.stdin.flush()
+        answer = bench.stdout.readline().decode() if shows(reply) else reply + "\n"
+        if answer != reply + "\n":
+            return f"line {number + 1} {line!r}: expected {reply}, got {answer!r}"
+    bench.stdin.close()
+    return "something is written after the last answer" if bench.stdout.read() != b"" else None
+
+
+def compare_stored(script, expected, commands, what):
+    lines, answers = reference_answers(script)
+    return all([same(lines, expected, "reference.py", answers, what)]
+               + [same(lines, expected, command, run(command, script), what) for command in commands])
 
 
 def compare_corpus(folder, commands):
-    good = True
+    good, without = True, 0
     scripts = sorted(pathlib.Path(folder).glob("*.txt"))
     for path in scripts:
         script, expected = path.read_bytes(), path.with_suffix(".out").read_bytes()
-        good &= same(script, expected, "reference.py", reference_answers(script), path.name)
-        for command in commands:
-            good &= same(script, expected, command, run(command, script), path.name)
-    print(f"{len(scripts)} scripts")
+        good &= compare_stored(script, expected, commands, path.name)
+        rest = script.removeprefix(ALL)
+        if rest != script and not rest.startswith(ALL):
+            accepted = [line for line in expected.splitlines(keepends=True) if bench_script.accepted(line.decode())]
+            good &= compare_stored(rest, b"".join(accepted), commands, path.name + " without `all`")
+            without += 1
+    print(f"{len(scripts)} scripts, {without} of them without `all` too")
     return good
 
 
@@ -141,7 +185,7 @@ def main(arguments):
     if mode == "histogram" and len(rest) == 2:
         return histogram(int(rest[0]), int(rest[1]))
     if mode == "write" and len(rest) == 2:
-        sys.stdout.buffer.write(random_script(int(rest[0]), int(rest[1])).bytes())
+        sys.stdout.buffer.write(ALL + random_script(int(rest[0]), int(rest[1])).bytes())
         return True
     print(__doc__)
     return False

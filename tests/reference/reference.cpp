@@ -99,20 +99,32 @@ class Output {
 struct Bench {
   Group group;
   bool running, forms;
+  bool begun, refusals;  // a line has come; it was `all`, so refusals are shown
   Output out;
 
+  void show(const Reply& r) {
+    if (r.refusal == kAccepted || refusals) out.reply(r);
+  }
+  void hear(const char* line, size_t size) {
+    bool first = !begun;
+    begun = true;
+    if (first && size == 3 && memcmp(line, "all", 3) == 0)
+      refusals = true;
+    else
+      answer(line, size);
+  }
   void answer(const char* line, size_t size) {
     uint64_t operands[2] = {0, 0};
     const Command* c = size > kLine ? nullptr : parse(line, size, forms, operands);
-    if (!c || (c->kind != 0 && !running)) return out.reply(refuse(kLineUnreadable));
+    if (!c || (c->kind != 0 && !running)) return show(refuse(kLineUnreadable));
     if (c->kind == kForm) {
       Reply r = group.form(operands[0]);
-      return r.refusal == kAccepted ? out.formed(r) : out.reply(r);
+      return r.refusal == kAccepted ? out.formed(r) : show(r);
     }
-    if (c->kind != 0) return out.reply(group.step(c->kind, operands[0], operands[1]));
+    if (c->kind != 0) return show(group.step(c->kind, operands[0], operands[1]));
     Refusal r = group.start(operands[0], operands[1], kLent);
     if (r == kAccepted) running = true;
-    out.reply(refuse(r));
+    show(refuse(r));
   }
 };
 
@@ -137,10 +149,10 @@ int main(int count, char** words) {
     const char *at = input, *end = input + n;
     while (auto stop = static_cast<const char*>(memchr(at, '\n', static_cast<size_t>(end - at)))) {
       if (kept == 0) {
-        bench.answer(at, static_cast<size_t>(stop - at));
+        bench.hear(at, static_cast<size_t>(stop - at));
       } else {
         keep(at, static_cast<size_t>(stop - at));
-        bench.answer(rest, kept);
+        bench.hear(rest, kept);
         kept = 0;
       }
       at = stop + 1;
@@ -148,7 +160,7 @@ int main(int count, char** words) {
     keep(at, static_cast<size_t>(end - at));
     bench.out.flush();
   }
-  if (kept > 0) bench.answer(rest, kept);
+  if (kept > 0) bench.hear(rest, kept);
   bench.out.flush();
   return 0;
 }

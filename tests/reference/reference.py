@@ -486,13 +486,18 @@ def answer(group, line):
 
 
 def bench(lines, write):
-    """One reply for each line; "the last may lack" its byte 10."""
-    group = None
-    for line in lines:
+    """A reply for each accepted line, and for each refused one too where "`all`" is the "first line", which "gets no
+    reply and lasts through later groups"; "the last may lack" its byte 10."""
+    group, shows_refusals = None, False
+    for number, line in enumerate(lines):
         if line.endswith(b"\n"):
             line = line[:-1]
+        if number == 0 and line == b"all":
+            shows_refusals = True
+            continue
         group, reply = answer(group, line)
-        write(" ".join(str(part) for part in reply) + "\n")
+        if reply[0] != "refused" or shows_refusals:
+            write(" ".join(str(part) for part in reply) + "\n")
 
 
 def write_out(reply):

@@ -4,6 +4,7 @@
 """
 
 import copy
+import io
 
 from reference import Group, Refused, bench, form_steps, members_of, read_message, start
 
@@ -13,10 +14,17 @@ KIND = {
 }
 
 
-def bench_replies(script):
+def shown(script):
     replies = []
-    bench(script.encode().splitlines(keepends=True), replies.append)
+    bench(io.BytesIO(script.encode()), replies.append)
     return "".join(replies)
+
+
+def bench_replies(script):
+    """The replies to every line, behind `all`; without it the accepted ones alone come."""
+    replies = shown("all\n" + script)
+    assert shown(script) == "".join(r for r in replies.splitlines(keepends=True) if not r.startswith("refused"))
+    return replies
 
 
 def do(group, name, *operands):
@@ -197,13 +205,31 @@ def bench_lines():
         ("pass 0\r", "refused 40"), ("x" * 64, "refused 40"), ("x" * 200, "refused 40"),
         ("group 3 8", "refused 2"), ("group 3 7", "ok"),
     ]:
-        replies = []
-        bench([running.encode(), line.encode()], replies.append)
-        assert replies == ["ok\n", reply + "\n"], (line, replies)
+        assert bench_replies(running + line) == "ok\n" + reply + "\n", line
     # A refused later group leaves the running one; an accepted one starts afresh.
     assert bench_replies("group 2 3\nsend 0 5\ngroup 0 1\npass 0\ngroup 2 3\npass 0\n") == (
         "ok\nsend 0 0 5\nrefused 1\nok\nok\nrefused 14\n"
     )
+
+
+def bench_first_line():
+    """`all` counts as the very first line, and nowhere else."""
+    case = "group 2 3\nattempt 1\nsend 0 5\n"
+    everything, accepted = "ok\nrefused 19\nsend 0 0 5\n", "ok\nsend 0 0 5\n"
+    assert shown("all") == shown("all\n") == shown("") == ""
+    assert shown("all\n" + case) == everything
+    assert shown("all\nall\n" + case) == "refused 40\n" + everything
+    for first in ["", "\n", "hello\n", "all \n", " all\n", "All\n", "all\r\n", "all\0\n", "all 1\n", "al\n", "alll\n"]:
+        assert shown(first + case) == accepted, first
+        if first != "":
+            assert shown(first + "all\n" + case) == accepted, first
+    assert shown(case + "all\n" + case) == accepted + accepted
+    # It lasts through later groups, accepted and refused.
+    assert shown("all\ngroup 9 1\n" + case + "group 2 4\nattempt 1\n" + case) == (
+        "refused 1\n" + everything + "refused 2\nrefused 19\n" + everything
+    )
+    # A refused line leaves no trace, the last without its byte 10 neither.
+    assert shown("attempt 1\ngroup 9 1\n\n") == "" and shown("group 2 3\nattempt 1") == "ok\n"
 
 
 def formed(group, identifier, members_set):
@@ -271,6 +297,7 @@ CASES = [
     list_of_length_1,
     start_refusals,
     bench_lines,
+    bench_first_line,
     formed_by_one_to_eight,
     form_refusals,
     form_fails_where_steps_pass,

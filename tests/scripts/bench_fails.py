@@ -15,7 +15,7 @@ import tty
 UNREAD = b"bench: standard input could not be read\n"
 UNWRITTEN = b"bench: standard output could not be written\n"
 # More replies than one write holds.
-MANY = b"group 2 3\n" + b"send 0 5\n" * 20000
+MANY = b"all\ngroup 2 3\n" + b"send 0 5\n" * 20000
 
 
 def lost_line(data):
@@ -51,7 +51,9 @@ def unwritten(command):
     for name, data in ("a line", b"group 2 3\n"), ("an unended line", b"group 2 3"), ("many lines", MANY):
         with open("/dev/full", "wb") as full:
             good &= told(f"{name}, no room for replies", (b"", UNWRITTEN), run(command, input=data, stdout=full))
-    return good
+    # What is not shown needs no room.
+    with open("/dev/full", "wb") as full:
+        return good & told("no reply shown", (b"", b""), run(command, input=b"pass 0\ngroup 9 1\npass 0", stdout=full))
 
 
 def helped(command):

@@ -2,8 +2,8 @@
 
     python3 tests/scripts/bench_waits.py [CMD]      target/bin/bench if none is given
 
-Whoever waits for an answer gets it: each line is sent only when the one before was answered.
-A line may also come in pieces, and the last may lack the byte that ends it.
+Whoever waits for an answer gets it: each line is sent only when the one before was answered, or at once behind one that
+gets none. A line may also come in pieces, and the last may lack the byte that ends it.
 """
 
 import select
@@ -12,7 +12,10 @@ import subprocess
 import sys
 
 SECONDS = 5
+NONE = None
+# By somebody who wants to see refusals, to the end; the last line lacks its byte 10.
 CASE = [
+    ("all", NONE),
     ("group 2 3", "ok"),
     ("send 0 5", "send 0 0 5"),
     ("pass 0", "ok"),
@@ -23,6 +26,26 @@ CASE = [
     ("", "refused 40"),
     ("x" * 200000, "refused 40"),
     ("hand 1", "refused 25"),
+    ("group 9 1", "refused 1"),
+    ("group 1 1", "ok"),
+    ("all", "refused 40"),
+    ("pass 0", "refused 14"),
+]
+# And by somebody who does not: `all` comes where the bench waits for more, and is no first line.
+QUIET = [
+    ("hand 1", NONE),
+    ("group 9 1", NONE),
+    ("group 2 3", "ok"),
+    ("all", NONE),
+    ("attempt 1", NONE),
+    ("send 0 5", "send 0 0 5"),
+    ("x" * 200000, NONE),
+    ("pass 0", "ok"),
+    ("all", NONE),
+    ("pass 0", NONE),
+    ("group 1 1", "ok"),
+    ("all", NONE),
+    ("pass 0", NONE),
 ]
 
 
@@ -54,33 +77,28 @@ def told(what, expected, got):
     return expected == got
 
 
-def whole_lines(command):
-    with started(command) as bench:
-        good = True
-        for line, reply in CASE:
-            send(bench, line.encode() + b"\n")
-            good &= told(line, reply.encode() + b"\n", answer(bench))
-        bench.stdin.close()
-        return good & told("the end", b"", bench.stdout.read())
+def expected(reply):
+    return b"" if reply is NONE else reply.encode() + b"\n"
 
 
-def pieces(command):
+def asked(command, case, size):
+    """The lines, so many bytes at a time, each with its answer before the next is sent; the last one without its end."""
     with started(command) as bench:
-        good = True
-        for line, reply in CASE:
-            for i in range(0, len(line), 7):
-                send(bench, line[i:i + 7].encode())
-            send(bench, b"\n")
-            good &= told(line, reply.encode() + b"\n", answer(bench))
-        send(bench, b"pass ")
-        send(bench, b"1")
+        for number, (line, reply) in enumerate(case):
+            for i in range(0, len(line), size):
+                send(bench, line[i:i + size].encode())
+            if number + 1 < len(case):
+                send(bench, b"\n")
+                if reply is not NONE and not told(line, expected(reply), answer(bench)):
+                    bench.kill()
+                    return False
         bench.stdin.close()
-        return good & told("pass 1", b"refused 14\n", bench.stdout.read())
+        return told("the last line", expected(case[-1][1]), bench.stdout.read())
 
 
 def main(arguments):
     command = arguments[0] if arguments else "target/bin/bench"
-    good = whole_lines(command) & pieces(command)
+    good = all([asked(command, case, size) for case in (CASE, QUIET) for size in (1000000, 7, 2)])
     print("every line answered as it came" if good else "not every line answered as it came")
     return good
 

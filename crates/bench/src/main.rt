@@ -1,8 +1,9 @@
-// The bench: a reply to each line of standard input, as the specification's section 'The bench' has it. What a line
-// does is `bench_session`; here are only reading and writing, many lines to a call of the system.
+// The bench: lines of standard input answered, as the specification's section 'The bench' has it. What a line does and
+// whether its reply is shown is `bench_session`; here are only reading and writing, many lines to a call of the system.
 mod pieces;
 mod words;
 
+use bench_session::showing::Bench;
 ghost use lib.ListN.{length};
 ghost use Prim.Native.Nat.{_≤_};
 ghost use Rattle.bench_lines.specs.ReplyLines.{longestReply};
@@ -33,7 +34,7 @@ fn main() {
 fn run(list: &mut [u8], all: &mut [u8], queues: &mut [u8], input: &mut [u8], out: &mut [u8])
     requires { ⌜ longestReply ≤ length (now out) ⌝ }
 {
-    let mut running = false;
+    let mut bench = bench_session::showing::idle();
     let mut held: usize = 0;
     let mut turns = u64::MAX;
     while turns > 0 {
@@ -44,15 +45,15 @@ fn run(list: &mut [u8], all: &mut [u8], queues: &mut [u8], input: &mut [u8], out
         }
         let n = got.count;
         if n == held {
-            finish(list, all, queues, running, &input[..n], out);
+            finish(list, all, queues, bench, &input[..n], out);
             return;
         }
-        let t = answer_all(list, all, queues, running, &input[..n], out);
+        let t = answer_all(list, all, queues, bench, &input[..n], out);
         if t.failed {
             crate::words::unwritten();
             return;
         }
-        running = t.running;
+        bench = t.bench;
         held = crate::pieces::keep(input, t.at, n);
         turns -= 1;
     }
@@ -63,7 +64,7 @@ fn finish(
     list: &mut [u8],
     all: &mut [u8],
     queues: &mut [u8],
-    running: bool,
+    bench: Bench,
     line: &[u8],
     out: &mut [u8],
 )
@@ -72,34 +73,37 @@ fn finish(
     if line.len() == 0 {
         return;
     }
-    let a = bench_session::answer(list, all, queues, running, line);
-    let reply = a.reply;
+    let h = bench_session::showing::hear(list, all, queues, bench, line);
+    if !h.shown {
+        return;
+    }
+    let reply = h.reply;
     let said = crate::pieces::say(out, 0, reply);
     if !crate::pieces::send(out, said.filled) {
         crate::words::unwritten();
     }
 }
 
-// Where the lines that were answered end, whether a group is running, and whether a write failed.
+// The bench after the lines that were answered, where they end, and whether a write failed.
 struct Turn {
-    running: bool,
+    bench: Bench,
     at: usize,
     failed: bool,
 }
 
-// A reply to every line of the input that has its end.
+// Every line of the input that has its end is answered, and what is shown of it is written.
 fn answer_all(
     list: &mut [u8],
     all: &mut [u8],
     queues: &mut [u8],
-    running: bool,
+    before: Bench,
     input: &[u8],
     out: &mut [u8],
 ) -> Turn
     requires { ⌜ longestReply ≤ length (now out) ⌝ }
     ensures { λ r. ⌜ r .at ≤ length (now (input .entry)) ⌝ }
 {
-    let mut now_running = running;
+    let mut bench = before;
     let mut at: usize = 0;
     let mut filled: usize = 0;
     while at < input.len() {
@@ -107,23 +111,25 @@ fn answer_all(
         if end == input.len() {
             break;
         }
-        let a = bench_session::answer(list, all, queues, now_running, &input[at..end]);
-        now_running = a.running;
-        let reply = a.reply;
-        let said = crate::pieces::say(out, filled, reply);
-        if said.failed {
-            return Turn {
-                running: now_running,
-                at,
-                failed: true,
-            };
+        let h = bench_session::showing::hear(list, all, queues, bench, &input[at..end]);
+        bench = h.bench;
+        if h.shown {
+            let reply = h.reply;
+            let said = crate::pieces::say(out, filled, reply);
+            if said.failed {
+                return Turn {
+                    bench,
+                    at,
+                    failed: true,
+                };
+            }
+            filled = said.filled;
         }
-        filled = said.filled;
         at = crate::pieces::line_after(input, end);
     }
     let sent = crate::pieces::send(out, filled);
     Turn {
-        running: now_running,
+        bench,
         at,
         failed: !sent,
     }

@@ -7,11 +7,15 @@ pub fn help() {
     io::write_all(STDOUT_FILENO, b"usage: bench < lines\n\n");
     io::write_all(
         STDOUT_FILENO,
-        b"Runs one group: a reply to each line of standard input. The first line is group N S,\n",
+        b"Runs one group: a reply to each accepted line of standard input, and to refused ones too\n",
     );
     io::write_all(
         STDOUT_FILENO,
-        b"members and first set, and every other a step and its operands, as send 0 5.\n",
+        b"where the very first line is all. The next is group N S, members and first set, and\n",
+    );
+    io::write_all(
+        STDOUT_FILENO,
+        b"every other a step and its operands, as send 0 5.\n",
     );
     io::write_all(
         STDOUT_FILENO,

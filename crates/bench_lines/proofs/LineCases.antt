@@ -35,6 +35,7 @@ allUnreadable (s ∷ l) = both (unreadable (lineOf (bytes s))) (allUnreadable l)
 
 pub unreadable-lines : allUnreadable (
     ""
+    ∷ "all"
     ∷ "group"
     ∷ "group 2"
     ∷ "group 2 3 0"

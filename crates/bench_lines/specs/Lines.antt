@@ -1,5 +1,5 @@
 -- What a line of the bench asks, from its bytes without the byte 10 that ends it.
-use mathlib.Core.Bool.{cond}
+use mathlib.Core.Bool.{Bool, cond}
 use mathlib.Core.List.{List, [], _∷_}
 use Prim.Native.Nat.{ℕ, _+_, _-_, _^_}
 use Prim.Native.String.{String}
@@ -93,3 +93,12 @@ asks (name ∷ ws) = let f = formOf table name in cond (eqb (f .kind) unknown) U
 
 unfoldable pub lineOf : List ℕ → Line
 lineOf s = cond (leb (length s) longestLine) (asks (words s)) Unreadable
+
+-- ---- the first line of the input
+
+-- `all`, which asks nothing of a group: wherever it stands, it is unreadable as a line
+abbrev pub allLine : List ℕ
+allLine = bytes "all"
+
+abbrev pub asksAll : List ℕ → Bool
+asksAll s = same s allLine

@@ -4,7 +4,7 @@ mod operands;
 
 use crate::texts::words;
 ghost use mathlib.Core.Path.{_≡_};
-ghost use Rattle.bench_lines.specs.Lines.{lineOf};
+ghost use Rattle.bench_lines.specs.Lines.{lineOf, asksAll};
 ghost use Rattle.bench_lines.specs.Words.{findFrom};
 
 // The longest line that is read, the byte that ends it not counted.
@@ -46,6 +46,13 @@ pub fn read(line: &[u8]) -> Line
     }
     let from = end + 1;
     crate::lines::operands::read(&line[from..], form)
+}
+
+// Whether the line is `all`, by which the first line of the input asks to see refusals.
+pub fn asks_all(line: &[u8]) -> bool
+    ensures { λ r. ⌜ r ≡ asksAll (now (line .entry)) ⌝ }
+{
+    words::is(line, b"all")
 }
 
 // The place of the first byte 10 at or after a place, the length if there is none.

@@ -23,8 +23,8 @@ use Rattle.group.specs.StepCalls.{asked}
 use Rattle.bench_lines.specs.declared.lines.Line.{Line}
 use Rattle.bench_lines.specs.declared.lines.Line.the-variants.{Unreadable, Group, Step}
 use Rattle.bench_lines.specs.Lines.{lineOf}
-use Rattle.bench_session.specs.Sessions.{nowRunning, answerTo}
-use Rattle.bench_session.specs.Scripts.{linesOf, repliesTo, accepts, starts, noneStarts, BenchPromise}
+use Rattle.bench_session.specs.Sessions.{accepts, nowRunning, answerTo}
+use Rattle.bench_session.specs.Scripts.{linesOf, repliesTo, starts, noneStarts, BenchPromise}
 use Rattle.bench_session.proofs.Widths.{lineWide, line-wide, wide-given}
 
 -- ---- the steps among lines

@@ -1,4 +1,5 @@
 pub mod AnswerLaws
 pub mod Widths
 pub mod BenchRuns
+pub mod ShownReplies
 pub mod WholeCase

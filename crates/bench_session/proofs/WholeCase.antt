@@ -1,8 +1,9 @@
 -- The specification's whole case with its replies: the started ranges reply what the rules answer, and that is computed.
 use mathlib.Core.Path.{_≡_, refl, ap, _∙_}
-use mathlib.Core.Bool.{Bool, true}
+use mathlib.Core.Bool.{Bool, true, false}
 use mathlib.Core.List.{List, [], _∷_, map}
 use native.Mathlib.Omega.{arith}
+use lib.ListN.{take}
 use Rattle.views.specs.declared.refusal.Verdict.the-variants.{Accepted}
 use Rattle.views.specs.Points.{at, at2}
 use Rattle.views.specs.Refusals.{left}
@@ -27,10 +28,11 @@ use Rattle.bench_lines.specs.Numerals.{digitsOnly, begun, valueFrom, numeralOf,
 use Rattle.bench_lines.specs.Lines.{formOf, made, withOperands, asks, lineOf}
 use Rattle.bench_lines.specs.ReplyLines.{numbersText, eventLine, verdictLine, replyLine}
 use Rattle.bench_session.specs.Sessions.{groupLine, stepLine, answerTo}
-use Rattle.bench_session.specs.Scripts.{linesOf, repliesTo}
+use Rattle.bench_session.specs.Scripts.{linesOf, repliesTo, acceptedAmong, beginsWithAll}
 use Rattle.bench_session.specs.Cases.{benchViews, OfBench, wholeCase, input, output, WholeCase}
 use Rattle.bench_session.proofs.Widths.{wide-given}
 use Rattle.bench_session.proofs.BenchRuns.{given-more, none-given}
+use Rattle.bench_session.proofs.ShownReplies.{all-shown, accepted-shown}
 
 -- ---- the lines
 
@@ -91,16 +93,37 @@ step-replies r b = rw (started-replies 2 3 r (startable r b) steps steps-given, 
 -- ---- the whole case
 
 -- by the rules
-computed : map replyLine (replied Accepted noEvent ∷ ruleReplies (started 2 3 benchViews) steps) ≡ map output wholeCase
-unfolding wholeCase output steps ruleReplies replied decimalBy numbersText eventLine verdictLine
+answers : List Reply
+answers = replied Accepted noEvent ∷ ruleReplies (started 2 3 benchViews) steps
+
+computed : map replyLine answers ≡ map output wholeCase
+unfolding wholeCase output answers steps ruleReplies replied decimalBy numbersText eventLine verdictLine
     at at2 has isBeyond isRising risesAbove findOf
     need withView withFirst after every all queues passing received delivered attempts sends hands
     conditions everyBook everyQueue bookCounts counts listed bookListed sound
     withListed booked own fresh started passStep orderStep deliverStep pick stepOf step
 computed = refl
 
+computed-quiet : map replyLine (acceptedAmong answers) ≡ map output (take 6 wholeCase)
+unfolding acceptedAmong wholeCase output answers steps ruleReplies replied decimalBy numbersText eventLine verdictLine
+    at at2 has isBeyond isRising risesAbove findOf
+    need withView withFirst after every all queues passing received delivered attempts sends hands
+    conditions everyBook everyQueue bookCounts counts listed bookListed sound
+    withListed booked own fresh started passStep orderStep deliverStep pick stepOf step
+computed-quiet = refl
+
+replies-are : (running : Bool) (r : Ranges) → OfBench r
+    → repliesTo running r (linesOf (map input wholeCase)) ≡ answers
+unfolding answers
+replies-are running r b =
+    ap (repliesTo running r) lines-are
+    ∙ begins running r b (map asLine steps)
+    ∙ ap (λ (k : List Reply). replied Accepted noEvent ∷ k) (goes-on (startRanges 2 3 r) steps ∙ step-replies r b)
+
 pub whole-case : WholeCase
-whole-case running r b =
-    ap (λ (l : List Line). map replyLine (repliesTo running r l)) lines-are
-    ∙ ap (map replyLine) (begins running r b (map asLine steps) ∙ ap (λ (k : List Reply). replied Accepted noEvent ∷ k) (goes-on (startRanges 2 3 r) steps ∙ step-replies r b))
-    ∙ computed
+unfolding beginsWithAll wholeCase input same
+whole-case r b = record {
+  replies = λ running. ap (map replyLine) (replies-are running r b) ∙ computed;
+  shown = ap (map replyLine) (all-shown r _ ∙ replies-are false r b) ∙ computed;
+  quiet = ap (map replyLine) (accepted-shown r _ refl ∙ ap acceptedAmong (replies-are false r b)) ∙ computed-quiet;
+}

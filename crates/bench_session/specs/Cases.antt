@@ -1,16 +1,18 @@
--- The specification's whole case: its lines and the replies to them, as bytes, of a bench in any state.
+-- The specification's whole case: its lines and the replies to them, as bytes.
 use mathlib.Core.Path.{_≡_}
 use mathlib.Core.Bool.{Bool}
 use mathlib.Core.List.{List, [], _∷_, _++_, map}
 use Prim.Native.Nat.{ℕ, _*_}
 use Prim.Native.String.{String}
-use lib.ListN.{length}
+use lib.ListN.{length, take}
 use Rattle.views.specs.Sizes.{viewSize}
 use Rattle.group_bytes.specs.Places.{booksSize, queuesSize}
 use Rattle.group_bytes.specs.Groups.{Ranges}
 use Rattle.bench_lines.specs.Words.{bytes, lineFeed}
+use Rattle.bench_lines.specs.Lines.{allLine}
 use Rattle.bench_lines.specs.ReplyLines.{replyLine}
-use Rattle.bench_session.specs.Scripts.{linesOf, repliesTo}
+use Rattle.bench_session.specs.Showing.{idle}
+use Rattle.bench_session.specs.Scripts.{linesOf, repliesTo, shownTo}
 
 -- the bench lends 8 view records
 abbrev pub benchViews : ℕ
@@ -22,7 +24,7 @@ pub record OfBench (r : Ranges) : Type 0 where
   pub books : length (r .books) ≡ booksSize
   pub queues : length (r .queues) ≡ queuesSize benchViews
 
--- left column is input, right is output
+-- left column is input, right is output; before them stands `all`, which has none
 pub data Row : Type 0 where
   row : String → String → Row
 
@@ -44,8 +46,14 @@ input (row line reply) = bytes line
 unfoldable pub output : Row → List ℕ
 output (row line reply) = bytes reply ++ (lineFeed ∷ [])
 
--- the input's lines get the output's, whether a group was running or not
+pub record CaseIn (r : Ranges) : Type 0 where
+  -- the lines behind `all` get their replies, whether a group was running or not
+  pub replies :
+      (running : Bool) → map replyLine (repliesTo running r (linesOf (map input wholeCase))) ≡ map output wholeCase
+  -- with `all` as the first line each is shown
+  pub shown : map replyLine (shownTo idle r (allLine ∷ map input wholeCase)) ≡ map output wholeCase
+  -- without it the first six are, and the refusal is not
+  pub quiet : map replyLine (shownTo idle r (map input wholeCase)) ≡ map output (take 6 wholeCase)
+
 abbrev pub WholeCase : Type 0
-WholeCase =
-    (running : Bool) (r : Ranges) → OfBench r
-    → map replyLine (repliesTo running r (linesOf (map input wholeCase))) ≡ map output wholeCase
+WholeCase = (r : Ranges) → OfBench r → CaseIn r

@@ -1,3 +1,4 @@
 pub mod Sessions
+pub mod Showing
 pub mod Scripts
 pub mod Cases

@@ -1,6 +1,6 @@
 -- What a line does to a bench. The bench has three ranges, and a group is running in them or not.
 use mathlib.Core.Path.{_≡_}
-use mathlib.Core.Bool.{Bool, true, cond}
+use mathlib.Core.Bool.{Bool, true, false, cond}
 use Prim.Native.Nat.{ℕ}
 use Rattle.views.specs.declared.refusal.Refusal.the-variants.{LineUnreadable}
 use Rattle.views.specs.declared.refusal.Verdict.{Verdict}
@@ -36,6 +36,10 @@ unreadReply = replied (Refused LineUnreadable) noEvent
 -- nothing changes
 abbrev pub unread : Bool → Ranges → Outcome
 unread running r = record { reply = unreadReply; running = running; ranges = r }
+
+abbrev pub accepts : Verdict → Bool
+accepts Accepted = true
+accepts (Refused f) = false
 
 -- a refused start leaves a running group as it is
 abbrev pub nowRunning : Verdict → Bool → Bool

@@ -1,4 +1,7 @@
 // What one line does to a running bench: its reply, whether a group is running after it, and the three ranges after it.
+// Which replies are shown is `showing`'s.
+pub mod showing;
+
 use bench_lines::lines::Line;
 use events::Reply;
 use views::refusal::Refusal;

@@ -1,5 +1,6 @@
 -- Each line ends at or behind its start, and the next starts behind its end.
-use mathlib.Core.Path.{_≡_}
+use mathlib.Core.Path.{_≡_, ap}
+use mathlib.Core.Logic.{⊎-elim}
 use Prim.Native.Nat.{_-_, _≤_}
 use native.Mathlib.Omega.{arith}
 use borrow.Author.Needs.{needs}
@@ -10,11 +11,11 @@ use Rattle.bench.proofs.answer_all.Statement.{statement}
 use Rattle.bench.proofs.answer_all.Tie as tie
 
 abbrev Inv-loop : tie.InvT-loop
-Inv-loop list₀ all₀ queues₀ running input out₀ now-running₀ at₀ filled₀ list all queues out now-running at filled =
+Inv-loop list₀ all₀ queues₀ input out₀ bench₀ at₀ filled₀ list all queues out bench at filled =
     (at ≤ length input) × (filled ≤ length out) × (length list ≡ length list₀) × (length all ≡ length all₀) × (length queues ≡ length queues₀) × (length out ≡ length out₀)
 
 abbrev μ-loop : tie.MeasureT-loop
-μ-loop list₀ all₀ queues₀ running input out₀ now-running₀ at₀ filled₀ list all queues out now-running at filled =
+μ-loop list₀ all₀ queues₀ input out₀ bench₀ at₀ filled₀ list all queues out bench at filled =
     length input - at
 
 loop-holds : tie.Need-loop-holds Inv-loop μ-loop
@@ -23,17 +24,26 @@ loop-holds c = search needs
 line-end-requires : tie.Need-line-end-requires Inv-loop μ-loop
 line-end-requires c κs = search needs
 
-sub-answer : tie.Need-sub-answer Inv-loop μ-loop
-sub-answer c = omega (arith, c .before .before .before .before .line-end .ensures, find-le 10 (c .before .before .before .before .before .before .before .before .before .before .before .before .args .input .now) (c .before .before .before .before .before .before .loop .at), find-from 10 (c .before .before .before .before .before .before .before .before .before .before .before .before .args .input .now) (c .before .before .before .before .before .before .loop .at) (c .before .before .before .before .before .before .loop .inv .0))
+sub-hear : tie.Need-sub-hear Inv-loop μ-loop
+sub-hear c =
+    let l = c .before .before .before .before .before .before .loop in
+    let a = c .before .before .before .before .before .before .before .before .before .before .before .before .args in
+    omega (arith, c .before .before .before .before .line-end .ensures, find-le 10 (a .input .now) (l .at), find-from 10 (a .input .now) (l .at) (l .inv .0))
 
-part-answer-start : tie.Need-part-answer-start Inv-loop μ-loop
-part-answer-start c = omega (arith, c .before .before .before .before .line-end .ensures, find-le 10 (c .before .before .before .before .before .before .before .before .before .before .before .before .args .input .now) (c .before .before .before .before .before .before .loop .at), find-from 10 (c .before .before .before .before .before .before .before .before .before .before .before .before .args .input .now) (c .before .before .before .before .before .before .loop .at) (c .before .before .before .before .before .before .loop .inv .0))
+part-hear-start : tie.Need-part-hear-start Inv-loop μ-loop
+part-hear-start c =
+    let l = c .before .before .before .before .before .before .loop in
+    let a = c .before .before .before .before .before .before .before .before .before .before .before .before .args in
+    omega (arith, c .before .before .before .before .line-end .ensures, find-le 10 (a .input .now) (l .at), find-from 10 (a .input .now) (l .at) (l .inv .0))
 
-part-answer-end : tie.Need-part-answer-end Inv-loop μ-loop
-part-answer-end c = omega (arith, c .before .before .before .before .line-end .ensures, find-le 10 (c .before .before .before .before .before .before .before .before .before .before .before .before .args .input .now) (c .before .before .before .before .before .before .loop .at), find-from 10 (c .before .before .before .before .before .before .before .before .before .before .before .before .args .input .now) (c .before .before .before .before .before .before .loop .at) (c .before .before .before .before .before .before .loop .inv .0))
+part-hear-end : tie.Need-part-hear-end Inv-loop μ-loop
+part-hear-end c =
+    let l = c .before .before .before .before .before .before .loop in
+    let a = c .before .before .before .before .before .before .before .before .before .before .before .before .args in
+    omega (arith, c .before .before .before .before .line-end .ensures, find-le 10 (a .input .now) (l .at), find-from 10 (a .input .now) (l .at) (l .inv .0))
 
-answer-requires : tie.Need-answer-requires Inv-loop μ-loop
-answer-requires c κs = search needs
+hear-requires : tie.Need-hear-requires Inv-loop μ-loop
+hear-requires c κs = search needs
 
 say-requires : tie.Need-say-requires Inv-loop μ-loop
 say-requires c κs = search needs
@@ -57,12 +67,20 @@ line-after-requires : tie.Need-line-after-requires Inv-loop μ-loop
 line-after-requires c κs = search needs
 
 loop-less : tie.Need-loop-less Inv-loop μ-loop
-loop-less c = omega (arith, c .before .before .before .before .before .before .before .before .before .before .before .before .before .before .before .before .before .before .before .line-end .ensures, find-le 10 (c .before .before .before .before .before .before .before .before .before .before .before .before .before .before .before .before .before .before .before .before .before .before .before .before .before .before .before .args .input .now) (c .before .before .before .before .before .before .before .before .before .before .before .before .before .before .before .before .before .before .before .before .before .loop .at), find-from 10 (c .before .before .before .before .before .before .before .before .before .before .before .before .before .before .before .before .before .before .before .before .before .before .before .before .before .before .before .args .input .now) (c .before .before .before .before .before .before .before .before .before .before .before .before .before .before .before .before .before .before .before .before .before .loop .at) (c .before .before .before .before .before .before .before .before .before .before .before .before .before .before .before .before .before .before .before .before .before .loop .inv .0))
+loop-less c =
+    let l = c .before .before .before .before .before .before .before .before .before .before .before .before .before .before .before .before .before .loop in
+    let a = c .before .before .before .before .before .before .before .before .before .before .before .before .before .before .before .before .before .before .before .before .before .before .before .args in
+    omega (arith, c .before .before .before .before .before .before .before .before .before .before .before .before .before .before .before .line-end .ensures, find-le 10 (a .input .now) (l .at), find-from 10 (a .input .now) (l .at) (l .inv .0))
 
 loop-again : tie.Need-loop-again Inv-loop μ-loop
 loop-again c =
-    let w = said-within _ (c .before .before .before .before .before .before .before .before .before .before .before .before .before .before .before .before .before .before .before .before .before .loop .out) _ (c .before .before .before .before .before .before .before .before .before .before .before .before .before .before .before .before .before .before .before .before .before .loop .filled) _ (c .before .before .before .before .before .before .before .before .before .before .before .before .before .before .before .before .before .before .before .before .before .loop .inv .1) (c .before .before .before .before .say .ensures) in
-    omega (arith, c .before .before .before .before .before .before .before .before .before .before .before .before .before .before .before .before .before .before .before .line-end .ensures, find-le 10 (c .before .before .before .before .before .before .before .before .before .before .before .before .before .before .before .before .before .before .before .before .before .before .before .before .before .before .before .args .input .now) (c .before .before .before .before .before .before .before .before .before .before .before .before .before .before .before .before .before .before .before .before .before .loop .at), find-from 10 (c .before .before .before .before .before .before .before .before .before .before .before .before .before .before .before .before .before .before .before .before .before .before .before .before .before .before .before .args .input .now) (c .before .before .before .before .before .before .before .before .before .before .before .before .before .before .before .before .before .before .before .before .before .loop .at) (c .before .before .before .before .before .before .before .before .before .before .before .before .before .before .before .before .before .before .before .before .before .loop .inv .0))
+    let l = c .before .before .before .before .before .before .before .before .before .before .before .before .before .before .before .before .before .loop in
+    let a = c .before .before .before .before .before .before .before .before .before .before .before .before .before .before .before .before .before .before .before .before .before .before .before .args in
+    let e = c .before .before .before .before .before .before .before .before .before .before .before .before .before .before .before .line-end .ensures in
+    let u = find-le 10 (a .input .now) (l .at) in
+    let v = find-from 10 (a .input .now) (l .at) (l .inv .0) in
+    ⊎-elim (λ w. let k = said-within _ (l .out) _ (l .filled) _ (l .inv .1) (w .3 .ensures) in omega (arith, e, u, v, ap length (w .7), w .8))
+    (λ w. omega (arith, e, u, v, ap length (w .1), w .2)) (c .before .if2 .came)
 
 send-requires : tie.Need-send-requires Inv-loop μ-loop
 send-requires c κs = search needs
@@ -90,10 +108,10 @@ answer-all-spec =
     μ-loop
     loop-holds
     line-end-requires
-    sub-answer
-    part-answer-start
-    part-answer-end
-    answer-requires
+    sub-hear
+    part-hear-start
+    part-hear-end
+    hear-requires
     say-requires
     same-length
     same-length-2

@@ -9,12 +9,15 @@ use Rattle.bench.proofs.run.Statement.{statement}
 use Rattle.bench.proofs.run.Tie as tie
 
 abbrev Inv-loop : tie.InvT-loop
-Inv-loop list₀ all₀ queues₀ input₀ out₀ running₀ held₀ turns₀ list all queues input out running held turns =
+Inv-loop list₀ all₀ queues₀ input₀ out₀ bench₀ held₀ turns₀ list all queues input out bench held turns =
     (held ≤ length input) × (length list ≡ length list₀) × (length all ≡ length all₀) × (length queues ≡ length queues₀) × (length input ≡ length input₀) × (length out ≡ length out₀)
 
 abbrev μ-loop : tie.MeasureT-loop
-μ-loop list₀ all₀ queues₀ input₀ out₀ running₀ held₀ turns₀ list all queues input out running held turns =
+μ-loop list₀ all₀ queues₀ input₀ out₀ bench₀ held₀ turns₀ list all queues input out bench held turns =
     turns
+
+idle-requires : tie.Need-idle-requires Inv-loop μ-loop
+idle-requires c κs = search needs
 
 loop-holds : tie.Need-loop-holds Inv-loop μ-loop
 loop-holds c = search needs
@@ -136,6 +139,7 @@ run-spec =
     (tie.spec
     Inv-loop
     μ-loop
+    idle-requires
     loop-holds
     fill-requires
     unread-requires
