@@ -112,6 +112,11 @@ target/outside_wrong: $(OUTSIDE) $(wildcard tests/strength/wrong*.?pp) $(LIBRARY
 outside-strength: $(LIBRARY)
 	python3 tests/strength/changed_rules.py $(LIBRARY)
 
+# One fault after another put into the bench: its tests must see each. Some three minutes.
+.PHONY: bench-strength
+bench-strength:
+	python3 tests/strength/wrong_benches.py
+
 # The C++ wrapper and both examples, installed and linked by pkg-config, with every compiler here, in C++17 and C++20 and with sanitizers; by CMake,
 # where it is here; and the archive in a shared object.
 .PHONY: wrapper
