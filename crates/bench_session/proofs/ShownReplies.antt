@@ -15,7 +15,6 @@ use Rattle.bench_lines.specs.Words.{before, words, same}
 use Rattle.bench_lines.specs.Lines.{formOf, asks, lineOf}
 use Rattle.bench_session.specs.declared.showing.Output.{Output}
 use Rattle.bench_session.specs.declared.showing.Output.the-variants.{Undecided, Quiet, All}
-use Rattle.bench_session.specs.declared.showing.Bench.{Bench}
 use Rattle.bench_session.specs.Sessions.{groupLine, accepts, answerTo}
 use Rattle.bench_session.specs.Showing.{shows, hearingOf}
 use Rattle.bench_session.specs.Scripts.{linesOf, repliesTo, shownTo, acceptedAmong, beginsWithAll, AllShown, AcceptedShown, SameEvents, ShownPromise}

@@ -96,21 +96,13 @@ step-replies r b = rw (started-replies 2 3 r (startable r b) steps steps-given, 
 answers : List Reply
 answers = replied Accepted noEvent ∷ ruleReplies (started 2 3 benchViews) steps
 
-computed : map replyLine answers ≡ map output wholeCase
-unfolding wholeCase output answers steps ruleReplies replied decimalBy numbersText eventLine verdictLine
-    at at2 has isBeyond isRising risesAbove findOf
-    need withView withFirst after every all queues passing received delivered attempts sends hands
-    conditions everyBook everyQueue bookCounts counts listed bookListed sound
-    withListed booked own fresh started passStep orderStep deliverStep pick stepOf step
-computed = refl
-
-computed-quiet : map replyLine (acceptedAmong answers) ≡ map output (take 6 wholeCase)
+computed : (map replyLine answers ≡ map output wholeCase) × (map replyLine (acceptedAmong answers) ≡ map output (take 6 wholeCase))
 unfolding acceptedAmong wholeCase output answers steps ruleReplies replied decimalBy numbersText eventLine verdictLine
     at at2 has isBeyond isRising risesAbove findOf
     need withView withFirst after every all queues passing received delivered attempts sends hands
     conditions everyBook everyQueue bookCounts counts listed bookListed sound
     withListed booked own fresh started passStep orderStep deliverStep pick stepOf step
-computed-quiet = refl
+computed = (refl, refl)
 
 replies-are : (running : Bool) (r : Ranges) → OfBench r
     → repliesTo running r (linesOf (map input wholeCase)) ≡ answers
@@ -123,7 +115,7 @@ replies-are running r b =
 pub whole-case : WholeCase
 unfolding beginsWithAll wholeCase input same
 whole-case r b = record {
-  replies = λ running. ap (map replyLine) (replies-are running r b) ∙ computed;
-  shown = ap (map replyLine) (all-shown r _ ∙ replies-are false r b) ∙ computed;
-  quiet = ap (map replyLine) (accepted-shown r _ refl ∙ ap acceptedAmong (replies-are false r b)) ∙ computed-quiet;
+  replies = λ running. ap (map replyLine) (replies-are running r b) ∙ computed .0;
+  shown = ap (map replyLine) (all-shown r _ ∙ replies-are false r b) ∙ computed .0;
+  quiet = ap (map replyLine) (accepted-shown r _ refl ∙ ap acceptedAmong (replies-are false r b)) ∙ computed .1;
 }
