@@ -1,5 +1,7 @@
 // The member by itself, by direct calls: several members of one group, with a carrier that does nothing but keep what
 // was passed until it is delivered.
+#include <set>
+
 #include "../../include/dvs.h"
 #include "independent.hpp"
 #include "parts.hpp"
@@ -15,20 +17,19 @@ struct Slip { uint8_t bytes[DVS_LONGEST]; uint32_t length; };
 // The sets of tests/benchmark/steady_script.py: each has a majority of the one before.
 constexpr uint32_t kSets[] = {31, 15, 31, 7, 31, 30, 14, 31};
 
-// Books as bytes, by the library or by the independent implementation.
-#define CALLS(f) f(start) f(join) f(pass) f(deliver) f(attempt) f(enroll) f(send) f(hand) f(tell) f(safe) f(collect)
-constexpr auto dvs_enroll = dvs_register;
-struct Library {
-#define CALL(name) static constexpr auto name = dvs_##name;
-  CALLS(CALL)
-#undef CALL
-};
-struct Independent {
-#define CALL(name) static constexpr auto name = independent::name;
-  CALLS(CALL)
-#undef CALL
-};
-#undef CALLS
+// Books as bytes, by the library, by the independent implementation or, where one is given, by an earlier library, whose
+// functions then have their names behind before_.
+#define CALLS(f) f(start) f(join) f(pass) f(deliver) f(attempt) f(send) f(hand) f(tell) f(safe) f(collect)
+#define BY_DVS(name) static constexpr auto name = dvs_##name;
+#define BY_INDEPENDENT(name) static constexpr auto name = independent::name;
+#define BY_BEFORE(name) static constexpr auto name = before_dvs_##name;
+#define OF_BEFORE(name) decltype(dvs_##name) before_dvs_##name;
+struct Library { CALLS(BY_DVS) static constexpr auto enroll = dvs_register; };
+struct Independent { CALLS(BY_INDEPENDENT) static constexpr auto enroll = independent::enroll; };
+#ifdef BEFORE
+extern "C" { CALLS(OF_BEFORE) OF_BEFORE(register) }
+struct Before { CALLS(BY_BEFORE) static constexpr auto enroll = before_dvs_register; };
+#endif
 
 template <class By> struct Books {
   uint8_t books[kMost][DVS_BOOK_SIZE], event[DVS_EVENT_SIZE];
@@ -176,6 +177,38 @@ template <class Side> Work<Side> changes(Side& side, bool settled) {
   return work;
 }
 
+// Infos in a row, each of 32 views: it settles about half of the 31 views that the ones before have opened, names those
+// that stay and opens as many between and above them.
+std::vector<Slip> long_infos() {
+  constexpr uint32_t kApart = 1u << 20;
+  std::vector<Slip> slips(DVS_ORDERED);
+  std::set<uint32_t> open;
+  uint32_t random = 1, settled = 0;
+  for (Slip& slip : slips) {
+    settled += kApart;
+    open.erase(open.begin(), open.upper_bound(settled));
+    while (open.size() < DVS_OPEN) {
+      random = random * 1664525 + 1013904223;
+      open.insert(settled + 1 + random / (1u << 11));  // up to twice as far as the next settled view
+    }
+    plain::Message info;
+    info.kind = DVS_INFO, info.view = 1;
+    info.views[info.count++] = plain::View{settled, kSets[0]};
+    for (uint32_t id : open) info.views[info.count++] = plain::View{id, kSets[0]};
+    if (independent::write_struct(info, slip.bytes, sizeof slip.bytes, slip.length)) fail("an info cannot be written");
+  }
+  return slips;
+}
+
+// They are all taken by one member, in a view that it has joined.
+template <class Side> Work<Side> informed(Side& side, const std::vector<Slip>& infos) {
+  Work<Side> work{side};
+  work.take(side.start(0, kMost, kSets[0]));
+  work.take(side.join(0, 1, kSets[0]));
+  for (const Slip& info : infos) work.take(side.deliver(0, info, static_cast<uint32_t>(&info - &infos[0]) % kMost));
+  return work;
+}
+
 template <class Do> void compare_and_time(const char* what, Do work) {
   static Compared compared;
   static Books<Library> library;
@@ -183,9 +216,13 @@ template <class Do> void compare_and_time(const char* what, Do work) {
   static Structs structs;
   auto checked = work(compared);
   if (checked.accepted != checked.made) fail(std::string("refused in ") + what);
-  std::vector<Times> times = measure(checked.made, {[&] { return work(library).accepted; },
-                                                    [&] { return work(bytes).accepted; },
-                                                    [&] { return work(structs).accepted; }});
+  std::vector<Run> sides = {[&] { return work(library).accepted; }, [&] { return work(bytes).accepted; },
+                            [&] { return work(structs).accepted; }};
+#ifdef BEFORE
+  static Books<Before> before;
+  sides.push_back([&] { return work(before).accepted; });
+#endif
+  std::vector<Times> times = measure(checked.made, sides);
   if (memcmp(library.books, bytes.books, sizeof library.books)) fail("a book is otherwise after its timed runs");
   row(std::string(what) + ", " + std::to_string(checked.made), times);
 }
@@ -195,11 +232,17 @@ template <class Do> void compare_and_time(const char* what, Do work) {
 void members() {
   head("The member by itself, and how many calls a run is. bytes: parses the book, asks refusal 4, steps and stores\n"
        "in each call. struct: the host keeps a struct; each call asks refusal 4 of it and steps.",
+#ifdef BEFORE
+       {"library", "bytes", "struct", "before"});
+#else
        {"library", "bytes", "struct"});
+#endif
   compare_and_time("messages in a group of one", [](auto& side) { return steady(side, 1, 40); });
   compare_and_time("messages among five", [](auto& side) { return steady(side, 5, 20); });
   compare_and_time("views settled, among five", [](auto& side) { return changes(side, true); });
   compare_and_time("views left open, among five", [](auto& side) { return changes(side, false); });
+  const std::vector<Slip> infos = long_infos();
+  compare_and_time("infos of 32 views, half new", [&infos](auto& side) { return informed(side, infos); });
 }
 
 }  // namespace benchmark
