@@ -185,6 +185,34 @@ class Edges {
     }
   }
 
+  // An info in view 1: the settled view, and open views at every fourth identifier above it, off those by `off`, but for
+  // every `alike`-th of them.
+  void inform(uint32_t settled, unsigned opens, uint32_t off, unsigned alike, uint8_t set, uint32_t sender) {
+    plain::Message m;
+    m.kind = plain::kInfo, m.view = 1;
+    m.views[m.count++] = View{settled, set};
+    for (uint32_t id = settled - settled % 4 + 4; m.count <= opens; id += 4)
+      m.views[m.count] = View{m.count % alike ? id + off : id, set}, ++m.count;
+    uint8_t bytes[plain::kLongest];
+    plain::write(m, bytes, sizeof bytes);
+    c_.bytes.set(bytes, plain::length(m), kBack);
+    c_.deliver(book_, sender);
+  }
+
+  // Every number of open views beside every number of views in an info: none of its open views, every third or each of
+  // them open already, and its settled view below all that are open, between two of them, one of them, above them all.
+  void long_infos() {
+    cut(book_, plain::kBookSize, false);
+    for (unsigned own = 0; own <= plain::kOpen; ++own)
+      for (unsigned opens = 0; opens <= plain::kOpen; ++opens)
+        for (unsigned alike : {1u, 3u, 2 * plain::kViews})
+          for (uint32_t settled : {0u, 2 * own + 1, 4 * (own / 2), 4 * own + 1}) {
+            c_.start(book_, 3, 7, 0), c_.join(book_, 1, 7);
+            inform(0, own, 0, 1, 7, 0), inform(settled, opens, 2, alike, 3, 1);
+            c_.attempt(book_);
+          }
+  }
+
   // Every number of entries in an order of all four kinds, and each of them, or the place behind the last, at fault.
   void order_columns() {
     cut(list_, 5, false), cut(books_, plain::kBooksSize, false), cut(queues_, plain::queues_size(1), false);
@@ -224,7 +252,7 @@ class Edges {
   void run() {
     c_.usual();
     book_lengths(), other_lengths(), numbers(), group_lengths(), forms(), run_lengths(), group_numbers();
-    inward_columns(), order_columns();
+    inward_columns(), long_infos(), order_columns();
   }
 };
 

@@ -1,5 +1,6 @@
 pub mod CodeLaws
 pub mod LayoutLaws
+pub mod Opens
 pub mod Fits
 pub mod Parts
 pub mod RecordReads

@@ -2,8 +2,7 @@
 use mathlib.Core.Path.{_≡_, refl}
 use mathlib.Core.Bool.{Bool, true, false, cond}
 use mathlib.Core.List.{List, [], _∷_}
-use Prim.Native.Nat.{ℕ, _+_, _<_, _≤_, min}
-use native.Mathlib.Omega.{arith}
+use Prim.Native.Nat.{ℕ, _+_, _<_, _≤_}
 use borrow.Author.Tests.{le-leb, lt-leb}
 use lib.Dec.{eqb, leb}
 use lib.ListN.{getD}
@@ -18,9 +17,9 @@ use Rattle.rules.specs.Alone.{limitIf, setFitsIf}
 use Rattle.book_bytes.specs.declared.Seat.{Seat}
 use Rattle.book_bytes.specs.declared.Record.{Record}
 use Rattle.wire.specs.Reader.{viewIn, viewsIn}
-use Rattle.wire.proofs.ReaderLaws.{list-viewsIn}
 use Rattle.book_bytes.specs.Places.{settledAt, carrierAt, clientAt, opensAt}
 use Rattle.book_bytes.specs.Records.{seated, seatIn, recordIn}
+use Rattle.book_bytes.proofs.Opens.{opens-in}
 use Rattle.book_sound.specs.Parts.{recordSound, takenFits, positionsFit, viewsSound}
 use Rattle.rules.proofs.Truth.{both-unit, stopped, three}
 
@@ -83,13 +82,6 @@ record-are n h own new =
     (risesAbove (idOf (h .settled)) (listOf (h .opens)))
 
 -- ---- over a book's bytes
-
-pub opens-in : (b : List ℕ) → getD b opensAt 0 ≤ maxOpen → listOf (recordIn b .opens) ≡ viewsIn b (opensAt + 1) (getD b opensAt 0)
-unfolding recordIn
-opens-in b few =
-    let n = getD b opensAt 0 in
-    let m : min n maxOpen ≡ n = omega arith in
-    rw m (list-viewsIn b (opensAt + 1) n (omega arith))
 
 pub views-in : (b : List ℕ) (n : ℕ) → getD b opensAt 0 ≤ maxOpen → (settled : View) → settled ≡ viewIn b settledAt
     → viewsSound n (recordIn b) ≡ both (setFits n settled) (both (all (setFits n) (viewsIn b (opensAt + 1) (getD b opensAt 0)))

@@ -9,6 +9,7 @@ pub mod MeansTake
 pub mod JoinLaws
 pub mod RoomLaws
 pub mod TakeLaws
+pub mod InfoTurns
 pub mod MarkLaws
 pub mod SpeakLaws
 pub mod AttemptLaws

@@ -5,24 +5,27 @@ use mathlib.Core.Bool.{true, false}
 use mathlib.Core.List.{List, []}
 use Prim.Native.Nat.{ℕ, zero, suc, _+_, _-_, _≤_, _<_, min}
 use native.Mathlib.Omega.{arith}
-use borrow.Author.Tests.{le-leb, lt-leb}
+use borrow.Author.Tests.{lt-ltb, le-ltb, le-leb, lt-leb}
 use lib.ListN.{length, getD, set, length-take}
 use lib.Seq.{set-getD}
 use Rattle.numbers.specs.Number.{put}
 use Rattle.views.specs.declared.View.{View}
-use Rattle.views.specs.declared.list.Views.{Views}
+use Rattle.views.specs.declared.list.Lookup.{Lookup}
+use Rattle.views.specs.declared.list.Lookup.the-variants.{Found, Missing}
 use Rattle.views.specs.declared.refusal.Refusal.the-variants.{TooManyOpen}
 use Rattle.views.specs.declared.refusal.Verdict.the-variants.{Accepted, Refused}
 use Rattle.views.specs.Limits.{maxOpen, maxOrdered}
 use Rattle.views.specs.Refusals.{left}
-use Rattle.views.specs.Lists.{listOf, placed, unionOf, aboveOf}
+use Rattle.views.specs.Lists.{idOf, listOf, findOf, unionOf, aboveOf}
 use Rattle.views.proofs.SetLaws.{known}
 use Rattle.wire.specs.declared.Message.{Message as Carried}
 use Rattle.wire.specs.Reader.{viewIn, viewsIn}
 use Rattle.wire.specs.Writer.{storeView, storeViews}
+use Rattle.wire.specs.declared.merging.Merged.{Merged}
+use Rattle.wire.specs.Merges.{Merges}
 use Rattle.wire.proofs.ReaderLaws.{length-viewsIn, list-viewsIn}
 use Rattle.rules.specs.Data.{Member, Message, client, info, registered, told, Book as Ruled, need, after}
-use Rattle.rules.specs.Member.{clientIsCarrier, settledBy, learned, delivered}
+use Rattle.rules.specs.Member.{clientIsCarrier, ownOr, settledBy, learned, delivered}
 use Rattle.rules.specs.Alone.{infoOf, messageOf}
 use Rattle.book_bytes.specs.declared.Held.{Held}
 use Rattle.slots.specs.Changes.{gained}
@@ -30,14 +33,13 @@ use Rattle.slots.specs.Columns.{itemSender, itemNumber}
 use Rattle.slots.proofs.Outside.{set-changed, put-changed, storeView-changed, storeViews-changed}
 use Rattle.slots.proofs.CodeLaws.{no-views}
 use Rattle.book_bytes.specs.Places.{settledAt, takenAt, infosAt, registrationsAt, toldsAt, opensAt, bookSize}
-use Rattle.book_bytes.specs.Records.{recordIn, heldIn, storeOpens, storeHeld}
+use Rattle.book_bytes.specs.Records.{recordIn, storeOpens, storeHeld}
 use Rattle.book_bytes.specs.Books.{bookIn}
-use Rattle.record_steps.specs.Turns.{learnedBy}
+use Rattle.book_bytes.proofs.Opens.{opens-in}
 use Rattle.events.specs.declared.Reply.{Reply}
 use Rattle.events.specs.Replies.{noEvent, replied}
 use Rattle.book_steps.specs.Acts.{fewOpen, gaining, oneMore, noted, heldAfter, takeBytes}
 use Rattle.book_steps.specs.ArrivalParts.{Took}
-use Rattle.book_steps.proofs.Committed.{record-few}
 
 -- ---- the verdict: 43, or the message is taken
 
@@ -122,18 +124,33 @@ module _ (q : Member) (b : List ℕ) (r : Reply) (e : r ≡ replied Accepted noE
 
 -- ---- info
 
--- at most 31 were loaded of either side
-pub held-few-in : (b : List ℕ) (h : Held) → h ≡ heldIn b → h .opens .count ≤ maxOpen
-held-few-in b h e = rw e (record-few b)
+-- the settled view after it, by what the book's own is and whether x's identifier is open
+module _ (b : List ℕ) (x own : View) (e : own ≡ viewIn b settledAt) where
+  read : idOf own ≡ idOf (bookIn b .held .settled)
+  unfolding bookIn recordIn
+  read = ap idOf e
 
-pub views-few-in : (list : List ℕ) (from n : ℕ) (l : Views) → l ≡ placed (viewsIn list from n) → n ≤ maxOpen → l .count ≤ maxOpen
-views-few-in list from n l e few = rw e (omega (arith, length-viewsIn list from n))
+  pub settled-own : idOf x ≤ idOf own → own ≡ settledBy x (bookIn b .held)
+  unfolding settledBy bookIn recordIn
+  settled-own h = rw (le-ltb (idOf (viewIn b settledAt)) (idOf x) (omega (arith, read))) e
 
--- what is held after it, loaded and turned by value
-pub held-turned : (b list : List ℕ) (from n : ℕ) (x : View) (l : Views) (h next : Held) → n ≤ maxOpen → h ≡ heldIn b → l ≡ placed (viewsIn list from n)
-    → next ≡ learnedBy x l h → next ≡ heldAfter x (viewsIn list from n) b
-unfolding learnedBy heldAfter bookIn
-held-turned b list from n x l h next few e f g = rw (g, f, e, list-viewsIn list from n (omega arith))
+  module _ (few : getD b opensAt 0 ≤ maxOpen) (h : idOf own < idOf x) where
+    sought : (l : Lookup) → findOf (idOf x) (viewsIn b (opensAt + 1) (getD b opensAt 0)) ≡ l → ownOr x l ≡ settledBy x (bookIn b .held)
+    unfolding settledBy bookIn
+    sought l f = rw (lt-ltb (idOf (bookIn b .held .settled)) (idOf x) (omega (arith, read)), opens-in b few, f)
+
+    pub settled-found : (v : View) → findOf (idOf x) (viewsIn b (opensAt + 1) (getD b opensAt 0)) ≡ Found v → v ≡ settledBy x (bookIn b .held)
+    settled-found v f = sought (Found v) f
+
+    pub settled-new : findOf (idOf x) (viewsIn b (opensAt + 1) (getD b opensAt 0)) ≡ Missing → x ≡ settledBy x (bookIn b .held)
+    settled-new f = sought Missing f
+
+-- what is held after it, of the open views and those that came put together where they lie
+pub held-merged : (b list : List ℕ) (from n : ℕ) (x settled : View) (m : Merged) → getD b opensAt 0 ≤ maxOpen → settled ≡ settledBy x (bookIn b .held)
+    → Merges (viewsIn b (opensAt + 1) (getD b opensAt 0)) (viewsIn list from n) (idOf settled) m
+    → record { settled = settled; opens = m .views } ≡ heldAfter x (viewsIn list from n) b
+unfolding heldAfter learned bookIn
+held-merged b list from n x settled m few e w = rw (w .views, e, opens-in b few)
 
 module _ (q : Member) (v : View) (l : List View) (b : List ℕ) (next : Held) (e : next ≡ heldAfter v l b) (r : Reply) where
   counted : next .opens .count ≡ length (delivered q (info v l) (bookIn b) .held .opens)

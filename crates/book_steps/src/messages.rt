@@ -1,8 +1,10 @@
 // Deliver, in a sound book's bytes: a message of the carrier view is taken, its views where they lie.
+use book_bytes::Held;
 use events::Reply;
 use views::Member;
 use views::View;
 use views::limits;
+use views::list::Lookup;
 use views::refusal::Refusal;
 use views::refusal::Verdict;
 use views::sizes;
@@ -18,9 +20,10 @@ ghost use Rattle.views.specs.Refusals.{left};
 ghost use Rattle.wire.specs.declared.Message.the-variants.{Info};
 ghost use Rattle.wire.specs.Reader.{viewsIn};
 ghost use Rattle.rules.specs.Data.{client, info};
+ghost use Rattle.rules.specs.Member.{settledBy};
 ghost use Rattle.rules.specs.Alone.{infoOf, messageOf};
 ghost use Rattle.events.specs.Replies.{noEvent, replied, replyOf, verdictOf};
-ghost use Rattle.book_bytes.specs.Places.{bookSize, carrierAt, takenAt, sideAt};
+ghost use Rattle.book_bytes.specs.Places.{bookSize, carrierAt, takenAt, sideAt, opensAt};
 ghost use Rattle.book_bytes.specs.Books.{bookIn, bytesSound};
 ghost use Rattle.book_steps.specs.Acts.{taking, gaining, oneMore, noted, takeBytes};
 ghost use Rattle.book_steps.specs.ArrivalParts.{Took};
@@ -79,25 +82,45 @@ fn receive(b: &mut [u8], q: Member, x: u64) -> Reply
     count(b)
 }
 
+// The settled view after an info with the settled view x: an open view with x's identifier keeps the set it had.
+fn settled_by(b: &[u8], x: View) -> View
+    requires { ⌜ (bookSize ≤ length (now b)) × (getD (now b) opensAt 0 ≤ maxOpen) ⌝ }
+    ensures { λ r. ⌜ r ≡ settledBy x (bookIn (now (b .entry)) .held) ⌝ }
+{
+    let own = wire::reader::load_view(b, book_bytes::SETTLED);
+    if x.id.0 <= own.id.0 {
+        return own;
+    }
+    let count = b[book_bytes::OPENS] as usize;
+    match wire::in_bytes::find(b, book_bytes::OPENS + 1, count, x.id) {
+        Lookup::Found(v) => v,
+        Lookup::Missing => x,
+    }
+}
+
 // The info with the settled view x is taken, its n open views from a place on: 43 where more than 31 would be open.
 fn learn(b: &mut [u8], q: Member, x: View, list: &[u8], from: usize, n: usize) -> Reply
-    requires { ⌜ (bookSize ≤ length (now b)) × (getD (now b) takenAt 0 < maxOrdered) × (q .0 < maxMembers)
+    requires { ⌜ (bookSize ≤ length (now b)) × (getD (now b) takenAt 0 < maxOrdered)
+        × (getD (now b) opensAt 0 ≤ maxOpen) × (q .0 < maxMembers)
         × (from + viewSize * n ≤ length (now list)) × (n ≤ maxOpen) ⌝ }
     ensures { λ r. ⌜ Took (q .0) (info x (viewsIn (now (list .entry)) from n)) (now (b .entry)) (now (b .exit)) r ⌝ }
 {
-    let h = book_bytes::load_held(b);
-    let opens = wire::reader::load_views(list, from, n);
-    let next = record_steps::messages::learned(x, opens, h);
-    if limits::OPEN < next.opens.count {
+    let settled = settled_by(b, x);
+    let count = b[book_bytes::OPENS] as usize;
+    let merged = wire::merging::merge(b, book_bytes::OPENS + 1, count, list, from, n, settled.id);
+    let opens = merged.views;
+    if limits::OPEN < opens.count {
         return events::refuse(Refusal::TooManyOpen);
     }
+    let next = Held { settled, opens };
     book_bytes::store_held(b, next);
     note(b, book_bytes::INFOS, q)
 }
 
 // An info is taken, its n views from a place on. Where no view is open on either side no list is made.
 fn inform(b: &mut [u8], q: Member, list: &[u8], from: usize, n: usize) -> Reply
-    requires { ⌜ (bookSize ≤ length (now b)) × (getD (now b) takenAt 0 < maxOrdered) × (q .0 < maxMembers)
+    requires { ⌜ (bookSize ≤ length (now b)) × (getD (now b) takenAt 0 < maxOrdered)
+        × (getD (now b) opensAt 0 ≤ maxOpen) × (q .0 < maxMembers)
         × (from + viewSize * n ≤ length (now list)) × (n ≤ maxViews) × (1 ≤ n) ⌝ }
     ensures { λ r. ⌜ Took (q .0) (infoOf (viewsIn (now (list .entry)) from n)) (now (b .entry)) (now (b .exit)) r ⌝ }
 {

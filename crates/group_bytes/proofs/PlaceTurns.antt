@@ -14,8 +14,8 @@ use Rattle.views.specs.Lists.{idOf, isRising, risesAbove, noView}
 use Rattle.views.proofs.SetLaws.{known}
 use Rattle.views.proofs.Members.{In, top, pop}
 use Rattle.views.proofs.ListLaws.{rises-front, rises-all, rising-tail}
-use Rattle.wire.specs.Reader.{viewIn, viewsIn}
-use Rattle.wire.proofs.ReaderLaws.{length-viewsIn}
+use Rattle.wire.specs.Reader.{viewsIn}
+use Rattle.wire.proofs.ReaderLaws.{length-viewsIn, views-at}
 use Rattle.group_bytes.specs.Groups.{placeOf}
 use Rattle.group_bytes.proofs.PlaceLaws.{place-id, place-most}
 
@@ -50,14 +50,6 @@ place-low (v ∷ l) r zero h = omega arith
 place-low (v ∷ l) r (suc i) h = omega (arith, above-place (idOf v) l r i (omega arith))
 
 -- ---- the list in bytes
-
-pub views-at : (b : List ℕ) (at n i : ℕ) → i < n → getD (viewsIn b at n) i noView ≡ viewIn b (at + 5 * i)
-unfolding viewsIn
-views-at b at zero i h = absurd (omega (arith, h))
-views-at b at (suc n) zero h = let e : at ≡ at + 5 * 0 = omega arith in ap (λ (m : ℕ). viewIn b m) e
-views-at b at (suc n) (suc i) h =
-    let e : at + 5 + 5 * i ≡ at + 5 * suc i = omega arith in
-    views-at b (at + 5) n i (omega (arith, h)) ∙ ap (λ (m : ℕ). viewIn b m) e
 
 -- the identifier at a place of the list, which begins at 0
 id-at : (b : List ℕ) (n i : ℕ) → i < n → idOf (getD (viewsIn b 0 n) i noView) ≡ get b (5 * i) 4

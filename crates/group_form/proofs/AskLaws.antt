@@ -19,6 +19,7 @@ use Rattle.views.proofs.SetLaws.{known}
 use Rattle.views.proofs.ListLaws.{rises-front, rises-all, rising-tail, find-in}
 use Rattle.views.proofs.VerdictLaws.{never}
 use Rattle.wire.specs.Reader.{viewIn}
+use Rattle.wire.proofs.ReaderLaws.{views-at}
 use Rattle.rules.specs.Data.{Identifier, accepted, need, rank}
 use Rattle.rules.specs.Member.{all, passes}
 use Rattle.rules.specs.Group.{withListed}
@@ -32,7 +33,6 @@ use Rattle.book_bytes.specs.Books.{bookIn}
 use Rattle.group_bytes.specs.Places.{bookBytes}
 use Rattle.group_bytes.specs.Groups.{Ranges, membersOf, madeOf, viewsMade, placeOf, bookOf, groupIn, rangesSound}
 use Rattle.group_bytes.proofs.PlaceLaws.{length-made, place-found}
-use Rattle.group_bytes.proofs.PlaceTurns.{views-at}
 use Rattle.group_steps.proofs.Found.{found-at, missing-at}
 use Rattle.group_steps.proofs.Rows.{made-rise}
 use Rattle.group_form.specs.Parts.{noneAt, passesAt, newestOf, Asks}

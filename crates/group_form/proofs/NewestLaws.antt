@@ -18,6 +18,7 @@ use Rattle.views.specs.Lists.{idOf, findOf, noView}
 use Rattle.views.specs.Refusals.{left}
 use Rattle.views.proofs.VerdictLaws.{never}
 use Rattle.wire.specs.Reader.{viewIn}
+use Rattle.wire.proofs.ReaderLaws.{views-at}
 use Rattle.rules.specs.Data.{Identifier, Step, Result, refused, accepted, need}
 use Rattle.rules.specs.Forming.{formSteps, formOf, formCount}
 use Rattle.rules.proofs.Forming.Servers.{form-count}
@@ -26,7 +27,7 @@ use Rattle.group_bytes.specs.Groups.{Ranges, madeOf, viewsMade, placeOf, groupI
 use Rattle.group_bytes.specs.Steps.{lastRanges, repliesOf}
 use Rattle.group_bytes.specs.Forming.{firstRefusal, formResult, formVerdict, takenBy, formTaken}
 use Rattle.group_bytes.proofs.PlaceLaws.{length-made, place-found}
-use Rattle.group_bytes.proofs.PlaceTurns.{place-at, views-at}
+use Rattle.group_bytes.proofs.PlaceTurns.{place-at}
 use Rattle.group_bytes.proofs.GroupForms.{taken-leaves}
 use Rattle.group_steps.proofs.Rows.{ranged, made-rise}
 use Rattle.group_steps.proofs.Found.{found-at}

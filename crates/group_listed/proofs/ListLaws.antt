@@ -16,7 +16,7 @@ use Rattle.views.specs.Lists.{noView}
 use Rattle.views.specs.Refusals.{left}
 use Rattle.wire.specs.Format.{viewsBytes}
 use Rattle.wire.specs.Reader.{viewIn, viewsIn}
-use Rattle.wire.proofs.ReaderLaws.{length-viewsIn}
+use Rattle.wire.proofs.ReaderLaws.{length-viewsIn, views-at}
 use Rattle.wire.proofs.SeamLaws.{length-viewsBytes}
 use Rattle.wire.proofs.TripViews.{EachFits, views-back}
 use Rattle.rules.specs.Data.{Step}
@@ -27,7 +27,6 @@ use Rattle.group_bytes.specs.Places.{roomOf}
 use Rattle.group_bytes.specs.Groups.{Ranges, madeOf}
 use Rattle.group_bytes.specs.Moves.{createRanges, joinRanges, passRanges, orderRanges, deliverRanges}
 use Rattle.group_bytes.specs.Steps.{pickRanges, moved, stepResult, stepRanges}
-use Rattle.group_bytes.proofs.PlaceTurns.{views-at}
 use Rattle.group_listed.specs.Parts.{viewOr}
 
 -- ---- what a step changes of the list

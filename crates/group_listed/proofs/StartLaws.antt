@@ -25,7 +25,7 @@ use Rattle.views.proofs.PlaceLaws.{length-places, list-placed}
 use Rattle.views.specs.Refusals.{left}
 use Rattle.wire.specs.Format.{viewsBytes}
 use Rattle.wire.specs.Reader.{viewIn, viewsIn}
-use Rattle.wire.proofs.ReaderLaws.{length-viewsIn}
+use Rattle.wire.proofs.ReaderLaws.{length-viewsIn, views-at}
 use Rattle.wire.proofs.SeamLaws.{length-viewsBytes}
 use Rattle.rules.specs.Data.{Group, Result, refused, need}
 use Rattle.rules.specs.Sound.{conditions}
@@ -44,7 +44,6 @@ use Rattle.group_listed.specs.Parts.{bytesIn, rangesIn, fromOf, BegunBy}
 use Rattle.group_listed.specs.SliceParts.{laid}
 use Rattle.group_listed.proofs.SliceLaws.{laid-length, laid-here, laid-behind}
 use Rattle.group_listed.proofs.BytesLaws.{short-bytes, long-length}
-use Rattle.group_bytes.proofs.PlaceTurns.{views-at}
 
 -- ---- the bytes of a start
 

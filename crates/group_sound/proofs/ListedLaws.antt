@@ -15,14 +15,14 @@ use Rattle.views.proofs.Members.{In, top, pop, in-nil, in-cons, in-top}
 use Rattle.views.proofs.ListLaws.{rises-cons, rises-all, rising-tail, rising-unique}
 use Rattle.wire.specs.Reader.{viewIn, viewsIn}
 use Rattle.wire.proofs.InBytesLaws.{rows-turn}
-use Rattle.wire.proofs.ReaderLaws.{length-viewsIn}
+use Rattle.wire.proofs.ReaderLaws.{length-viewsIn, views-at}
 use Rattle.rules.specs.Member.{all}
 use Rattle.rules.specs.Sound.{listed}
 use Rattle.rules.proofs.TestLaws.{both-from, all-at, all-from, listed-in, listed-from}
 use Rattle.rules.proofs.Truth.{alike, unmet, both-unit}
 use Rattle.group_bytes.specs.Groups.{placeOf}
 use Rattle.group_bytes.proofs.PlaceLaws.{place-id, place-in}
-use Rattle.group_bytes.proofs.PlaceTurns.{in-at, views-at}
+use Rattle.group_bytes.proofs.PlaceTurns.{in-at}
 use Rattle.group_sound.specs.Parts.{viewsKnown}
 
 pub one-view : (v w : View) → idOf v ≡ idOf w → v .set ≡ w .set → v ≡ w

@@ -12,9 +12,8 @@ use Rattle.views.specs.declared.View.{View}
 use Rattle.views.specs.Limits.{maxMembers, maxViews, maxOpen}
 use Rattle.views.specs.Sizes.{viewSize}
 use Rattle.views.specs.Sets.{both}
-use Rattle.views.specs.Lists.{idOf, isRising, risesAbove, listOf}
+use Rattle.views.specs.Lists.{idOf, isRising, listOf}
 use Rattle.views.proofs.SetLaws.{both-true}
-use Rattle.views.proofs.ListLaws.{rises-front}
 use Rattle.wire.specs.Reader.{viewIn, viewsIn}
 use Rattle.rules.specs.Member.{all}
 use Rattle.rules.specs.Sound.{conditions, setFits, opensRise, listed, listedIf}
@@ -25,9 +24,8 @@ use Rattle.book_bytes.specs.declared.Record.{Record}
 use Rattle.book_bytes.specs.Places.{bookSize, settledAt, carrierAt, clientAt, opensAt}
 use Rattle.book_bytes.specs.Records.{seated, seatIn, recordIn}
 use Rattle.book_bytes.specs.Books.{outgoingIn, bookIn, layoutFits, bytesSound}
-use Rattle.book_bytes.proofs.LayoutLaws.{layout-says}
+use Rattle.book_bytes.proofs.Opens.{opens-in}
 use Rattle.rules.proofs.Truth.{both-unit}
-use Rattle.book_sound.proofs.Tests.{opens-in}
 use Rattle.group_bytes.specs.Places.{roomOf, booksSize, bookBytes, orderAt, queuesSize}
 use Rattle.group_bytes.specs.Groups.{Ranges, membersOf, madeOf, placeOf}
 use Rattle.group_sound.specs.Parts.{sizesFit, numbersFit, listSound, viewsKnown, recordListed, orderedIn, memberSound}
@@ -118,26 +116,13 @@ pub fits-layout : (b : List ℕ) → bytesSound b ≡ true → layoutFits b ≡ 
 unfolding bytesSound
 fits-layout b h = let (x, _) = conditions-say _ h in x
 
--- and its open views and those of its infos rise
-rises-rising : (g : ℕ) (l : List View) → risesAbove g l ≡ true → isRising l ≡ true
-unfolding isRising
-rises-rising g [] h = refl
-rises-rising g (v ∷ l) h = rises-front g v l h .1
-
-module _ (b : List ℕ) (h : bytesSound b ≡ true) where
-  pub opens-rise : isRising (viewsIn b (opensAt + 1) (getD b opensAt 0)) ≡ true
-  unfolding bytesSound bookSound bookIn
-  opens-rise =
-      let (_, (whole, _)) = conditions-say _ h in
-      let (_, (_, (_, (_, (_, (_, (_, (_, (rise, _))))))))) = conditions-say _ whole in
-      rw (← opens-in b (layout-says b (fits-layout b h) .opens)) (rises-rising _ _ rise)
-
-  pub infos-rise : all opensRise (outgoingIn b) ≡ true
-  unfolding bytesSound bookSound bookIn
-  infos-rise =
-      let (_, (whole, _)) = conditions-say _ h in
-      let (_, (_, (_, (_, (_, (_, (_, (_, (_, (rise, _)))))))))) = conditions-say _ whole in
-      rise
+-- and the views of its infos rise
+pub infos-rise : (b : List ℕ) → bytesSound b ≡ true → all opensRise (outgoingIn b) ≡ true
+unfolding bytesSound bookSound bookIn
+infos-rise b h =
+    let (_, (whole, _)) = conditions-say _ h in
+    let (_, (_, (_, (_, (_, (_, (_, (_, (_, (rise, _)))))))))) = conditions-say _ whole in
+    rise
 
 -- ---- the order of a listed view
 

@@ -2,8 +2,7 @@
 use mathlib.Core.Path.{_≡_, sym, ap, _∙_}
 use mathlib.Core.Bool.{true}
 use mathlib.Core.List.{List, _++_}
-use Prim.Native.Nat.{ℕ, zero, suc, _+_, _*_, _≤_, _<_}
-use native.Mathlib.Nat.{add-zero}
+use Prim.Native.Nat.{ℕ, _+_, _*_, _≤_, _<_}
 use native.Mathlib.Omega.{arith}
 use borrow.Author.Tests.{lt-ltb, le-ltb}
 use lib.ListN.{getD, take, drop}
@@ -14,7 +13,8 @@ use Rattle.views.specs.declared.refusal.Verdict.the-variants.{Refused}
 use Rattle.views.specs.Sizes.{viewSize}
 use Rattle.views.specs.Lists.{noView, findOf}
 use Rattle.views.specs.Refusals.{left}
-use Rattle.wire.specs.Reader.{viewIn, viewsIn}
+use Rattle.wire.specs.Reader.{viewIn}
+use Rattle.wire.proofs.ReaderLaws.{views-at}
 use Rattle.rules.specs.Data.{Member, Result, need}
 use Rattle.rules.specs.Member.{Done, joins}
 use Rattle.rules.specs.Group.{own, withListed, joinStep}
@@ -58,14 +58,6 @@ pub enter-done : (books : List ℕ) (p : Member) → p < getD books membersAt 0 
     → OwnStep p (ofMember books p (λ b. joins (selfIn b) w (bookIn b))) (joinBytes w) books exit x
 enter-done books p there v w e m size x c exit f g =
     rw (← e) (desk-done books p (λ b. joins (selfIn b) v (bookIn b)) (joinBytes v) x there m size c exit f g)
-
--- ---- the view at a place
-
-views-at : (b : List ℕ) (at n i : ℕ) → i < n → getD (viewsIn b at n) i noView ≡ viewIn b (at + viewSize * i)
-unfolding viewsIn
-views-at b at zero i h = absurd (omega arith)
-views-at b at (suc n) zero h = rw (add-zero at)
-views-at b at (suc n) (suc i) h = let e : at + viewSize * suc i ≡ at + 5 + viewSize * i = omega arith in rw e (views-at b (at + 5) n i (omega arith))
 
 -- ---- the row
 

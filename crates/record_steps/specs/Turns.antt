@@ -16,12 +16,11 @@ use Rattle.views.specs.Sets.{has, one}
 use Rattle.views.specs.Lists.{idOf, noView, listOf, placed, insertOf, aboveOf}
 use Rattle.rules.specs.Data as R
 use Rattle.rules.specs.Data.{Entry, entry, Item, item}
-use Rattle.rules.specs.Member.{isAbove, attempts, registers, sends, hands, tells, safes, collects, learned}
+use Rattle.rules.specs.Member.{isAbove, attempts, registers, sends, hands, tells, safes, collects}
 use Rattle.rules.specs.Member.{clientIsCarrier, hasRoom}
 use Rattle.book_bytes.specs.declared.Seat.{Seat}
 use Rattle.book_bytes.specs.declared.Record.{Record}
 use Rattle.book_bytes.specs.declared.Current.{Current}
-use Rattle.book_bytes.specs.declared.Held.{Held}
 use Rattle.book_bytes.specs.Records.{seated, meaning}
 use Rattle.record_steps.specs.declared.Stepped.{Stepped}
 use Rattle.events.specs.Replies.{verdictOf}
@@ -57,15 +56,6 @@ joinVerdict p v at =
 -- member q is in the set
 unfoldable pub withMember : ℕ → ℕ → ℕ
 withMember q s = bitOr s (2 ^ q)
-
--- what is held, in the rules' words
-abbrev pub heldMeaning : Held → R.Held
-heldMeaning h = record { settled = h .settled; opens = listOf (h .opens) }
-
--- what is held after an info with the settled view x and the open views l
-unfoldable pub learnedBy : View → Views → Held → Held
-learnedBy x l h =
-    let k = learned x (listOf l) (heldMeaning h) in record { settled = k .settled; opens = placed (k .opens) }
 
 -- ---- attempt
 

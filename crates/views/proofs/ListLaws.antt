@@ -37,10 +37,14 @@ rises-all g (x ∷ l) r v i =
     let f = rises-front g x l r in
     ⊎-elim (λ (e : v ≡ x). omega (arith, ap idOf e)) (λ (j : In v l). omega (arith, rises-all (idOf x) l (f .1) v j)) (in-cons i)
 
+pub rises-rising : (g : ℕ) (l : List View) → risesAbove g l ≡ true → isRising l ≡ true
+unfolding isRising
+rises-rising g [] r = refl
+rises-rising g (v ∷ l) r = rises-front g v l r .1
+
 pub rising-tail : (v : View) (l : List View) → isRising (v ∷ l) ≡ true → isRising l ≡ true
 unfolding isRising
-rising-tail v [] h = refl
-rising-tail v (w ∷ l) h = rises-front (idOf v) w l h .1
+rising-tail v l h = rises-rising (idOf v) l h
 
 pub rising-unique : (l : List View) → isRising l ≡ true → (v w : View) → In v l → In w l → idOf v ≡ idOf w → v ≡ w
 unfolding isRising

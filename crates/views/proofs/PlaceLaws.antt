@@ -108,7 +108,10 @@ filling-end whole at k f =
 pub length-used : (count : ℕ) (at : List View) → length at ≡ maxViews → length (take count at) ≡ min count maxViews
 length-used count at h = length-take count at ∙ ap (λ (n : ℕ). min count n) h
 
--- what is left of the list at a place: the view there, and what is left behind it
+-- what is left of a list at a place: the view there, and what is left behind it
+pub drop-here : (l : List View) (i : ℕ) → i < length l → drop i l ≡ getD l i noView ∷ drop (i + 1) l
+drop-here l i h = rw (add-one i, drop-cons l i noView h)
+
 pub drop-used : (count : ℕ) (at : List View) (i : ℕ) → i < length (take count at) → drop i (take count at) ≡ getD at i noView ∷ drop (i + 1) (take count at)
 drop-used count at i h =
-    rw (add-one i, drop-cons (take count at) i noView h, getD-take count at i noView (omega (arith, length-take count at)))
+    drop-here (take count at) i h ∙ rw (getD-take count at i noView (omega (arith, length-take count at)))

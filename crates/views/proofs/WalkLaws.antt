@@ -1,5 +1,5 @@
--- What a walk over the places of one or two records does at each place: find, rising, prune and union.
-use mathlib.Core.Path.{_≡_, refl}
+-- What a walk over a record's places does at each: find, prune, insert, rising; and one over two lists, where each turn is a choice.
+use mathlib.Core.Path.{_≡_, refl, ap, _∙_}
 use mathlib.Core.Logic.{⊎-elim}
 use mathlib.Core.Bool.{true, false}
 use mathlib.Core.List.{List, [], _∷_}
@@ -12,13 +12,22 @@ use borrow.Author.Tests.{lt-ltb, le-ltb, ltb-true, ltb-false, eq-eqb, ne-eqb}
 use Rattle.views.specs.declared.View.{View}
 use Rattle.views.specs.declared.list.Lookup.the-variants.{Found}
 use Rattle.views.specs.declared.list.Choice.{Choice}
-use Rattle.views.specs.Lists.{idOf, risesAbove, isRising, findOf, unionOf, aboveOf, noView}
+use Rattle.views.specs.Lists.{idOf, risesAbove, isRising, findOf, insertOf, unionOf, aboveOf, noView}
 use Rattle.views.specs.ChoiceParts.{choice, choiceOf}
 use Rattle.views.proofs.SetLaws.{known}
 use Rattle.views.proofs.ListLaws.{union-nil, union-front}
 use Rattle.views.proofs.PlaceLaws.{drop-used}
 
 -- ---- one list, which stands at i
+
+-- a view is kept above g, or left out
+pub above-cons : (g : ℕ) (v : View) (l : List View) → g < idOf v → aboveOf g (v ∷ l) ≡ v ∷ aboveOf g l
+unfolding aboveOf
+above-cons g v l h = rw (lt-ltb g (idOf v) h)
+
+pub above-skip : (g : ℕ) (v : View) (l : List View) → idOf v ≤ g → aboveOf g (v ∷ l) ≡ aboveOf g l
+unfolding aboveOf
+above-skip g v l h = rw (le-ltb g (idOf v) h)
 
 module _ (count : ℕ) (at : List View) (i : ℕ) (h : i < length (take count at)) (g : ℕ) where
   pub find-here : idOf (getD at i noView) ≡ g → findOf g (drop i (take count at)) ≡ Found (getD at i noView)
@@ -30,12 +39,24 @@ module _ (count : ℕ) (at : List View) (i : ℕ) (h : i < length (take count at
   find-on e = rw (drop-used count at i h, ne-eqb _ _ e)
 
   pub above-here : g < idOf (getD at i noView) → aboveOf g (drop i (take count at)) ≡ getD at i noView ∷ aboveOf g (drop (i + 1) (take count at))
-  unfolding aboveOf
-  above-here e = rw (drop-used count at i h, lt-ltb _ _ e)
+  above-here e = ap (aboveOf g) (drop-used count at i h) ∙ above-cons g (getD at i noView) (drop (i + 1) (take count at)) e
 
   pub above-on : idOf (getD at i noView) ≤ g → aboveOf g (drop i (take count at)) ≡ aboveOf g (drop (i + 1) (take count at))
-  unfolding aboveOf
-  above-on e = rw (drop-used count at i h, le-ltb _ _ e)
+  above-on e = ap (aboveOf g) (drop-used count at i h) ∙ above-skip g (getD at i noView) (drop (i + 1) (take count at)) e
+
+-- a view met on the way of x to its place: below it, with its identifier, above it
+module _ (x y : View) (l : List View) where
+  pub insert-on : idOf y < idOf x → insertOf x (y ∷ l) ≡ y ∷ insertOf x l
+  unfolding insertOf
+  insert-on h = rw (lt-ltb (idOf y) (idOf x) h)
+
+  pub insert-same : idOf x ≡ idOf y → insertOf x (y ∷ l) ≡ y ∷ l
+  unfolding insertOf
+  insert-same h = rw (le-ltb (idOf y) (idOf x) (omega arith), eq-eqb (idOf x) (idOf y) h)
+
+  pub insert-here : idOf x < idOf y → insertOf x (y ∷ l) ≡ x ∷ y ∷ l
+  unfolding insertOf
+  insert-here h = rw (le-ltb (idOf y) (idOf x) (omega arith), ne-eqb (idOf x) (idOf y) (λ e. omega arith))
 
 module _ (count : ℕ) (at : List View) (i : ℕ) (b : 1 ≤ i) where
   -- the view before i, the view at i and the others
@@ -102,11 +123,11 @@ module _ (k l : List View) (i j : ℕ) (x y : View)
         ⊎-elim (λ (u : eqb (idOf x) (idOf y) ≡ true). rw (t, u) (same t u)) (λ (u : eqb (idOf x) (idOf y) ≡ false). rw (t, u) (higher t u)) (known (eqb (idOf x) (idOf y))))
         (known (ltb (idOf y) (idOf x)))
 
-  pub chosen : i ≤ length k → j ≤ length l → i + j < length k + length l → Chosen k l i j (choiceOf (ltb i (length k)) x (ltb j (length l)) y)
-  chosen hi hj h =
+  pub chosen : (n m : ℕ) → length k ≡ n → length l ≡ m → i ≤ n → j ≤ m → i + j < n + m → Chosen k l i j (choiceOf (ltb i n) x (ltb j m) y)
+  chosen n m e f hi hj h =
       ⊎-elim
-      (λ (t : ltb i (length k) ≡ true).
-      let p : i < length k = ltb-true _ _ t in
-      ⊎-elim (λ (u : ltb j (length l) ≡ true). rw (t, u) (either p (ltb-true _ _ u))) (λ (u : ltb j (length l) ≡ false). rw (t, u) (only-x p (ltb-false _ _ u) hj)) (known (ltb j (length l))))
-      (λ (t : ltb i (length k) ≡ false). let p : length k ≤ i = ltb-false _ _ t in rw t (only-y p hi (omega arith)))
-      (known (ltb i (length k)))
+      (λ (t : ltb i n ≡ true).
+      let p : i < length k = omega (arith, ltb-true i n t) in
+      ⊎-elim (λ (u : ltb j m ≡ true). rw (t, u) (either p (omega (arith, ltb-true j m u)))) (λ (u : ltb j m ≡ false). rw (t, u) (only-x p (omega (arith, ltb-false j m u)) (omega arith))) (known (ltb j m)))
+      (λ (t : ltb i n ≡ false). let p : n ≤ i = ltb-false i n t in rw t (only-y (omega arith) (omega arith) (omega arith)))
+      (known (ltb i n))

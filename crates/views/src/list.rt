@@ -5,10 +5,8 @@ use crate::ViewId;
 use crate::limits;
 ghost use mathlib.Core.Path.{_≡_};
 ghost use Prim.Native.Nat.{_<_, min};
-ghost use lib.ListN.{getD};
-ghost use mathlib.Core.List.{[], _∷_};
 ghost use Rattle.views.specs.Limits.{maxViews};
-ghost use Rattle.views.specs.Lists.{noView, placed, isRising, listOf, findOf, unionOf, insertOf, aboveOf};
+ghost use Rattle.views.specs.Lists.{placed, isRising, listOf, findOf, insertOf, aboveOf};
 ghost use Rattle.views.specs.ChoiceParts.{choiceOf};
 
 pub struct Views {
@@ -37,33 +35,6 @@ pub fn used(count: usize) -> usize
     } else {
         limits::VIEWS
     }
-}
-
-// The view at a place, the zero view past the last place.
-pub fn view_at(list: Views, i: usize) -> View
-    ensures { λ r. ⌜ r ≡ getD (list .at) i noView ⌝ }
-{
-    if i < limits::VIEWS {
-        list.at[i]
-    } else {
-        View {
-            id: ViewId(0),
-            set: 0,
-        }
-    }
-}
-
-// The list of one view.
-pub fn single(v: View) -> Views
-    ensures { λ r. ⌜ r ≡ placed (v ∷ []) ⌝ }
-{
-    let none = View {
-        id: ViewId(0),
-        set: 0,
-    };
-    let mut at = [none; limits::VIEWS];
-    at[0] = v;
-    Views { count: 1, at }
 }
 
 // Each identifier is below the next.
@@ -138,40 +109,43 @@ pub fn choose(has_x: bool, x: View, has_y: bool, y: View) -> Choice
     }
 }
 
-// Both lists together; of two views with one identifier the first list's.
-pub fn union(a: Views, b: Views) -> Views
-    ensures { λ r. ⌜ r ≡ placed (unionOf (listOf a) (listOf b)) ⌝ }
+// The list with a view in its place, unless its identifier is there already.
+pub fn insert(list: Views, v: View) -> Views
+    ensures { λ r. ⌜ r ≡ placed (insertOf v (listOf list)) ⌝ }
 {
-    let n = used(a.count);
-    let m = used(b.count);
+    let n = used(list.count);
     let none = View {
         id: ViewId(0),
         set: 0,
     };
     let mut at = [none; limits::VIEWS];
     let mut k = 0;
+    let mut ahead = true;
     let mut i = 0;
-    let mut j = 0;
-    while i + j < n + m {
-        let x = view_at(a, i);
-        let y = view_at(b, j);
-        let c = choose(i < n, x, j < m, y);
+    while i < n {
+        let w = list.at[i];
+        if ahead {
+            if v.id.0 <= w.id.0 {
+                ahead = false;
+                if v.id.0 < w.id.0 {
+                    at[k] = v;
+                    k += 1;
+                }
+            }
+        }
         if k < limits::VIEWS {
-            let v = c.view;
+            at[k] = w;
+        }
+        k += 1;
+        i += 1;
+    }
+    if ahead {
+        if k < limits::VIEWS {
             at[k] = v;
         }
         k += 1;
-        i += c.left;
-        j += c.right;
     }
     Views { count: k, at }
-}
-
-// The list with a view in its place, unless its identifier is there already.
-pub fn insert(list: Views, v: View) -> Views
-    ensures { λ r. ⌜ r ≡ placed (insertOf v (listOf list)) ⌝ }
-{
-    union(list, single(v))
 }
 
 // Only the views above the identifier.

@@ -1,6 +1,6 @@
 -- What a walk over views in bytes does at each, n views from a place on of which i are passed; and a told's count by the two
 -- halves of its eight bytes.
-use mathlib.Core.Path.{_≡_, ap}
+use mathlib.Core.Path.{_≡_, sym, ap, _∙_}
 use mathlib.Core.Bool.{true, false}
 use mathlib.Core.List.{List, _∷_}
 use Prim.Native.Nat.{ℕ, suc, _+_, _-_, _*_, _<_, _≤_}
@@ -9,8 +9,9 @@ use borrow.Author.Tests.{lt-ltb, le-ltb, lt-leb, le-leb, eq-eqb, ne-eqb}
 use lib.Dec.{leb}
 use lib.ListN.{getD}
 use Rattle.views.specs.declared.View.{View}
+use Rattle.views.specs.declared.list.Lookup.the-variants.{Found, Missing}
 use Rattle.views.specs.Limits.{maxOrdered}
-use Rattle.views.specs.Lists.{idOf, isRising, risesAbove}
+use Rattle.views.specs.Lists.{idOf, isRising, risesAbove, findOf}
 use Rattle.views.specs.Sets.{both}
 use Rattle.wire.specs.Format.{someEmpty}
 use Rattle.wire.specs.Reader.{viewIn, viewsIn}
@@ -60,6 +61,14 @@ module _ (b : List ℕ) (at n i : ℕ) (h : i < n) where
     unfolding risesAbove
     rises-on g k = rw (rows-turn, ← read, lt-ltb g (idOf v) k)
 
+    pub find-here : (g : ℕ) → idOf v ≡ g → findOf g (viewsIn b (at + 5 * i) (n - i)) ≡ Found v
+    unfolding findOf
+    find-here g k = rw (rows-turn, eq-eqb (idOf (viewIn b (at + 5 * i))) g (sym read ∙ k)) (ap (λ (w : View). Found w) (sym e))
+
+    pub find-on : (g : ℕ) → (idOf v ≡ g → ⊥) → findOf g (viewsIn b (at + 5 * i) (n - i)) ≡ findOf g (viewsIn b (at + 5 * (i + 1)) (n - (i + 1)))
+    unfolding findOf
+    find-on g k = rw (rows-turn, ← read, ne-eqb (idOf v) g k)
+
 module _ (b : List ℕ) (at n : ℕ) (z : n ≡ 0) where
   pub empty-end : someEmpty (viewsIn b at n) ≡ false
   unfolding someEmpty viewsIn
@@ -68,6 +77,10 @@ module _ (b : List ℕ) (at n : ℕ) (z : n ≡ 0) where
   pub rises-end : (g : ℕ) → risesAbove g (viewsIn b at n) ≡ true
   unfolding risesAbove viewsIn
   rises-end g = rw z
+
+  pub find-end : (g : ℕ) → findOf g (viewsIn b at n) ≡ Missing
+  unfolding findOf viewsIn
+  find-end g = rw z
 
   pub rising-none : isRising (viewsIn b at n) ≡ true
   unfolding isRising viewsIn

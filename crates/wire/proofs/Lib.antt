@@ -1,6 +1,7 @@
 pub mod VerdictLaws
 pub mod FormatLaws
 pub mod ReaderLaws
+pub mod DifferentLaws
 pub mod InBytesLaws
 pub mod SeamLaws
 pub mod WriterLaws

@@ -5,7 +5,7 @@ use Prim.Native.Nat.{ℕ, zero, suc, _+_, _*_, _<_, _≤_}
 use native.Mathlib.Nat.{add-zero}
 use native.Mathlib.Omega.{arith}
 use borrow.Author.Tests.{leb-true, le-leb, lt-leb}
-use lib.ListN.{length, set, take}
+use lib.ListN.{length, getD, set, take}
 use Rattle.numbers.specs.Number.{get}
 use Rattle.views.specs.declared.View.{View}
 use Rattle.views.specs.declared.list.Views.{Views}
@@ -13,7 +13,7 @@ use Rattle.views.specs.declared.refusal.Refusal.{Refusal}
 use Rattle.views.specs.declared.refusal.Refusal.the-variants.{BytesLeftOver}
 use Rattle.views.specs.declared.refusal.Verdict.the-variants.{Accepted, Refused}
 use Rattle.views.specs.Limits.{maxViews}
-use Rattle.views.specs.Lists.{listOf, places, placed}
+use Rattle.views.specs.Lists.{noView, listOf, places, placed}
 use Rattle.wire.specs.declared.Message.{Message}
 use Rattle.wire.specs.declared.Reading.{Reading}
 use Rattle.wire.specs.Reader.{kindIn, viewIn, viewsIn, viewCount, numbersPlace, numberCount, endOf, numberIn, messageOf, scanOf, wholeOf, refused, readFront, readOf}
@@ -42,6 +42,14 @@ unfolding viewsIn
 viewsIn-take b at zero m h = refl
 viewsIn-take b at (suc n) zero h = absurd (omega arith)
 viewsIn-take b at (suc n) (suc m) h = ap (λ (l : List View). viewIn b at ∷ l) (viewsIn-take b (at + 5) n m (omega arith))
+
+pub views-at : (b : List ℕ) (at n i : ℕ) → i < n → getD (viewsIn b at n) i noView ≡ viewIn b (at + 5 * i)
+unfolding viewsIn
+views-at b at zero i h = absurd (omega arith)
+views-at b at (suc n) zero h = rw (add-zero at)
+views-at b at (suc n) (suc i) h =
+    let f : at + 5 * suc i ≡ at + 5 + 5 * i = omega arith in
+    rw f (views-at b (at + 5) n i (omega arith))
 
 pub load-turn : (b : List ℕ) (at i : ℕ) → i < maxViews
     → set (places (viewsIn b at i)) i (viewIn b (at + 5 * i)) ≡ places (viewsIn b at (i + 1))

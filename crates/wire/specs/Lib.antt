@@ -4,3 +4,4 @@ pub mod Reader
 pub mod Writer
 pub mod Records
 pub mod Promises
+pub mod Merges

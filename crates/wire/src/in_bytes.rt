@@ -2,6 +2,7 @@
 use crate::reader;
 use views::ViewId;
 use views::limits;
+use views::list::Lookup;
 use views::sizes;
 ghost use mathlib.Core.Path.{_≡_};
 ghost use Prim.Native.Nat.{_+_, _*_, _≤_};
@@ -11,7 +12,7 @@ ghost use Rattle.numbers.specs.Number.{get};
 ghost use Rattle.views.specs.Limits.{maxOrdered};
 ghost use Rattle.views.specs.Sizes.{viewSize, numberSize};
 ghost use Rattle.views.specs.Sets.{both};
-ghost use Rattle.views.specs.Lists.{risesAbove, isRising};
+ghost use Rattle.views.specs.Lists.{risesAbove, isRising, findOf};
 ghost use Rattle.wire.specs.Format.{someEmpty};
 ghost use Rattle.wire.specs.Reader.{viewsIn};
 
@@ -74,4 +75,20 @@ pub fn rising(b: &[u8], from: usize, count: usize) -> bool
     }
     let first = reader::load_view(b, from);
     rise_above(b, from + sizes::VIEW, count - 1, first.id)
+}
+
+// The view with the identifier.
+pub fn find(b: &[u8], from: usize, count: usize, id: ViewId) -> Lookup
+    requires { ⌜ from + viewSize * count ≤ length (now b) ⌝ }
+    ensures { λ r. ⌜ r ≡ findOf (id .0) (viewsIn (now (b .entry)) from count) ⌝ }
+{
+    let mut i = 0;
+    while i < count {
+        let v = reader::load_view(b, from + sizes::VIEW * i);
+        if v.id.0 == id.0 {
+            return Lookup::Found(v);
+        }
+        i += 1;
+    }
+    Lookup::Missing
 }

@@ -1,6 +1,7 @@
 // Messages as bytes: a kind, the identifier of the view sent in, a section of views and a section of numbers.
 pub mod format;
 pub mod in_bytes;
+pub mod merging;
 pub mod reader;
 pub mod record;
 pub mod writer;

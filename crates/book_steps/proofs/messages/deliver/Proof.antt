@@ -2,7 +2,7 @@
 use mathlib.Core.Path.{refl}
 use Prim.Native.Nat.{_+_}
 use native.Mathlib.Omega.{arith}
-use Rattle.book_steps.proofs.Committed.{sound-size}
+use Rattle.book_steps.proofs.Committed.{sound-size, sound-layout}
 use Rattle.book_steps.proofs.TakeLaws.{set-ready, set-long, took-carried, took-registered, took-told}
 use borrow.Author.Needs.{needs}
 use Rattle.book_steps.proofs.messages.deliver.Statement.{statement}
@@ -18,7 +18,10 @@ enum-told : tie.Need-enum-told
 enum-told c = search needs
 
 inform-requires : tie.Need-inform-requires
-inform-requires c κs = let pre = c .before .before .before .before .before .before .pre in (omega (arith, sound-size _ (pre .0)), pre .1, pre .3, pre .4, pre .5, pre .6 (c .before .enum-told .given .1))
+inform-requires c κs =
+    let pre = c .before .before .before .before .before .before .pre in
+    let layout = sound-layout _ (pre .0) in
+    (omega (arith, layout .size), pre .1, layout .opens, pre .3, pre .4, pre .5, pre .6 (c .before .enum-told .given .1))
 
 enum-told-2 : tie.Need-enum-told-2
 enum-told-2 c = search needs

@@ -24,7 +24,7 @@ note-requires : tie.Need-note-requires
 note-requires c κs =
     let pre = c .before .before .before .before .before .before .before .before .before .before .before .before .before .before .pre in
     let ready = settled-ready _ _ (pre .0, pre .1) _ (c .before .before .before .store-view .ensures) in
-    (ready .0, ready .1, pre .2, omega arith, omega arith)
+    (ready .0, ready .1, pre .3, omega arith, omega arith)
 
 same-length : tie.Need-same-length
 same-length c = search needs
@@ -47,7 +47,7 @@ same-length-2 : tie.Need-same-length-2
 same-length-2 c = search needs
 
 returns-2 : tie.Need-returns-2
-returns-2 c = inform-long _ _ _ _ _ _ _ _ (c .before .before .before .before .before .before .before .before .pre .5) (c .before .before .before .before .before .load-view .ensures) (c .before .before .learn .ensures)
+returns-2 c = inform-long _ _ _ _ _ _ _ _ (c .before .before .before .before .before .before .before .before .pre .6) (c .before .before .before .before .before .load-view .ensures) (c .before .before .learn .ensures)
 
 pub inform-spec : {M : Type 1} → statement M
 inform-spec =

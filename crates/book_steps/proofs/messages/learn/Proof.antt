@@ -1,23 +1,29 @@
--- `book_steps::messages::learn` meets its contract: what is held after the info is the rule's, loaded, turned by value and stored.
+-- `book_steps::messages::learn` meets its contract: the settled view is the rule's, and so are both lists put together above it.
 use mathlib.Core.Path.{ap, _∙_}
 use mathlib.Core.List.{List}
 use Prim.Native.Nat.{ℕ}
 use native.Mathlib.Omega.{arith}
 use Rattle.book_bytes.specs.Places.{infosAt}
 use Rattle.book_steps.specs.Acts.{oneMore, noted}
-use Rattle.book_steps.proofs.TakeLaws.{held-few-in, views-few-in, held-turned, held-ready, took-info, over-info}
+use Rattle.book_steps.proofs.TakeLaws.{held-merged, held-ready, took-info, over-info}
 use borrow.Author.Needs.{needs}
 use Rattle.book_steps.proofs.messages.learn.Statement.{statement}
 use Rattle.book_steps.proofs.messages.learn.Tie as tie
 
-load-held-requires : tie.Need-load-held-requires
-load-held-requires c κs = search needs
+settled-by-requires : tie.Need-settled-by-requires
+settled-by-requires c κs = search needs
 
-load-views-requires : tie.Need-load-views-requires
-load-views-requires c κs = search needs
+slice-read-count : tie.Need-slice-read-count
+slice-read-count c = search needs
 
-learned-requires : tie.Need-learned-requires
-learned-requires c κs = (held-few-in _ _ (c .before .load-held .ensures), views-few-in _ _ _ _ (c .load-views .ensures) (c .before .before .before .before .before .pre .4))
+cast-count : tie.Need-cast-count
+cast-count c = search needs
+
+add-merge : tie.Need-add-merge
+add-merge c = search needs
+
+merge-requires : tie.Need-merge-requires
+merge-requires c κs = search needs
 
 refuse-requires : tie.Need-refuse-requires
 refuse-requires c κs = search needs
@@ -27,8 +33,8 @@ same-length c = search needs
 
 returns : tie.Need-returns
 returns c =
-    let s = c .before .before .before .before .before .before .before .before .before in
-    let e = held-turned _ _ _ _ _ _ _ _ (s .pre .4) (c .before .before .before .before .before .load-held .ensures) (c .before .before .before .before .load-views .ensures) (c .before .before .before .learned .ensures) in
+    let s = c .before .before .before .before .before .before .before .before .before .before .before in
+    let e = held-merged _ _ _ _ _ _ _ (s .pre .2) (c .before .before .before .before .before .before .before .settled-by .ensures) (c .before .before .before .before .merge .ensures) in
     over-info (s .args .q .0) _ _ _ _ e _ (c .before .if1 .taken) (c .refuse .ensures)
 
 store-held-requires : tie.Need-store-held-requires
@@ -36,17 +42,17 @@ store-held-requires c κs = search needs
 
 note-requires : tie.Need-note-requires
 note-requires c κs =
-    let pre = c .before .before .before .before .before .before .before .before .before .before .before .before .before .pre in
+    let pre = c .before .before .before .before .before .before .before .before .before .before .before .before .before .before .before .pre in
     let ready = held-ready _ _ (pre .0, pre .1) _ (c .before .before .before .before .before .if1 .left) (c .before .before .before .store-held .ensures) in
-    (ready .0, ready .1, pre .2, omega arith, omega arith)
+    (ready .0, ready .1, pre .3, omega arith, omega arith)
 
 same-length-2 : tie.Need-same-length-2
 same-length-2 c = search needs
 
 returns-2 : tie.Need-returns-2
 returns-2 c =
-    let s = c .before .before .before .before .before .before .before .before .before .before .before .before .before .before .before .before in
-    let e = held-turned _ _ _ _ _ _ _ _ (s .pre .4) (c .before .before .before .before .before .before .before .before .before .before .before .before .load-held .ensures) (c .before .before .before .before .before .before .before .before .before .before .before .load-views .ensures) (c .before .before .before .before .before .before .before .before .before .before .learned .ensures) in
+    let s = c .before .before .before .before .before .before .before .before .before .before .before .before .before .before .before .before .before .before in
+    let e = held-merged _ _ _ _ _ _ _ (s .pre .2) (c .before .before .before .before .before .before .before .before .before .before .before .before .before .before .settled-by .ensures) (c .before .before .before .before .before .before .before .before .before .before .before .merge .ensures) in
     let note = c .before .before .note in
     took-info (s .args .q .0) _ _ _ _ e _ (c .before .before .before .before .before .before .before .before .if1 .left) (note .ensures .0) _ (note .ensures .1 ∙ ap (λ (z : List ℕ). oneMore (noted infosAt (s .args .q .0) z)) (c .before .before .before .before .before .before .store-held .ensures))
 
@@ -54,9 +60,11 @@ pub learn-spec : {M : Type 1} → statement M
 learn-spec =
     tie.close
     (tie.spec
-    load-held-requires
-    load-views-requires
-    learned-requires
+    settled-by-requires
+    slice-read-count
+    cast-count
+    add-merge
+    merge-requires
     refuse-requires
     same-length
     returns

@@ -13,8 +13,9 @@ use Rattle.book_bytes.specs.Places.{outgoingAt, takenAt}
 use Rattle.book_bytes.specs.Records.{seated, recordIn}
 use Rattle.book_bytes.specs.Books.{outgoingIn}
 use Rattle.book_bytes.proofs.LayoutLaws.{layout-says}
+use Rattle.book_bytes.proofs.Opens.{opens-rise}
 use Rattle.group_sound.specs.Parts.{orderedIn, bookKnown}
-use Rattle.group_sound.proofs.Tests.{record-carrier, fits-layout, opens-rise, infos-rise}
+use Rattle.group_sound.proofs.Tests.{record-carrier, fits-layout, infos-rise}
 use Rattle.group_sound.proofs.Infos.{known-listed}
 use borrow.Author.Needs.{needs}
 use Rattle.group_sound.proofs.members.book_known.Statement.{statement}
