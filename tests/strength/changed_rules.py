@@ -32,6 +32,8 @@ FULL = "if (in_step() && outgoings == kOutgoing) return kOutgoingFull;"
 FRESH = "if (newest().id != id || joined(id)) return kViewNotFresh;"
 TRIED = "if (Refusal r = tried.step(s.kind, s.first, s.second, Range{event, kEventSize})) return r;"
 COUNTED = "put(count.at, kLengthSize, steps(newest()).size());"
+PRUNED = "      prune(views, count, now);\n"
+JOINED = "for (unsigned i = 1; i < m.count; ++i) open_view(views, count, now, m.views[i]);\n"
 MOVED_UP = "for (unsigned i = 0; i < outgoings; ++i) outgoing[i] = outgoing[i + 1];"
 
 # For each file what stands there, and what is put in its place: at its first occurrence.
@@ -88,6 +90,8 @@ CHANGES = {
         (MOVED_UP, MOVED_UP + " memset(&outgoing[outgoings], 0, kSlotSize);"),
         ("if (open[i].id == now.id) now = open[i];", ";"),
         gone("prune(views, count, now);"),
+        # joined into 32 places first, and pruned then
+        (PRUNED + "      " + JOINED, JOINED.replace("open_view(views, count, now,", "if (count < kViews) open_view(views, count, settled,") + PRUNED),
         ("if (count > kOpen) return kTooManyOpen;\n      settled", "if (count > kOpen + 1) return kTooManyOpen;\n      settled"),
         ("m.views[0].id > settled.id", "m.views[0].id >= settled.id"),
         ("carrier.id <= client.id", "carrier.id < client.id"),

@@ -2,22 +2,30 @@
 use mathlib.Core.Path.{_≡_}
 use mathlib.Core.Bool.{true}
 use mathlib.Core.List.{List, _++_}
-use Prim.Native.Nat.{ℕ, _+_}
+use Prim.Native.Nat.{ℕ, _+_, _-_}
 use lib.ListN.{getD}
 use Rattle.views.specs.declared.View.{View}
+use Rattle.views.specs.declared.refusal.Verdict.the-variants.{Accepted}
+use Rattle.views.specs.Sizes.{viewSize}
 use Rattle.views.specs.Lists.{idOf, risesAbove}
 use Rattle.wire.specs.declared.merging.Merged.{Merged}
-use Rattle.wire.specs.Reader.{viewsIn}
+use Rattle.wire.specs.Reader.{viewsAt, viewCount, viewsIn, readOf}
 use Rattle.wire.specs.Merges.{differentIn, Merges}
 use Rattle.book_bytes.specs.Places.{opensAt}
 use Rattle.book_bytes.specs.Books.{bookIn, bytesSound}
 
--- in a sound book, with an info whose open views l rise above its settled view x: the walk takes exactly as many turns
--- as there are different identifiers in the two lists, whatever it leaves out
-abbrev pub InfoTurns : Type 0
-InfoTurns =
-    (b : List ℕ) (x : View) (l : List View) (g : ℕ) (r : Merged)
-    → bytesSound b ≡ true
-    → risesAbove (idOf x) l ≡ true
-    → Merges (viewsIn b (opensAt + 1) (getD b opensAt 0)) l g r
+-- the walk that joins l to the open views of the book b, whatever it leaves out, takes exactly as many turns as there
+-- are different identifiers in the two lists
+abbrev pub TurnsWith : List ℕ → List View → Type 0
+TurnsWith b l =
+    (g : ℕ) (r : Merged) → Merges (viewsIn b (opensAt + 1) (getD b opensAt 0)) l g r
     → r .turns ≡ differentIn (bookIn b .held .opens ++ l)
+
+-- in a sound book
+pub record InfoTurns : Type 0 where
+  -- with an info whose open views rise above its settled view x: 4 asks that of every queued one
+  pub queued : (b : List ℕ) → bytesSound b ≡ true → (x : View) (l : List View) → risesAbove (idOf x) l ≡ true
+      → TurnsWith b l
+  -- with the open views of a message that was read, which stand behind the settled one
+  pub read : (b : List ℕ) → bytesSound b ≡ true → (c : List ℕ) → readOf c .verdict ≡ Accepted
+      → TurnsWith b (viewsIn c (viewsAt + viewSize) (viewCount c - 1))
