@@ -37,7 +37,7 @@ target/unproved/libdvs.a: $(SOURCES)
 # a package. The version stands here alone; tests/checks/header_check.py holds the header and the library to it.
 .PHONY: install
 PREFIX ?= /usr/local
-VERSION := 0.3.0
+VERSION := 0.4.0
 HOST_DOCUMENTS := $(wildcard $(addprefix docs/,HOST.md LAYOUT.md REFUSALS.md SPEC.md))
 CMAKE_FILES := dvsConfig.cmake dvsConfigVersion.cmake
 install: $(LIBRARY)
@@ -167,9 +167,9 @@ target/bin/bench: $(SOURCES)
 target/unproved/bench: $(SOURCES)
 	.ci/unproved bench
 
-# What the library costs beside independent implementations in C++: messages, calls of the member and of the group, views formed by one call, lines of
-# the bench, and how a step's cost grows with what the records hold. The others are compiled by LLVM too, where it is here, and for speed: make benchmark
-# BENCHMARK_CXX=g++ for another. With BEFORE=LIBRARY, the libdvs.a of an earlier version, its calls of the member are timed beside this one's.
+# What the library costs beside independent implementations in C++: messages, calls of the member, packets, calls of the group, views formed by one call,
+# lines of the bench, and how a step's cost grows with what the records hold. The others are compiled by LLVM too, where it is here, and for speed: make
+# benchmark BENCHMARK_CXX=g++ for another. With BEFORE=LIBRARY, the libdvs.a of an earlier version, its calls of the member are timed beside this one's.
 .PHONY: benchmark
 BENCHMARK_CXX := $(or $(shell command -v clang++),$(CXX))
 BENCHMARK_DIR := target/benchmark/$(notdir $(BENCHMARK_CXX))$(if $(BEFORE),-before)

@@ -3,8 +3,8 @@
  *
  * The library keeps no memory of its own, calls nothing but C's memcpy, memmove and memset, and never blocks. 8 KB of stack are enough for any call
  * but dvs_group_form, for which 88 KB are: it keeps there what it may have to put back. Its time is bounded by what the ranges hold: some microseconds
- * for a call on a book; a step of a group looks at all of its group, microseconds for a fresh one and milliseconds for one whose queues are full;
- * dvs_group_run and dvs_group_form take the time of their steps.
+ * for a call on a book, some tens for a packet of 128 messages; a step of a group looks at all of its group, microseconds for a fresh one and
+ * milliseconds for one whose queues are full; dvs_group_run and dvs_group_form take the time of their steps.
  *
  * The host lends byte ranges, each as a pointer and a length in bytes, and gives plain numbers. A call answers any bytes, any lengths and any numbers:
  *
@@ -31,7 +31,7 @@ extern "C" {
 
 /* ---- the version: major * 10000 + minor * 100 + patch; dvs_version() gives the library's, which a host compares with this once */
 
-#define DVS_VERSION 300u
+#define DVS_VERSION 400u
 
 /* ---- limits */
 
@@ -47,7 +47,8 @@ extern "C" {
 
 #define DVS_BOOK_SIZE 5234u                                          /* a member's book */
 #define DVS_EVENT_SIZE 16u                                           /* an event that a call gives out, of the kinds below */
-#define DVS_LENGTH_SIZE 4u                                           /* a number that a call gives out: the length of a message, how many steps */
+#define DVS_LENGTH_SIZE 4u                                           /* a number that a call gives out: bytes of a message, how many steps */
+#define DVS_DELIVERY_SIZE 5u                                         /* what a packet came to: how many messages were taken, what stopped it */
 #define DVS_MESSAGE_SIZE 174u                                        /* a message's record, of the kinds below */
 #define DVS_VIEW_SIZE 5u                                             /* a view record: identifier 4, set 1 */
 #define DVS_LIST_SIZE(views) (DVS_VIEW_SIZE * DVS_COUNT(views))      /* a group's list with room for 1 to 32 views */
@@ -64,16 +65,17 @@ extern "C" {
 
 /* ---- the ranges by number: dvs_size gives the lengths above to callers that have no macros */
 
-#define DVS_SIZE_BOOK 1u    /* DVS_BOOK_SIZE */
-#define DVS_SIZE_EVENT 2u   /* DVS_EVENT_SIZE */
-#define DVS_SIZE_LENGTH 3u  /* DVS_LENGTH_SIZE */
-#define DVS_SIZE_MESSAGE 4u /* DVS_MESSAGE_SIZE */
-#define DVS_SIZE_BUFFER 5u  /* DVS_LONGEST: a buffer for any message */
-#define DVS_SIZE_LIST 6u    /* DVS_LIST_SIZE(views) */
-#define DVS_SIZE_BOOKS 7u   /* DVS_BOOKS_SIZE */
-#define DVS_SIZE_QUEUES 8u  /* DVS_QUEUES_SIZE(views) */
-#define DVS_SIZE_STEP 9u    /* DVS_STEP_SIZE */
-#define DVS_SIZE_ANSWER 10u /* DVS_ANSWER_SIZE */
+#define DVS_SIZE_BOOK 1u      /* DVS_BOOK_SIZE */
+#define DVS_SIZE_EVENT 2u     /* DVS_EVENT_SIZE */
+#define DVS_SIZE_LENGTH 3u    /* DVS_LENGTH_SIZE */
+#define DVS_SIZE_MESSAGE 4u   /* DVS_MESSAGE_SIZE */
+#define DVS_SIZE_BUFFER 5u    /* DVS_LONGEST: a buffer for any message */
+#define DVS_SIZE_LIST 6u      /* DVS_LIST_SIZE(views) */
+#define DVS_SIZE_BOOKS 7u     /* DVS_BOOKS_SIZE */
+#define DVS_SIZE_QUEUES 8u    /* DVS_QUEUES_SIZE(views) */
+#define DVS_SIZE_STEP 9u      /* DVS_STEP_SIZE */
+#define DVS_SIZE_ANSWER 10u   /* DVS_ANSWER_SIZE */
+#define DVS_SIZE_DELIVERY 11u /* DVS_DELIVERY_SIZE */
 
 /* ---- places in a book that a host may want to look at; of a book that was started and changed by the calls alone. docs/LAYOUT.md has all of them */
 
@@ -112,6 +114,11 @@ extern "C" {
 #define DVS_EVENT_SET 6u    /* 1 byte: its set, of attempt alone */
 #define DVS_EVENT_SENDER 7u /* 1 byte: the sender, of hand and safe */
 #define DVS_EVENT_ENTRY 8u  /* 8 bytes: the entry number, of send, hand and safe */
+
+/* ---- places in a delivery: DVS_DELIVERY_SIZE bytes */
+
+#define DVS_DELIVERY_COUNT 0u   /* 4 bytes: how many messages of the packet were taken */
+#define DVS_DELIVERY_STOPPED 4u /* 1 byte: the refusal of the one behind them (DVS_REFUSED_...), 0 where all were taken */
 
 /* ---- places in a run's records: a step, DVS_STEP_SIZE bytes, and the answer to it, DVS_ANSWER_SIZE bytes */
 
@@ -215,7 +222,8 @@ uint64_t dvs_size(uint32_t range, uint32_t views);
  * ---- the member by itself: one office's part, over a carrier of the host's own
  *
  * The book has DVS_BOOK_SIZE bytes. After dvs_start it is changed by these calls alone; a book of any other bytes is answered too, by 4 where it is no
- * sound book. The refusals stand in the order in which they are checked; 4 and then 6 come before them in every call but dvs_start.
+ * sound book. The refusals stand in the order in which they are checked; 4 and then 6 come before them in every call but dvs_start and
+ * dvs_deliver_packet, which name all of theirs.
  *
  * What a host owes is in docs/HOST.md, with what comes of it otherwise; no call can see it. Of the carrier and the hosts this is asked, and what is
  * proved of books over a host's own carrier rests on it:
@@ -242,9 +250,16 @@ uint32_t dvs_join(uint8_t *book, size_t book_size, uint32_t view, uint32_t set);
  * what lies behind the message in the buffer stays. 13, 14, 39. */
 uint32_t dvs_pass(uint8_t *book, size_t book_size, uint8_t *buffer, size_t buffer_size, uint8_t *length, size_t length_size);
 
-/* The next message of the carrier view's order, from `sender`, is taken. What the carrier gives is
- * taken as it comes: a message given twice is taken twice. A view has 128 messages of all kinds. 13, 32 to 38, 7, 41, 42, 16, 43. */
+/* The next message of the carrier view's order, from `sender`, is taken; the bytes must be this one message as a whole. What the carrier gives is taken
+ * as it comes: a message given twice is taken twice. A view has 128 messages of all kinds. 13, 32 to 38, 7, 41, 42, 16, 43. */
 uint32_t dvs_deliver(uint8_t *book, size_t book_size, const uint8_t *bytes, size_t bytes_size, uint32_t sender);
+
+/* A packet: the messages in `bytes`, one behind the other and all from `sender`, are taken one by one up to the first refusal. `delivery`
+ * (DVS_DELIVERY_SIZE bytes) gets how many were taken and the refusal that stopped it, 0 for none: those taken stay taken, and the refused one changes
+ * nothing. The call itself has 4 alone; once it is passed the answer is 0, whatever stopped the packet. In the delivery, for each message: 6, 13,
+ * 32 to 37, 7, 41, 42, 16, 43; never 38, since what lies behind a message is the next one. Of an empty packet nothing but 4 is asked. */
+uint32_t dvs_deliver_packet(uint8_t *book, size_t book_size, const uint8_t *bytes, size_t bytes_size, uint32_t sender, uint8_t *delivery,
+                            size_t delivery_size);
 
 /* The carrier view is attempted: it becomes the client view, this office's primary one. 13, 19, 20, 21, 43. */
 uint32_t dvs_attempt(uint8_t *book, size_t book_size, uint8_t *event, size_t event_size);
@@ -273,6 +288,11 @@ uint32_t dvs_check(const uint8_t *book, size_t book_size);
 /*
  * ---- messages: the bytes that go over the line, and a record of DVS_MESSAGE_SIZE bytes
  */
+
+/* Reads the message at the front of the bytes, and gives how many of them it took in `length` (DVS_LENGTH_SIZE bytes): what lies behind them is not
+ * looked at, and a packet is read by reading its front until no byte is left. Every byte of the record is written, 0 where the message has nothing. 4,
+ * 32 to 34 as the bytes come, then 35 to 37. */
+uint32_t dvs_read_front(const uint8_t *bytes, size_t bytes_size, uint8_t *message, size_t message_size, uint8_t *length, size_t length_size);
 
 /* Reads one message, which the bytes must be as a whole; every byte of the record is written, 0 where the message has nothing. 4, 32 to 34 as the
  * bytes come, then 35 to 38. */
@@ -336,8 +356,12 @@ static inline uint32_t dvs_event_set(const uint8_t *event) { return event[DVS_EV
 static inline uint32_t dvs_event_sender(const uint8_t *event) { return event[DVS_EVENT_SENDER]; }
 static inline uint64_t dvs_event_entry(const uint8_t *event) { return dvs_get64(event + DVS_EVENT_ENTRY); }
 
-/* A length, or a count of steps. */
+/* A length, a number of bytes that a message took, or a count of steps. */
 static inline size_t dvs_length(const uint8_t *length) { return dvs_get32(length); }
+
+/* A delivery. */
+static inline size_t dvs_delivery_count(const uint8_t *delivery) { return dvs_get32(delivery + DVS_DELIVERY_COUNT); }
+static inline uint32_t dvs_delivery_stopped(const uint8_t *delivery) { return delivery[DVS_DELIVERY_STOPPED]; }
 
 /* A view record: in a book, a list or a message's record. */
 static inline uint32_t dvs_view_identifier(const uint8_t *view) { return dvs_get32(view + DVS_VIEW_IDENTIFIER); }

@@ -10,6 +10,7 @@
 //   auto joined = book.join({dvs::Identifier{1}, dvs::Set{0b111}});           // the carrier gave a view
 //   while (auto message = book.pass()) my_carrier.post(message->bytes());     // what is to go over the line
 //   auto taken = book.deliver(bytes, dvs::Member{0});                         // what came over it, own messages too, in the view's order
+//   auto some = book.deliver_packet(bytes, dvs::Member{0});                   // the same of several messages: some->delivered, some->stopped
 //   if (auto event = book.attempt()) work_in(event->view, event->set);        // the view is now this office's primary one
 //   if (auto event = book.hand()) take(event->sender, event->entry);          // to be withdrawn where it never becomes safe
 //   if (auto event = book.safe()) keep(event->sender, event->entry);          // every office of the view has it: final
@@ -24,6 +25,7 @@
 #include <array>
 #include <cstddef>
 #include <cstdint>
+#include <iterator>
 #include <optional>
 #include <type_traits>
 
@@ -34,6 +36,89 @@ inline namespace DVS_INLINE_NAMESPACE {
 inline bool same_version() noexcept { return dvs_version() == DVS_VERSION; }
 
 // ---- messages
+
+// Reads the message at the front of the bytes; what lies behind it is not looked at.
+inline Result<Front> read_front(Bytes bytes) noexcept {
+  MessageRecord record{};
+  detail::LengthBytes length{};
+  const auto refusal =
+      static_cast<Refusal>(dvs_read_front(bytes.data(), bytes.size(), record.data(), record.size(), length.data(), length.size()));
+  if (refusal != Refusal::none) return refusal;
+  return Front{Message::from(record), dvs_length(length.data())};
+}
+
+// The messages of a packet, one after the other, up to its end or to the first that cannot be read:
+//
+//   auto messages = dvs::messages_in(bytes);
+//   for (const dvs::Message &message : messages) look_at(message);
+//   if (messages.refusal() != dvs::Refusal::none) log(dvs::text(messages.refusal()));   // what lies behind the first messages.taken() bytes is none
+//
+// It holds one message at a time, and a loop begins with the first again. The bytes must outlive it.
+class MessagesIn {
+ public:
+  explicit MessagesIn(Bytes bytes) noexcept : bytes_(bytes) {}
+
+  // Of the last loop: why it ended, none where no byte was left or the host ended it; and how many bytes the messages took that it came to.
+  Refusal refusal() const noexcept { return refusal_; }
+  std::size_t taken() const noexcept { return taken_; }
+
+  class Iterator {
+   public:
+    using iterator_category = std::input_iterator_tag;
+    using value_type = Message;
+    using difference_type = std::ptrdiff_t;
+    using pointer = const Message *;
+    using reference = const Message &;
+    // The message that the iterator was at before a step.
+    struct Before {
+      Message message;
+      const Message &operator*() const noexcept { return message; }
+    };
+
+    Iterator() noexcept = default;
+    explicit Iterator(MessagesIn *messages) noexcept : messages_(messages->next() ? messages : nullptr) {}
+    const Message &operator*() const noexcept { return messages_->message_; }
+    const Message *operator->() const noexcept { return &messages_->message_; }
+    Iterator &operator++() noexcept {
+      if (!messages_->next()) messages_ = nullptr;
+      return *this;
+    }
+    Before operator++(int) noexcept {
+      const Before before{**this};
+      ++*this;
+      return before;
+    }
+    friend bool operator==(Iterator a, Iterator b) noexcept { return a.messages_ == b.messages_; }
+    friend bool operator!=(Iterator a, Iterator b) noexcept { return a.messages_ != b.messages_; }
+
+   private:
+    MessagesIn *messages_ = nullptr;   // null behind the last
+  };
+  Iterator begin() & noexcept {
+    taken_ = 0;
+    refusal_ = Refusal::none;
+    return Iterator(this);
+  }
+  Iterator end() & noexcept { return {}; }
+
+ private:
+  // Whether there is a message behind those that were read; then it is the one held.
+  bool next() noexcept {
+    if (taken_ == bytes_.size()) return false;
+    const Result<Front> front = read_front(Bytes(bytes_.data() + taken_, bytes_.size() - taken_));
+    refusal_ = front.refusal();
+    if (!front) return false;
+    message_ = front->message;
+    taken_ += front->taken;
+    return true;
+  }
+
+  Bytes bytes_;
+  std::size_t taken_ = 0;
+  Refusal refusal_ = Refusal::none;
+  Message message_{};
+};
+inline MessagesIn messages_in(Bytes bytes) noexcept { return MessagesIn(bytes); }
 
 // Reads one message, which the bytes must be as a whole.
 inline Result<Message> read(Bytes bytes) noexcept {
@@ -160,6 +245,15 @@ class Book {
   Result<void> deliver(Bytes message, Member sender) noexcept {
     return refused(dvs_deliver(data(), size(), message.data(), message.size(), number(sender)));
   }
+  // The next messages of the order, all from one sender, one behind the other in one packet: they are taken one by one up to the first refusal. What
+  // stopped it is in the delivery; a refusal of the call means that nothing was taken, and the book is no sound one.
+  Result<Delivery> deliver_packet(Bytes packet, Member sender) noexcept {
+    detail::DeliveryBytes delivery{};
+    const Refusal refusal = refused(
+        dvs_deliver_packet(data(), size(), packet.data(), packet.size(), number(sender), delivery.data(), delivery.size()));
+    if (refusal != Refusal::none) return refusal;
+    return Delivery::from(delivery);
+  }
   // The carrier view becomes the client view, this office's primary one. Refusal::test_failed: it is not to be one.
   Result<Event> attempt() noexcept {
     return with_event([this](std::uint8_t *event) { return dvs_attempt(data(), size(), event, DVS_EVENT_SIZE); });
@@ -207,6 +301,39 @@ class Book {
 };
 static_assert(sizeof(Book) == DVS_BOOK_SIZE && std::is_standard_layout_v<Book>, "a book is its bytes");
 static_assert(!std::is_copy_constructible_v<Book> && !std::is_copy_assignable_v<Book>, "a book is not copied");
+
+// Joins messages in a buffer of the host's, one behind the other. What is refused adds nothing, and the buffer stays as it was.
+//
+//   dvs::PacketWriter packet(buffer);
+//   while (packet.pass(book)) {}                                              // all that is outgoing, or as much as there is room for
+//   if (!packet.empty()) my_carrier.post(packet.bytes());
+class PacketWriter {
+ public:
+  explicit PacketWriter(MutableBytes buffer) noexcept : buffer_(buffer) {}
+
+  // One message more; gives its length.
+  Result<std::size_t> add(const Message &message) noexcept { return added(write(message, rest())); }
+  // The book's first outgoing message, and its length, as Book::pass gives it. Refusal::buffer_too_short: it is still the first outgoing one.
+  Result<std::size_t> pass(Book &book) noexcept { return added(book.pass(rest())); }
+
+  // What was written lies in the buffer.
+  Bytes bytes() const noexcept { return {buffer_.data(), size_}; }
+  std::size_t size() const noexcept { return size_; }
+  std::size_t messages() const noexcept { return messages_; }
+  bool empty() const noexcept { return messages_ == 0; }
+
+ private:
+  MutableBytes rest() const noexcept { return {buffer_.data() + size_, buffer_.size() - size_}; }
+  Result<std::size_t> added(const Result<std::size_t> &length) noexcept {
+    if (!length) return length;
+    size_ += *length;
+    ++messages_;
+    return length;
+  }
+
+  MutableBytes buffer_;
+  std::size_t size_ = 0, messages_ = 0;
+};
 
 // ---- the whole group
 

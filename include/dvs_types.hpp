@@ -1,4 +1,4 @@
-// dvs_types.hpp: the values that dvs.hpp takes and gives: ranges of bytes, refusals and results, members, sets and views, events, messages.
+// dvs_types.hpp: the values that dvs.hpp takes and gives: ranges of bytes, refusals and results, members, sets and views, events, messages, deliveries.
 //
 // For programs that name them and make no call; dvs.hpp includes it. Nothing here calls the library.
 #ifndef DVS_TYPES_HPP
@@ -340,6 +340,7 @@ constexpr std::uint8_t set_byte(Set set) noexcept { return static_cast<std::uint
 
 using EventBytes = std::array<std::uint8_t, DVS_EVENT_SIZE>;
 using LengthBytes = std::array<std::uint8_t, DVS_LENGTH_SIZE>;
+using DeliveryBytes = std::array<std::uint8_t, DVS_DELIVERY_SIZE>;
 
 }  // namespace detail
 
@@ -522,6 +523,28 @@ constexpr bool operator==(const MessageBytes &a, const MessageBytes &b) noexcept
   return true;
 }
 constexpr bool operator!=(const MessageBytes &a, const MessageBytes &b) noexcept { return !(a == b); }
+
+// ---- packets: messages one behind the other
+
+// The message at the front of some bytes, and how many of them it took.
+struct Front {
+  Message message{};
+  std::size_t taken = 0;
+};
+constexpr bool operator==(const Front &a, const Front &b) noexcept { return a.message == b.message && a.taken == b.taken; }
+constexpr bool operator!=(const Front &a, const Front &b) noexcept { return !(a == b); }
+
+// What a packet came to. A stop is no refusal of the call: the messages before it stay taken, and the one that it refused changed nothing.
+struct Delivery {
+  std::size_t delivered = 0;
+  Refusal stopped = Refusal::none;   // none: every message was taken
+
+  static constexpr Delivery from(Bytes bytes) noexcept {
+    return {static_cast<std::size_t>(detail::get(bytes, DVS_DELIVERY_COUNT, 4)), static_cast<Refusal>(detail::byte(bytes, DVS_DELIVERY_STOPPED))};
+  }
+};
+constexpr bool operator==(const Delivery &a, const Delivery &b) noexcept { return a.delivered == b.delivered && a.stopped == b.stopped; }
+constexpr bool operator!=(const Delivery &a, const Delivery &b) noexcept { return !(a == b); }
 
 }  // namespace DVS_INLINE_NAMESPACE
 }  // namespace dvs

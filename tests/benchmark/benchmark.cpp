@@ -22,6 +22,7 @@ int main(int argc, char** argv) {
          kRounds, load[0], std::thread::hardware_concurrency(), kCompiler);
   messages();
   members();
+  packets();
   groups(argv[1]);
   forms();
   lines(argv[1], {argv[2], argv[3], argv[4]});

@@ -86,6 +86,15 @@ uint32_t Kept::pass(uint8_t* buffer, size_t buffer_size, uint32_t& length) {
 uint32_t Kept::deliver(const uint8_t* bytes, size_t bytes_size, uint32_t sender) {
   return step([&] { return m_.deliver(bytes, bytes_size, sender); });
 }
+uint32_t Kept::packet(const uint8_t* bytes, size_t bytes_size, uint32_t sender) {
+  uint32_t taken = 0;
+  step([&] {
+    for (size_t at = 0, front = 0; at < bytes_size; at += front, ++taken)
+      if (Refusal r = m_.deliver_front(bytes + at, bytes_size - at, sender, front)) return r;
+    return kAccepted;
+  });
+  return taken;
+}
 uint32_t Kept::attempt(Event& event) { return step([&] { return m_.attempt(event); }); }
 uint32_t Kept::enroll(Event& event) { return step([&] { return m_.enroll(event); }); }
 uint32_t Kept::send(uint64_t entry, Event& event) { return step([&] { return m_.send(entry, event); }); }

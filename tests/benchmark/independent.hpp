@@ -40,6 +40,8 @@ class Kept {
   uint32_t join(uint32_t view, uint32_t set);
   uint32_t pass(uint8_t* buffer, size_t buffer_size, uint32_t& length);
   uint32_t deliver(const uint8_t* bytes, size_t bytes_size, uint32_t sender);
+  // How many messages of the packet were taken.
+  uint32_t packet(const uint8_t* bytes, size_t bytes_size, uint32_t sender);
   uint32_t attempt(plain::Event& event);
   uint32_t enroll(plain::Event& event);
   uint32_t send(uint64_t entry, plain::Event& event);

@@ -7,6 +7,7 @@ namespace benchmark {
 
 void messages();
 void members();
+void packets();
 void groups(const std::string& script);
 void forms();
 void lines(const std::string& script, const std::vector<std::string>& programs);

@@ -11,7 +11,8 @@ from sources import ROOT, constants, source
 WIDTHS = {'u8': 'uint8_t', 'u32': 'uint32_t', 'u64': 'uint64_t'}
 BOOK_PLACES = ('MEMBERS', 'SELF', 'SETTLED', 'CARRIER', 'CLIENT', 'REGISTERED', 'HANDED', 'TOLD', 'REPORTED', 'TAKEN', 'INFOS',
                'REGISTRATIONS', 'TOLDS', 'OPENS', 'OUTGOING')
-RANGES = ('BOOK', 'EVENT', 'LENGTH', 'MESSAGE', 'BUFFER', 'LIST', 'BOOKS', 'QUEUES', 'STEP', 'ANSWER')
+RANGES = ('BOOK', 'EVENT', 'LENGTH', 'MESSAGE', 'BUFFER', 'LIST', 'BOOKS', 'QUEUES', 'STEP', 'ANSWER',
+          'DELIVERY')
 faults = []
 
 
@@ -45,7 +46,8 @@ def expected_constants():
     answers, messages, kinds = constants('c_answers/src/lib.rt'), constants('wire/src/record.rt'), constants('wire/src/format.rt')
     wanted = {'DVS_' + name: limits[name] for name in ('MEMBERS', 'VIEWS', 'OPEN', 'OUTGOING', 'WAITING', 'ORDERED', 'LONGEST')}
     wanted.update(DVS_BOOK_SIZE=books['SIZE'], DVS_EVENT_SIZE=answers['EVENT'], DVS_LENGTH_SIZE=answers['LENGTH'],
-                  DVS_MESSAGE_SIZE=messages['RECORD'], DVS_VIEW_SIZE=groups['VIEW'], DVS_BOOKS_SIZE=groups['BOOKS'])
+                  DVS_DELIVERY_SIZE=answers['DELIVERY'], DVS_MESSAGE_SIZE=messages['RECORD'], DVS_VIEW_SIZE=groups['VIEW'],
+                  DVS_BOOKS_SIZE=groups['BOOKS'])
     wanted['DVS_LIST_SIZE(views)'] = '(DVS_VIEW_SIZE * DVS_COUNT(views))'
     wanted['DVS_QUEUES_SIZE(views)'] = '(%du + %du * DVS_COUNT(views))' % (groups['HEAD'], groups['TABLE'])
     wanted['DVS_QUEUES_ORDER(i)'] = '(%du + %du * DVS_COUNT(i))' % (groups['HEAD'], groups['TABLE'])
@@ -58,9 +60,10 @@ def expected_constants():
     # a run's records: the kind and the number stand first
     wanted.update(DVS_STEP_SIZE=run['STEP'], DVS_STEP_KIND=0, DVS_STEP_FIRST=run['FIRST'], DVS_STEP_SECOND=run['SECOND'],
                   DVS_ANSWER_SIZE=run['ANSWER'], DVS_ANSWER_NUMBER=0, DVS_ANSWER_EVENT=run['SHOWN'])
-    # the places in an event and in a message's record
+    # the places in an event, in a delivery and in a message's record
     wanted.update({'DVS_EVENT_' + name: answers[name] for name in ('KIND', 'MEMBER', 'VIEW', 'SENDER', 'ENTRY')})
     wanted['DVS_EVENT_SET'] = answers['VIEW'] + sizes['IDENTIFIER']
+    wanted.update({'DVS_DELIVERY_' + name: answers[name] for name in ('COUNT', 'STOPPED')})
     wanted.update({'DVS_MESSAGE_' + name: messages[name] for name in ('KIND', 'VIEW', 'NUMBER', 'COUNT', 'VIEWS')})
     wanted.update({'DVS_' + name: kinds[name] for name in ('CLIENT', 'INFO', 'REGISTERED', 'TOLD')})
     # the steps, by the kinds of the dispatcher's arms; the refusals, by their numbers

@@ -43,6 +43,7 @@ wanted = {
     'A run: steps and answers': [behind(run['STEP'], 0), behind(run['STEP'], run['FIRST']), behind(run['STEP'], run['SECOND'])]
     + [behind(run['ANSWER'], 0), behind(run['ANSWER'], run['SHOWN'])],
     'An event': [event['KIND'], event['MEMBER'], event['VIEW'], event['VIEW'] + identifier, event['SENDER'], event['ENTRY']],
+    'A delivery': [event['COUNT'], event['STOPPED']],
     "A message's record": [record['KIND'], record['VIEW'], record['NUMBER'], record['COUNT'], at(record['VIEWS'], (view, 'i'))],
 }
 lengths = {
@@ -53,6 +54,7 @@ lengths = {
     'The books': group['BOOKS'],
     'An event': event['EVENT'],
     'A number that a call gives out': event['LENGTH'],
+    'A delivery': event['DELIVERY'],
     "A message's record": record['RECORD'],
 }
 faults = []

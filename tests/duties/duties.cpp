@@ -260,6 +260,33 @@ void too_many_open() {
   go_over(last, {0, 1, 2}, view);
 }
 
+// Office 1 takes a packet of office 0, of which the line cut the end, and then what the line brings once more: from the message that was stopped on, or
+// the packet from its front. What it is handed then.
+std::string handed(bool from_the_stop) {
+  Offices offices = fresh();
+  offices[0].send(7);
+  offices[0].send(8);
+  std::vector<std::uint8_t> packet;
+  for (const Message &message : offices[0].pass()) packet.insert(packet.end(), message.bytes.begin(), message.bytes.end());
+  Office &office = offices[1];
+  std::array<std::uint8_t, DVS_DELIVERY_SIZE> delivery{};
+  const auto take = [&](std::size_t from, std::size_t end) {
+    need(dvs_deliver_packet(office.book.data(), office.book.size(), packet.data() + from, end - from, 0, delivery.data(), delivery.size()), "packet");
+    return dvs_delivery_stopped(delivery.data());
+  };
+  if (take(0, packet.size() - 1) != DVS_REFUSED_ENDS_EARLY || dvs_delivery_count(delivery.data()) != 1) stop("the cut packet was taken otherwise");
+  if (take(from_the_stop ? packet.size() / 2 : 0, packet.size()) != 0) stop("the whole packet was stopped");
+  std::string events;
+  while (office.hand() == 0) events += ", hand 1 0 0 " + std::to_string(office.entry());
+  return "send 0 0 7, send 0 0 8" + events;
+}
+
+void packet_again() {
+  std::puts("7. A packet that was stopped is delivered once more from its front");
+  std::printf("  (where it is delivered from the stopped message on: %s)\n", handed(true).c_str());
+  std::printf("  %s: sent once and handed out twice, so no run has these events\n", handed(false).c_str());
+}
+
 }  // namespace
 
 int main() {
@@ -269,4 +296,5 @@ int main() {
   lost_in_the_middle();
   forged_info();
   too_many_open();
+  packet_again();
 }

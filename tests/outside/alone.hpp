@@ -40,6 +40,20 @@ struct ByItself : Member {
     if (!has_carrier) return kNoCarrierView;
     Message message;
     if (Refusal r = read(bytes, size, message)) return r;
+    return arrive(message, sender);
+  }
+
+  // The same of the message at the front, whatever lies behind it.
+  Refusal deliver_front(const uint8_t* bytes, size_t size, uint32_t sender, size_t& taken_bytes) {
+    if (!has_carrier) return kNoCarrierView;
+    Message message;
+    if (Refusal r = read_front(bytes, size, message, taken_bytes)) return r;
+    return arrive(message, sender);
+  }
+
+ private:
+  // A message that was read.
+  Refusal arrive(const Message& message, uint32_t sender) {
     for (unsigned i = 0; i < message.count; ++i)
       if (!set_fits(message.views[i].set, members)) return kSetUnfit;
     if (message.view != carrier.id) return kAnotherView;
@@ -91,6 +105,21 @@ class Alone {
   Refusal join(uint32_t view, uint32_t set) { return change([&] { return m_.join(view, set); }); }
   Refusal deliver(const uint8_t* bytes, size_t size, uint32_t sender) {
     return change([&] { return m_.deliver(bytes, size, sender); });
+  }
+
+  // "A packet of several is delivered one by one, up to the first refusal": each is a call of its own on the book that the
+  // one before it left.
+  Refusal deliver_packet(const uint8_t* bytes, size_t size, uint32_t sender, Range delivery) {
+    if (delivery.size != kDeliverySize || check() == kRecordsUnsound) return kRecordsUnsound;
+    uint32_t delivered = 0;
+    Refusal stopped = kAccepted;
+    for (size_t at = 0; at < size && stopped == kAccepted;) {
+      size_t front = 0;
+      stopped = change([&] { return m_.deliver_front(bytes + at, size - at, sender, front); });
+      if (stopped == kAccepted) ++delivered, at += front;
+    }
+    put(delivery.at + kDelivered, 4, delivered), delivery.at[kStopped] = static_cast<uint8_t>(stopped);
+    return kAccepted;
   }
   Refusal attempt(Range event) { return show(event, [&](Event& e) { return m_.attempt(e); }); }
   Refusal enroll(Range event) { return show(event, [&](Event& e) { return m_.enroll(e); }); }

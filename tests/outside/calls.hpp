@@ -32,23 +32,35 @@ class Calls {
 
   template <class Theirs, class Mine>
   uint32_t both(Function f, Ranges ranges, Numbers numbers, Theirs theirs, Mine mine) {
+    uint32_t expected = beside(f, ranges, numbers, theirs, mine);
+    tally.count(f, expected, bytes_of(ranges));
+    return expected;
+  }
+
+  static uint64_t bytes_of(Ranges ranges) {
+    uint64_t sum = 0;
+    for (Lent* lent : ranges) sum += lent->size();
+    return sum;
+  }
+
+  // The call and its twin, compared and not yet counted.
+  template <class Theirs, class Mine>
+  uint32_t beside(Function f, Ranges ranges, Numbers numbers, Theirs theirs, Mine mine) {
     for (Lent* lent : ranges) lent->remember();
     if (tally.verbose) print_call(f, ranges, numbers);
     uint32_t answer = theirs(), expected = mine();
     if (tally.verbose) printf("  %" PRIu32 "\n", answer);
     bool same = answer == expected;
-    uint64_t bytes = 0;
-    for (Lent* lent : ranges) same = same && lent->same(), bytes += lent->size();
+    for (Lent* lent : ranges) same = same && lent->same();
     if (!same) report(f, ranges, numbers, answer, expected);
-    tally.count(f, expected, bytes);
     return expected;
   }
 
  public:
   Tally& tally;
   // What calls are lent besides books and a group's ranges. Their contents are whatever the last call left.
-  Lent event{"event", 64}, buffer{"buffer", 512}, length{"length", 16}, bytes{"bytes", 1024}, record{"message", 256};
-  Lent steps{"steps", 4096}, answers{"answers", 8192}, count{"count", 64};
+  Lent event{"event", 64}, buffer{"buffer", 512}, length{"length", 16}, bytes{"bytes", 1 << 16}, record{"message", 256};
+  Lent steps{"steps", 4096}, answers{"answers", 8192}, count{"count", 64}, delivery{"delivery", 64};
 
   explicit Calls(Tally& t) : tally(t) { usual(); }
 
@@ -57,7 +69,8 @@ class Calls {
     event.resize(DVS_EVENT_SIZE, kBack), length.resize(DVS_LENGTH_SIZE, kBack), bytes.resize(0, kBack);
     buffer.resize(DVS_LONGEST, kBack), record.resize(DVS_MESSAGE_SIZE, kBack);
     steps.resize(2 * DVS_STEP_SIZE, kBack), answers.resize(2 * DVS_ANSWER_SIZE, kBack), count.resize(DVS_LENGTH_SIZE, kBack);
-    for (Lent* lent : {&event, &length, &buffer, &record, &steps, &answers, &count}) lent->copy_to_theirs();
+    delivery.resize(DVS_DELIVERY_SIZE, kBack);
+    for (Lent* lent : {&event, &length, &buffer, &record, &steps, &answers, &count, &delivery}) lent->copy_to_theirs();
   }
 
   uint32_t start(Lent& book, uint32_t members, uint32_t first_set, uint32_t own) {
@@ -82,6 +95,24 @@ class Calls {
                 [&] { return dvs_deliver(book.theirs(), book.size(), bytes.theirs(), bytes.size(), sender); },
                 [&] { return plain::Alone(book.range()).deliver(bytes.mine(), bytes.size(), sender); });
   }
+  // What stopped the packet, and how many it took, is in the delivery where the answer is 0.
+  uint32_t deliver_packet(Lent& book, uint32_t sender) {
+    uint32_t answer = beside(kFnPacket, {&book, &bytes, &delivery}, {sender},
+                             [&] {
+                               return dvs_deliver_packet(book.theirs(), book.size(), bytes.theirs(), bytes.size(), sender,
+                                                         delivery.theirs(), delivery.size());
+                             },
+                             [&] {
+                               return plain::Alone(book.range())
+                                   .deliver_packet(bytes.mine(), bytes.size(), sender, delivery.range());
+                             });
+    uint64_t lent = bytes_of({&book, &bytes, &delivery});
+    if (answer != plain::kAccepted) tally.count(kFnPacket, answer, lent);
+    else tally.count(delivered() == 0 ? kFnPacketNone : kFnPacketSome, stopped(), lent);
+    return answer;
+  }
+  uint32_t delivered() { return static_cast<uint32_t>(plain::get(delivery.mine() + plain::kDelivered, 4)); }
+  uint32_t stopped() { return delivery.mine()[plain::kStopped]; }
   uint32_t attempt(Lent& book) {
     return both(kFnAttempt, {&book, &event}, {},
                 [&] { return dvs_attempt(book.theirs(), book.size(), event.theirs(), event.size()); },
@@ -121,6 +152,14 @@ class Calls {
                 [&] { return plain::Alone(book.range()).check(); });
   }
 
+  uint32_t read_front() {
+    return both(kFnReadFront, {&bytes, &record, &length}, {},
+                [&] {
+                  return dvs_read_front(bytes.theirs(), bytes.size(), record.theirs(), record.size(), length.theirs(),
+                                        length.size());
+                },
+                [&] { return plain::read_front_record(bytes.mine(), bytes.size(), record.range(), length.range()); });
+  }
   uint32_t read() {
     return both(kFnRead, {&bytes, &record}, {},
                 [&] { return dvs_read(bytes.theirs(), bytes.size(), record.theirs(), record.size()); },
@@ -192,7 +231,7 @@ inline bool library_agrees() {
       bool some = views >= 1 && views <= plain::kViews;
       uint64_t sizes[] = {0, DVS_BOOK_SIZE, DVS_EVENT_SIZE, DVS_LENGTH_SIZE, DVS_MESSAGE_SIZE, DVS_LONGEST,
                           some ? DVS_LIST_SIZE(views) : 0, DVS_BOOKS_SIZE, some ? DVS_QUEUES_SIZE(views) : 0,
-                          DVS_STEP_SIZE, DVS_ANSWER_SIZE};
+                          DVS_STEP_SIZE, DVS_ANSWER_SIZE, DVS_DELIVERY_SIZE};
       // The last views beyond 32 bits' half and whole, so that none is taken for a smaller number.
       uint32_t given = views < 298 ? static_cast<uint32_t>(views) : UINT32_MAX - static_cast<uint32_t>(300 - views);
       uint32_t asked = range < 298 ? range : 0x80000000u + (range - 298);

@@ -27,7 +27,8 @@ class Edges {
   }
 
   void all_calls() {
-    c_.join(book_, 1, 3), c_.pass(book_), c_.deliver(book_, 0), c_.attempt(book_), c_.enroll(book_), c_.send(book_, 5);
+    c_.join(book_, 1, 3), c_.pass(book_), c_.deliver(book_, 0), c_.deliver_packet(book_, 0), c_.attempt(book_);
+    c_.enroll(book_), c_.send(book_, 5);
     c_.hand(book_), c_.tell(book_), c_.safe(book_), c_.collect(book_), c_.check(book_);
   }
 
@@ -49,7 +50,7 @@ class Edges {
           c_.usual(), cut(book_, plain::kBookSize, false), c_.start(book_, 2, 3, 0);
           if (!sound) book_.poke(0, 0);
           cut(c_.event, size, null == 1), cut(c_.length, size <= 16 ? size : 4, null == 1);
-          cut(c_.bytes, size, null == 1), cut(c_.buffer, size, null == 1);
+          cut(c_.bytes, size, null == 1), cut(c_.buffer, size, null == 1), cut(c_.delivery, size, null == 1);
           all_calls();
           cut(c_.length, 4, false);
           c_.join(book_, 2, 3), c_.pass(book_), c_.pass(book_);
@@ -58,7 +59,7 @@ class Edges {
     }
     c_.usual();
     for (size_t size = 0; size <= plain::kRecordSize + 20; ++size)
-      for (unsigned null = 0; null < 2; ++null) cut(c_.record, size, null == 1), c_.read(), c_.write();
+      for (unsigned null = 0; null < 2; ++null) cut(c_.record, size, null == 1), c_.read(), c_.read_front(), c_.write();
     c_.usual();
     for (size_t size = 0; size <= 16; ++size) {
       plain::Message registered;
@@ -67,6 +68,31 @@ class Edges {
       cut(c_.length, size, true), c_.write();
       cut(c_.length, 4, true), cut(c_.buffer, size, true), c_.write();
     }
+    c_.usual();
+  }
+
+  // A registration in view 0 or 1, and behind it another one or a byte that is none: every length of the message's record
+  // and of the number beside it, and every length of the delivery, of a book that is sound, that has no carrier view, whose
+  // own number is no member's, and that is no sound one. Each with no bytes, which are no packet's message.
+  void packet_lengths() {
+    static const uint8_t packet[] = {3, 0, 0, 0, 1, 0, 0, 3, 0, 0, 0, 1, 0, 0, 0};
+    for (size_t record = 0; record <= plain::kRecordSize + 20; ++record)
+      for (size_t length = 0; length <= 16; ++length)
+        for (size_t bytes : {sizeof packet, size_t{7}, size_t{6}, size_t{0}}) {
+          c_.bytes.set(packet, bytes, bytes == 0 && record % 2 ? kNull : kBack);
+          cut(c_.record, record, true), cut(c_.length, length, true), c_.read_front();
+        }
+    c_.usual(), cut(book_, plain::kBookSize, false);
+    for (size_t delivery = 0; delivery <= 64; ++delivery)
+      for (unsigned kind = 0; kind < 4; ++kind)
+        for (size_t bytes = 0; bytes <= sizeof packet; ++bytes) {
+          c_.start(book_, 2, kind == 1 ? 2 : 3, 0);
+          if (kind != 1) c_.join(book_, 1, 3);
+          if (kind == 2) book_.poke(plain::kAtOwn, 2);
+          if (kind == 3) book_.poke(plain::kAtSide, 2);
+          c_.bytes.set(packet, bytes, bytes == 0 && delivery % 2 ? kNull : bytes % 2 ? kFront : kBack);
+          cut(c_.delivery, delivery, kind % 2 == 1), c_.deliver_packet(book_, 1), c_.deliver_packet(book_, 2);
+        }
     c_.usual();
   }
 
@@ -84,7 +110,7 @@ class Edges {
     for (uint32_t sender : kWords) {
       c_.start(book_, 8, 0x83, 7), c_.join(book_, 1, 0x83), c_.pass(book_);
       c_.bytes.set(c_.buffer.mine(), plain::get(c_.length.mine(), 4), kBack);
-      c_.deliver(book_, sender);
+      c_.deliver(book_, sender), c_.deliver_packet(book_, sender);
     }
     for (uint64_t entry : kLongs) {
       c_.start(book_, 1, 1, 0), c_.send(book_, entry), c_.pass(book_);
@@ -242,7 +268,8 @@ class Edges {
 
  public:
   explicit Edges(Calls& c) : c_(c) {
-    for (Lent* lent : {&book_, &list_, &books_, &c_.event, &c_.length, &c_.bytes, &c_.buffer, &c_.record, &c_.answers, &c_.count}) {
+    for (Lent* lent : {&book_, &list_, &books_, &c_.event, &c_.length, &c_.bytes, &c_.buffer, &c_.record, &c_.answers, &c_.count,
+                       &c_.delivery}) {
       uint8_t noise[64];
       r_.fill(noise, sizeof noise);
       memcpy(lent->mine(), noise, lent == &c_.length ? 16 : 64);
@@ -251,7 +278,7 @@ class Edges {
 
   void run() {
     c_.usual();
-    book_lengths(), other_lengths(), numbers(), group_lengths(), forms(), run_lengths(), group_numbers();
+    book_lengths(), other_lengths(), packet_lengths(), numbers(), group_lengths(), forms(), run_lengths(), group_numbers();
     inward_columns(), long_infos(), order_columns();
   }
 };

@@ -1,6 +1,9 @@
-// Sound books and groups that no steps need have left, full of what is near a limit; and messages for a book.
+// Sound books and groups that no steps need have left, full of what is near a limit; and messages and packets for a book.
 #pragma once
 
+#include <vector>
+
+#include "damage.hpp"
 #include "group.hpp"
 #include "random.hpp"
 
@@ -152,6 +155,19 @@ inline plain::Message random_message(Random& r, const uint8_t* book) {
     m.views[m.count++] = v;
   }
   return m;
+}
+
+// None, a few or many messages for a book one behind the other, one of them damaged now and then, the last most often.
+inline void random_packet(Random& r, const uint8_t* book, std::vector<uint8_t>& packet) {
+  packet.clear();
+  for (unsigned n = r.chance(50) ? 0 : r.chance(950) ? r.between(1, 5) : r.between(100, 140); n > 0; --n) {
+    uint8_t bytes[200];
+    plain::Message m = random_message(r, book);
+    plain::encode(m, bytes);
+    size_t size = plain::length(m);
+    if (r.chance(n == 1 ? 200 : 30)) size = damage_bytes(r, bytes, size, sizeof bytes);
+    packet.insert(packet.end(), bytes, bytes + size);
+  }
 }
 
 }  // namespace outside

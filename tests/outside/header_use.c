@@ -18,6 +18,8 @@ HOLDS(queues_places, DVS_QUEUES_MADE == 0 && DVS_QUEUES_ORDER(1) == 64 + 32841 &
 HOLDS(queues_end, DVS_QUEUES_WAITING(31, 8) == DVS_QUEUES_SIZE(32));
 HOLDS(ranges_to_5, DVS_SIZE_BOOK == 1 && DVS_SIZE_EVENT == 2 && DVS_SIZE_LENGTH == 3 && DVS_SIZE_MESSAGE == 4 && DVS_SIZE_BUFFER == 5);
 HOLDS(ranges_to_10, DVS_SIZE_LIST == 6 && DVS_SIZE_BOOKS == 7 && DVS_SIZE_QUEUES == 8 && DVS_SIZE_STEP == 9 && DVS_SIZE_ANSWER == 10);
+HOLDS(range_11, DVS_SIZE_DELIVERY == 11);
+HOLDS(delivery, DVS_DELIVERY_COUNT == 0 && DVS_DELIVERY_STOPPED == 4 && DVS_DELIVERY_STOPPED + 1 == DVS_DELIVERY_SIZE);
 HOLDS(books, DVS_BOOKS_SIZE == DVS_MEMBERS * DVS_BOOK_SIZE);
 HOLDS(list, DVS_LIST_SIZE(32) == 160);
 HOLDS(queues, DVS_QUEUES_SIZE(32) == 64 + 32 * (1 + 128 * 171 + 8 * (1 + 8 * 171)));
@@ -39,6 +41,7 @@ unsigned use(uint8_t *at, size_t size) {
   sum += dvs_deliver(at, size, at, size, 0) + dvs_attempt(at, size, at, size) + dvs_register(at, size, at, size);
   sum += dvs_send(at, size, 1, at, size) + dvs_hand(at, size, at, size) + dvs_tell(at, size) + dvs_safe(at, size, at, size);
   sum += dvs_collect(at, size) + dvs_read(at, size, at, size) + dvs_write(at, size, at, size, at, size);
+  sum += dvs_deliver_packet(at, size, at, size, 0, at, size) + dvs_read_front(at, size, at, size, at, size);
   sum += dvs_group_start(at, size, at, size, at, size, 1, 1);
   sum += dvs_group_step(at, size, at, size, at, size, 1, 1, 1, at, size);
   sum += dvs_group_form(at, size, at, size, at, size, 1, at, size);
@@ -54,5 +57,6 @@ uint64_t look(const uint8_t *at) {
   sum += dvs_message_kind(at) + dvs_message_view(at) + dvs_message_number(at) + dvs_message_count(at);
   sum += dvs_view_set(dvs_message_views(at, 1)) + dvs_book_infos(at) + dvs_book_registrations(at) + dvs_book_told(at, 7);
   sum += dvs_queues_made(at) + dvs_queues_ordered(at, 1) + dvs_queues_waiting(at, 1, 2);
+  sum += dvs_delivery_count(at) + dvs_delivery_stopped(at);
   return sum + dvs_answer_number(at, 1) + dvs_event_kind(dvs_answer_event(at, 1));
 }

@@ -32,7 +32,7 @@ class Huge {
 
   void member() {
     uint8_t fresh[plain::kBookSize], book[plain::kBookSize], event[plain::kEventSize] = {}, length[plain::kLengthSize] = {};
-    uint8_t registered[7] = {3, 0, 0, 0, 0, 0, 0}, buffer[plain::kLongest];
+    uint8_t registered[7] = {3, 0, 0, 0, 0, 0, 0}, buffer[plain::kLongest], delivery[plain::kDeliverySize] = {};
     plain::store_fresh(fresh, 2, 3, 0);
     memcpy(book, fresh, sizeof book);
     size_t far = kFar + plain::kBookSize, far_event = kFar + plain::kEventSize;
@@ -41,6 +41,7 @@ class Huge {
     expect("dvs_join", dvs_join(at_, far, 1, 3), 4);
     expect("dvs_pass", dvs_pass(at_, far, buffer, sizeof buffer, length, sizeof length), 4);
     expect("dvs_deliver", dvs_deliver(at_, far, registered, sizeof registered, 0), 4);
+    expect("dvs_deliver_packet", dvs_deliver_packet(at_, far, registered, sizeof registered, 0, delivery, sizeof delivery), 4);
     expect("dvs_attempt", dvs_attempt(at_, far, event, sizeof event), 4);
     expect("dvs_register", dvs_register(at_, far, event, sizeof event), 4);
     expect("dvs_send", dvs_send(at_, far, 5, event, sizeof event), 4);
@@ -54,6 +55,8 @@ class Huge {
     expect("dvs_send", dvs_send(book, sizeof book, 5, at_, far_event), 4);
     expect("dvs_hand", dvs_hand(book, sizeof book, at_, far_event), 4);
     expect("dvs_safe", dvs_safe(book, sizeof book, at_, far_event), 4);
+    expect("dvs_deliver_packet", dvs_deliver_packet(book, sizeof book, registered, 7, 0, at_, kFar + plain::kDeliverySize), 4);
+    if (memcmp(book, fresh, sizeof book) != 0) expect("a book", 1, 0);
     dvs_join(book, sizeof book, 1, 3);
     expect("dvs_pass", dvs_pass(book, sizeof book, buffer, sizeof buffer, at_, kFar + plain::kLengthSize), 4);
     // A buffer may have any length; only the message's place in it is written.
@@ -62,6 +65,11 @@ class Huge {
     lend(registered, sizeof registered);
     expect("dvs_deliver", dvs_deliver(book, sizeof book, at_, kFar + 7, 0), 38);
     if (memcmp(book, fresh, sizeof book) != 0) expect("a book", 1, 0);
+    // The packet's first message is taken, and behind it is none.
+    expect("dvs_deliver_packet", dvs_deliver_packet(book, sizeof book, at_, kFar + 7, 0, delivery, sizeof delivery), 0);
+    expect("a packet's count", static_cast<uint32_t>(dvs_delivery_count(delivery)), 1);
+    expect("a packet's stop", dvs_delivery_stopped(delivery), 33);
+    expect("the messages taken", book[plain::kAtTaken], 1);
   }
 
   void messages() {
@@ -70,6 +78,10 @@ class Huge {
     lend(registered, sizeof registered);
     expect("dvs_read", dvs_read(at_, kFar + 7, record, sizeof record), 38);
     expect("dvs_read", dvs_read(registered, 7, at_, kFar + plain::kRecordSize), 4);
+    expect("dvs_read_front", dvs_read_front(at_, kFar + 7, record, sizeof record, length, sizeof length), 0);
+    expect("the bytes it took", static_cast<uint32_t>(dvs_length(length)), 7);
+    expect("dvs_read_front", dvs_read_front(registered, 7, at_, kFar + plain::kRecordSize, length, sizeof length), 4);
+    expect("dvs_read_front", dvs_read_front(registered, 7, record, sizeof record, at_, kFar + plain::kLengthSize), 4);
     expect("dvs_write", dvs_write(at_, kFar + plain::kRecordSize, buffer, sizeof buffer, length, sizeof length), 4);
     expect("dvs_write", dvs_write(record, sizeof record, buffer, sizeof buffer, at_, kFar + plain::kLengthSize), 4);
     expect("dvs_write", dvs_write(record, sizeof record, at_, kFar, length, sizeof length), 0, 7);

@@ -13,7 +13,7 @@ constexpr unsigned kMembers = 8, kViews = 32, kOpen = 31, kOutgoing = 16, kWaiti
 // Lengths of ranges and of what stands in them.
 constexpr size_t kViewSize = 5, kSlotSize = 171, kBookSize = 5234, kEventSize = 16, kLengthSize = 4;
 constexpr size_t kRecordSize = 174, kLongest = 167, kBooksSize = kMembers * kBookSize;
-constexpr size_t kStepSize = 13, kAnswerSize = 17;
+constexpr size_t kStepSize = 13, kAnswerSize = 17, kDeliverySize = 5;
 constexpr size_t kQueuesHead = 64, kWaitingSize = 1 + kWaiting * kSlotSize;
 
 // Places in a book.
@@ -38,6 +38,9 @@ constexpr size_t queues_size(size_t views) { return kQueuesHead + kTableSize * v
 // Places in a queue entry's slot, and in a message's record.
 constexpr size_t kSlotSender = 0, kSlotKind = 1, kSlotNumber = 2, kSlotCount = 10, kSlotViews = 11;
 constexpr size_t kRecordKind = 0, kRecordView = 1, kRecordNumber = 5, kRecordCount = 13, kRecordViews = 14;
+
+// Places in a delivery.
+constexpr size_t kDelivered = 0, kStopped = 4;
 
 // The refusals, numbered as in the specification's table.
 enum Refusal : uint32_t {

@@ -46,6 +46,17 @@ class MemberCases {
     c_.bytes.set(bytes, size, flush(r));
   }
 
+  void lend_packet(Random& r, const uint8_t* book) {
+    std::vector<uint8_t> packet;
+    random_packet(r, book, packet);
+    c_.bytes.set(packet.data(), packet.size(), packet.empty() && r.chance(500) ? kNull : flush(r));
+  }
+
+  void lend_delivery(Random& r, size_t size) {
+    c_.delivery.resize(size, flush(r));
+    c_.delivery.copy_to_theirs();
+  }
+
   uint32_t some_sender(Random& r, const uint8_t* book) {
     uint8_t set = book[plain::kAtCarrier + 5];
     if (set == 0 || r.chance(40)) return r.chance(500) ? r.below(9) : r.odd_word();
@@ -64,7 +75,7 @@ class MemberCases {
     const uint8_t* b = book.mine();
     c_.check(book);
     lend_event(r, r.chance(995) ? plain::kEventSize : r.below(24));
-    switch (r.below(20)) {
+    switch (r.below(23)) {
       case 0: case 1: {
         auto own = static_cast<uint32_t>(plain::get(b + plain::kAtCarrier + 1, 4)) + r.between(0, 4) - 1;
         uint32_t set = r.wide_set(b[plain::kAtMembers] - 1u < 8 ? b[plain::kAtMembers] : 8);
@@ -77,6 +88,9 @@ class MemberCases {
       case 4: case 5: case 6: case 7: case 8: case 9:
         lend_message(r, random_message(r, b));
         return c_.deliver(book, some_sender(r, b));
+      case 20: case 21: case 22:
+        lend_packet(r, b), lend_delivery(r, r.chance(995) ? plain::kDeliverySize : r.below(16));
+        return c_.deliver_packet(book, some_sender(r, b));
       case 10: case 11: return c_.attempt(book);
       case 12: return c_.enroll(book);
       case 13: return c_.send(book, r.odd_long());
@@ -176,6 +190,7 @@ class MemberCases {
         return;
       }
       const Sent& sent = (*order)[taken];
+      if (r.chance(300)) return take_packet(r, book, *order);
       c_.bytes.set(sent.bytes.data(), sent.bytes.size(), flush(r));
       c_.deliver(book, sent.sender);
       return;
@@ -190,6 +205,16 @@ class MemberCases {
       case 9: c_.safe(book); break;
       default: c_.collect(book); break;
     }
+  }
+
+  // The next messages of the order that have one sender, as many as there are or fewer, in one packet.
+  void take_packet(Random& r, Lent& book, const std::vector<Sent>& order) {
+    size_t from = book.mine()[plain::kAtTaken], most = r.chance(500) ? order.size() : from + r.between(1, 4);
+    std::vector<uint8_t> packet;
+    for (size_t i = from; i < order.size() && i < most && order[i].sender == order[from].sender; ++i)
+      packet.insert(packet.end(), order[i].bytes.begin(), order[i].bytes.end());
+    c_.bytes.set(packet.data(), packet.size(), flush(r)), lend_delivery(r, plain::kDeliverySize);
+    c_.deliver_packet(book, order[from].sender);
   }
 
   // A copy of a book as a history left it, damaged, and put to some calls.

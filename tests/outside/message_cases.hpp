@@ -1,4 +1,5 @@
-// Cases of the reader and the writer: messages of every kind, written and read back, changed, cut, lengthened, or noise.
+// Cases of the reader and the writer: messages of every kind, written and read back, changed, cut, lengthened, or noise;
+// and several, one behind the other.
 #pragma once
 
 #include "calls.hpp"
@@ -58,6 +59,15 @@ class MessageCases {
     r.fill(c_.record.mine(), c_.record.size()), c_.record.copy_to_theirs();
   }
 
+  // The bytes as a whole, and the message at their front, over a record and a length of any bytes.
+  void read_both(Random& r, const uint8_t* bytes, size_t size) {
+    lend_in(r, bytes, size), c_.read();
+    lend_in(r, bytes, size);
+    c_.length.resize(r.chance(990) ? plain::kLengthSize : r.below(9), flush(r));
+    r.fill(c_.length.mine(), c_.length.size()), c_.length.copy_to_theirs();
+    c_.read_front();
+  }
+
  public:
   explicit MessageCases(Calls& c) : c_(c) {}
 
@@ -72,8 +82,7 @@ class MessageCases {
       plain::encode(m, bytes);
       if (r.chance(700)) size = damage_bytes(r, bytes, size, sizeof bytes);
       if (r.chance(50)) size = r.below(sizeof bytes), r.fill(bytes, size), bytes[0] = static_cast<uint8_t>(r.below(6));
-      lend_in(r, bytes, size);
-      c_.read();
+      read_both(r, bytes, size);
     }
   }
 
@@ -85,12 +94,12 @@ class MessageCases {
       plain::encode(m, bytes);
       plain::store_record(m, record);
       size_t size = plain::length(m);
-      for (size_t cut = 0; cut <= size + 2; ++cut) lend_in(r, bytes, cut), c_.read();
+      for (size_t cut = 0; cut <= size + 2; ++cut) read_both(r, bytes, cut);
       for (size_t at = 0; at < size; ++at) {
         for (unsigned value = 0; value < 256; ++value) {
           uint8_t was = bytes[at];
           bytes[at] = static_cast<uint8_t>(value);
-          lend_in(r, bytes, size), c_.read();
+          read_both(r, bytes, size);
           bytes[at] = was;
         }
       }

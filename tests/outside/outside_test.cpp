@@ -15,6 +15,7 @@
 #include "huge.hpp"
 #include "member_cases.hpp"
 #include "message_cases.hpp"
+#include "packet_cases.hpp"
 #include "papers.hpp"
 #include "stack.hpp"
 
@@ -23,7 +24,7 @@ namespace {
 using namespace outside;
 using Clock = std::chrono::steady_clock;
 
-constexpr uint64_t kShortCases = 1680;
+constexpr uint64_t kShortCases = 1800;
 
 class Test {
   Tally tally_;
@@ -32,6 +33,7 @@ class Test {
   GroupCases group_{calls_};
   FormCases forms_{calls_};
   MessageCases messages_{calls_};
+  PacketCases packets_{calls_};
   Clock::time_point begun_ = Clock::now();
 
   double seconds() const { return std::chrono::duration<double>(Clock::now() - begun_).count(); }
@@ -41,10 +43,11 @@ class Test {
     tally_.seed = seed, tally_.number = number;
     Random r(seed, number);
     // Nothing of an earlier case is left in what calls are lent besides books.
-    for (Lent* lent : {&calls_.event, &calls_.buffer, &calls_.length, &calls_.record, &calls_.answers, &calls_.count})
+    for (Lent* lent : {&calls_.event, &calls_.buffer, &calls_.length, &calls_.record, &calls_.answers, &calls_.count,
+                       &calls_.delivery})
       r.fill(lent->mine(), lent->most());
     calls_.usual();
-    switch (number % 14) {
+    switch (number % 15) {
       case 0: case 1: case 2: case 3: return member_.history(r);
       case 4: case 5: case 6: case 7:
         for (unsigned n = 0; n < 40; ++n) member_.single(r);
@@ -56,6 +59,7 @@ class Test {
       case 10: return group_.made_up(r);
       case 11: return group_.run(r);
       case 12: return forms_.made_up(r);
+      case 13: return packets_.some(r);
       default: return messages_.some(r);
     }
   }
@@ -72,7 +76,7 @@ class Test {
   int run_short(uint64_t seed) {
     if (!guards_work()) return printf("the pages beside a lent range can be touched\n"), 1;
     if (!library_agrees()) return 1;
-    if (!Papers(calls_).run() || !forms_.run() || !FormRefusals(calls_).run()) return 1;
+    if (!Papers(calls_).run() || !forms_.run() || !FormRefusals(calls_).run() || !packets_.run()) return 1;
     for (uint64_t number = 0; number < kShortCases; ++number) run_case(seed, number);
     Random r(seed);
     messages_.every(r);

@@ -95,6 +95,7 @@ class Papers {
     expect("its views", record[DVS_MESSAGE_COUNT] == 1 && plain::get(record + DVS_MESSAGE_VIEWS, 5) == 7, 1);
     message("the same cut", {2, 0, 0, 0, 1, 1, 0, 0, 0, 0, 7}, 32);
     message("the same with one more", {2, 0, 0, 0, 1, 1, 0, 0, 0, 0, 7, 0, 0}, 38);
+    expect("its front", c_.read_front(), 0), expect("the bytes that it took", dvs_length(c_.length.theirs()), 12);
     message("nothing", {}, 32);
     message("an unknown kind", {5}, 33);
     message("33 views", {2, 0, 0, 0, 1, 33}, 34);

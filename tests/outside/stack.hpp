@@ -32,7 +32,7 @@ class Stack {
   size_t driver_ = 0, other_ = 0;
 
   std::vector<uint8_t> list_, books_, queues_;
-  uint8_t event_[DVS_EVENT_SIZE], length_[DVS_LENGTH_SIZE], buffer_[DVS_LONGEST];
+  uint8_t event_[DVS_EVENT_SIZE], length_[DVS_LENGTH_SIZE], buffer_[DVS_LONGEST], delivery_[DVS_DELIVERY_SIZE];
 
   // The deepest that the call comes is kept in `deepest`.
   void measure(size_t& deepest, const std::function<void()>& call) {
@@ -90,7 +90,11 @@ class Stack {
     constexpr size_t size = DVS_BOOK_SIZE;
     measure(other_, [&] { dvs_write(record, sizeof record, buffer_, sizeof buffer_, length_, sizeof length_); });
     measure(other_, [&] { dvs_read(buffer_, plain::length(message), record, sizeof record); });
+    measure(other_, [&] { dvs_read_front(buffer_, sizeof buffer_, record, sizeof record, length_, sizeof length_); });
     measure(other_, [&] { dvs_deliver(b, size, buffer_, plain::length(message), r.below(8)); });
+    std::vector<uint8_t> packet;
+    for (unsigned n = r.below(130); n > 0; --n) packet.insert(packet.end(), buffer_, buffer_ + plain::length(message));
+    measure(other_, [&] { dvs_deliver_packet(b, size, packet.data(), packet.size(), r.below(8), delivery_, sizeof delivery_); });
     measure(other_, [&] { dvs_attempt(b, size, e, DVS_EVENT_SIZE), dvs_hand(b, size, e, DVS_EVENT_SIZE), dvs_tell(b, size); });
     measure(other_, [&] { dvs_register(b, size, e, DVS_EVENT_SIZE), dvs_send(b, size, 5, e, DVS_EVENT_SIZE), dvs_safe(b, size, e, DVS_EVENT_SIZE); });
     measure(other_, [&] { dvs_collect(b, size), dvs_check(b, size), dvs_join(b, size, UINT32_MAX, 255); });

@@ -23,11 +23,12 @@ constexpr bool named_in_order() {
 constexpr unsigned kAnswers = DVS_REFUSALS + 1;
 static_assert(named_in_order() && sizeof kNamed / sizeof kNamed[0] == kAnswers, "the header's refusals are numbered");
 
-// The exported functions; a group's step is counted by its kind.
+// The exported functions; a group's step is counted by its kind, and a packet by what it came to: a refusal of the call, or
+// the stop, where it took none of its messages and where it took some.
 enum Function : unsigned {
-  kFnStart, kFnJoin, kFnPass, kFnDeliver, kFnAttempt, kFnRegister, kFnSend, kFnHand, kFnTell, kFnSafe, kFnCollect,
-  kFnCheck, kFnRead, kFnWrite, kFnGroupStart, kFnGroupForm, kFnGroupRun, kFnGroupCheck, kFnStepOther, kFnStepCreate, kFnStepJoin,
-  kFnStepPass, kFnStepOrder, kFnStepDeliver, kFnStepAttempt, kFnStepRegister, kFnStepSend, kFnStepHand, kFnStepTell,
+  kFnStart, kFnJoin, kFnPass, kFnDeliver, kFnPacket, kFnPacketNone, kFnPacketSome, kFnAttempt, kFnRegister, kFnSend,
+  kFnHand, kFnTell, kFnSafe, kFnCollect, kFnCheck, kFnReadFront, kFnRead, kFnWrite, kFnGroupStart, kFnGroupForm,
+  kFnGroupRun, kFnGroupCheck, kFnStepOther, kFnStepCreate, kFnStepJoin, kFnStepPass, kFnStepOrder, kFnStepDeliver, kFnStepAttempt, kFnStepRegister, kFnStepSend, kFnStepHand, kFnStepTell,
   kFnStepSafe, kFnStepCollect, kFunctions
 };
 
@@ -38,12 +39,17 @@ struct Promise {
 };
 
 // After include/dvs.h. A group's step of each kind has its row of the specification's table behind 4 and 6. The driver has
-// its own refusals and, of made-up records, those of its steps that can be met; 4 is among these too.
+// its own refusals and, of made-up records, those of its steps that can be met; 4 is among these too. A packet that took
+// some of its messages is stopped by no 6, 13 or 42, which the first of them would have got; accepted means that nothing
+// stopped it.
 constexpr Promise kPromises[kFunctions] = {
     {"dvs_start", true, "4 1 2 6"},
     {"dvs_join", true, "4 6 7 11 12"},
     {"dvs_pass", true, "4 6 13 14 39"},
     {"dvs_deliver", true, "4 6 13 32 33 34 35 36 37 38 7 41 42 16 43"},
+    {"dvs_deliver_packet", false, "4"},
+    {"dvs_deliver_packet none", true, "6 13 32 33 34 35 36 37 7 41 42 16 43"},
+    {"dvs_deliver_packet some", true, "32 33 34 35 36 37 7 41 16 43"},
     {"dvs_attempt", true, "4 6 13 19 20 21 43"},
     {"dvs_register", true, "4 6 22 23 24"},
     {"dvs_send", true, "4 6 22 24"},
@@ -52,6 +58,7 @@ constexpr Promise kPromises[kFunctions] = {
     {"dvs_safe", true, "4 6 22 26 28 29"},
     {"dvs_collect", true, "4 6 13 30 31"},
     {"dvs_check", true, "4 6"},
+    {"dvs_read_front", true, "4 32 33 34 35 36 37"},
     {"dvs_read", true, "4 32 33 34 35 36 37 38"},
     {"dvs_write", true, "4 33 34 35 36 37 39"},
     {"dvs_group_start", true, "4 1 2 3"},

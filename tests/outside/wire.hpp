@@ -30,8 +30,8 @@ inline Refusal content(const Message& m) {
   return kAccepted;
 }
 
-// Reads bytes that must be one message as a whole.
-inline Refusal read(const uint8_t* bytes, size_t size, Message& m) {
+// Reads the message at the front of the bytes, and says how many of them its sections have.
+inline Refusal read_front(const uint8_t* bytes, size_t size, Message& m, size_t& taken) {
   size_t at = 0;
   auto left = [&](size_t width) { return size - at >= width; };
   m = Message();
@@ -55,8 +55,15 @@ inline Refusal read(const uint8_t* bytes, size_t size, Message& m) {
     m.number = get(bytes + at, 8);
     at += 8;
   }
-  if (Refusal r = content(m)) return r;
-  return at == size ? kAccepted : kBytesLeftOver;
+  taken = at;
+  return content(m);
+}
+
+// The bytes must be one message as a whole.
+inline Refusal read(const uint8_t* bytes, size_t size, Message& m) {
+  size_t taken = 0;
+  if (Refusal r = read_front(bytes, size, m, taken)) return r;
+  return taken == size ? kAccepted : kBytesLeftOver;
 }
 
 inline size_t length(const Message& m) { return 7 + kViewSize * m.count + 8 * numbers_of(m.kind); }
@@ -109,6 +116,16 @@ inline Refusal read_record(const uint8_t* bytes, size_t size, Range record) {
   if (record.size != kRecordSize) return kRecordsUnsound;
   if (Refusal r = read(bytes, size, m)) return r;
   store_record(m, record.at);
+  return kAccepted;
+}
+
+inline Refusal read_front_record(const uint8_t* bytes, size_t size, Range record, Range len) {
+  Message m;
+  size_t taken = 0;
+  if (record.size != kRecordSize || len.size != kLengthSize) return kRecordsUnsound;
+  if (Refusal r = read_front(bytes, size, m, taken)) return r;
+  store_record(m, record.at);
+  put(len.at, kLengthSize, taken);
   return kAccepted;
 }
 

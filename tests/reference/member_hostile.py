@@ -11,10 +11,15 @@ import random
 
 import member_layout as layout
 from member_reference import MOST_TAKEN, Refused, in_set, members_of, message_bytes
-from member_script import BOOKS, MOST_BYTES, MOST_LENT, Desk
+from member_script import BOOKS, MOST_BYTES, MOST_LENT, MOST_PASSED, Desk
 
 # How many lines a group of members lives.
 LIFE = 400
+
+
+def changed_nothing(reply):
+    """Whether the answer says that the book is as it was."""
+    return reply.startswith("refused") or reply.split()[:2] == ["took", "0"]
 
 
 def places_used(data):
@@ -89,7 +94,7 @@ class Teller:
     # Lines
 
     def say(self, *words):
-        """The line, and whether it was refused."""
+        """The line, and whether nothing came of it."""
         text = " ".join(str(word) for word in words).rstrip()
         k = int(words[1])
         before = bytes(self.desk.books[k].data)
@@ -99,14 +104,14 @@ class Teller:
             self.known[k].add(int(words[2]))
         elif bytes(self.desk.books[k].data) != before or reply == "ok" and words[0] == "start":
             self.known[k] = places_used(self.book(k))
-        return reply.startswith("refused")
+        return changed_nothing(reply)
 
     def refused(self, *words):
-        """Whether the line would be refused; nothing is said."""
+        """Whether nothing would come of the line; nothing is said."""
         kept = copy.deepcopy(self.desk.books)
         reply = self.desk.answer(" ".join(str(word) for word in words).rstrip())
         self.desk.books = kept
-        return reply.startswith("refused")
+        return changed_nothing(reply)
 
     def book(self, k):
         return bytes(self.desk.books[k].data[: layout.SIZE])
@@ -146,6 +151,35 @@ class Teller:
                 return ("relay", k, j)
         return ("deliver", k, sender, data.hex())
 
+    def next_packet(self, k, m):
+        """The next of the order as far as one sender's go, and perhaps what stops it."""
+        order = self.carrier.order.get(m.carrier[0], [])[m.taken :]
+        sender = order[0][0] if order else self.draw.randrange(self.carrier.members)
+        most = self.draw.choice([1, 2, 3, 20])
+        data = b""
+        for each, message in order[:most]:
+            if each != sender:
+                break
+            data += message
+        if not data or self.draw.random() < 0.3:
+            data += self.some_packet(m)
+        return ("packet", k, sender, data[:MOST_BYTES].hex())
+
+    def some_packet(self, m):
+        """Messages joined, mostly of the carrier view; some of another, cut, or rubbish."""
+        draw = self.draw
+        view = m.carrier[0] if m and m.carrier else 0
+        parts = []
+        for _ in range(draw.choice([0, 1, 1, 2, 3, 5, 12])):
+            other = draw.choice([view, view, view, view, view, view, view, self.carrier.newest, view + 1])
+            part = message_bytes(min(other, 2**32 - 1), self.carrier.some_message())
+            if draw.random() < 0.05:
+                part = part[: draw.randrange(len(part))]
+            if draw.random() < 0.05:
+                part += bytes(draw.randrange(6) for _ in range(draw.randint(1, 8)))
+            parts.append(part)
+        return b"".join(parts)
+
     def from_others(self, m):
         """A message of a member that perhaps has no book here: often what is missing."""
         draw = self.draw
@@ -164,7 +198,7 @@ class Teller:
         word = draw.choice(
             ["join"]
             + ["pass", "deliver", "deliver", "attempt", "register"] * 6
-            + ["send", "hand", "hand", "tell", "safe", "collect", "others"] * 4
+            + ["send", "hand", "hand", "tell", "safe", "collect", "others", "packet"] * 4
         )
         if word == "join":
             views = self.carrier.views
@@ -173,9 +207,11 @@ class Teller:
             view = self.carrier.newest if draw.random() < 0.8 else draw.choice(list(views))
             return ("join", k, view, views[view])
         if word == "pass":
-            return ("pass", k, MOST_BYTES if draw.random() < 0.9 else draw.randint(0, 20))
+            return ("pass", k, MOST_PASSED if draw.random() < 0.9 else draw.randint(0, 20))
         if word == "deliver" and m.carrier is not None:
             return self.next_message(k, m) or ("attempt", k)
+        if word == "packet" and m.carrier is not None:
+            return self.next_packet(k, m)
         if word == "others" and m.carrier is not None:
             sender, message = self.from_others(m)
             data = message_bytes(m.carrier[0], message)
@@ -187,7 +223,7 @@ class Teller:
             return ("deliver", k, sender, data.hex())
         if word == "send":
             return ("send", k, draw.randrange(2 ** draw.choice([4, 8, 64])))
-        if word in ("deliver", "others"):
+        if word in ("deliver", "others", "packet"):
             return ("hand", k)
         return (word, k)
 
@@ -209,12 +245,15 @@ class Teller:
     # Hostile lines
 
     def damaged(self):
-        """A message with bytes changed, put in or left out, or from somebody else."""
+        """A message or a packet with bytes changed, put in or left out, or from somebody else."""
         draw = self.draw
         k = draw.randrange(BOOKS)
         m = self.member(k)
         view = m.carrier[0] if m and m.carrier else 0
+        word = draw.choice(["deliver", "deliver", "packet"])
         data = bytearray(message_bytes(view, self.carrier.some_message()))
+        if draw.random() < (0.8 if word == "packet" else 0.1):
+            data += self.some_packet(m)
         for _ in range(draw.choice([0, 1, 1, 2])):
             at = draw.randrange(len(data) + 1)
             # In an info, often the set of a view.
@@ -226,7 +265,7 @@ class Teller:
             else:
                 del data[at : at + draw.choice([1, 1, len(data)])]
         sender = draw.choice([draw.randrange(self.carrier.members), draw.randrange(9), 255])
-        self.say("deliver", k, sender, bytes(data[:MOST_BYTES]).hex())
+        self.say(word, k, sender, bytes(data[:MOST_BYTES]).hex())
 
     def wrong(self):
         """Operands that are mostly out of range."""
@@ -241,7 +280,7 @@ class Teller:
                 ("start", k, number, members_set, own),
                 ("join", k, view, members_set),
                 ("join", k, min(self.carrier.newest + 1, 2**32 - 1), members_set),
-                ("pass", k, draw.randrange(MOST_BYTES + 1)),
+                ("pass", k, draw.randrange(MOST_PASSED + 1)),
             ]
         )
         # What others are to take would be another order then.
@@ -250,13 +289,14 @@ class Teller:
 
     def some_call(self, k):
         word = self.draw.choice(
-            "attempt register hand tell safe collect send join pass deliver".split()
+            "attempt register hand tell safe collect send join pass deliver packet".split()
         )
         operands = {
             "send": [self.draw.randrange(100)],
             "join": [self.carrier.newest + 1, 2**self.carrier.members - 1],
-            "pass": [self.draw.choice([0, MOST_BYTES])],
+            "pass": [self.draw.choice([0, MOST_PASSED])],
             "deliver": [0, message_bytes(self.carrier.newest, ("registered",)).hex()],
+            "packet": [self.draw.randrange(9), self.some_packet(self.member(k))[:MOST_BYTES].hex()],
         }
         return self.say(word, k, *operands.get(word, []))
 
@@ -301,8 +341,10 @@ class Teller:
             return
         data = message_bytes(m.carrier[0], ("client", self.draw.randrange(100))).hex()
         member = self.draw.choice(members_of(m.carrier[1]))
-        word = self.draw.choice([("send", k, 1), ("deliver", k, member, data), ("hand", k)])
-        for _ in range(self.draw.choice([18, 40, 132])):
+        word = self.draw.choice(
+            [("send", k, 1), ("deliver", k, member, data), ("packet", k, member, data * 7), ("hand", k)]
+        )
+        for _ in range(self.draw.choice([3, 20] if word[0] == "packet" else [18, 40, 132])):
             self.say(*word)
 
     def turn(self):

@@ -122,9 +122,10 @@ class Bytes:
         return int.from_bytes(taken, "big")
 
 
-def read_message(data):
-    """(identifier of the view sent in, message). "The reader checks 32 to 34 as the
-    bytes come, then 35 to 38"."""
+def read_front(data):
+    """(identifier of the view sent in, message, how many bytes it took). "The reader
+    gives the message and the number of bytes it took": 32 to 34 as the bytes come, then
+    35 to 37."""
     come = Bytes(data)
     kind = come.number(1)
     refuse_if(not 1 <= kind <= 4, UNKNOWN_KIND)
@@ -141,14 +142,22 @@ def read_message(data):
     refuse_if(any(members_set == 0 for _, members_set in views), EMPTY_SET)
     refuse_if(not rising(views), NOT_RISING)
     refuse_if(kind == 4 and not 1 <= numbers[0] <= MOST_TAKEN, TOLD_OUT_OF_RANGE)
-    refuse_if(come.rest != b"", BYTES_LEFT_OVER)
     if kind == 1:
-        return identifier, ("client", numbers[0])
-    if kind == 2:
-        return identifier, ("info", views[0], views[1:])
-    if kind == 3:
-        return identifier, ("registered",)
-    return identifier, ("told", numbers[0])
+        message = ("client", numbers[0])
+    elif kind == 2:
+        message = ("info", views[0], views[1:])
+    elif kind == 3:
+        message = ("registered",)
+    else:
+        message = ("told", numbers[0])
+    return identifier, message, len(data) - len(come.rest)
+
+
+def read_one(data):
+    """"Callers that want exactly one [...] test the count and give 38 after 37"."""
+    identifier, message, taken = read_front(data)
+    refuse_if(taken != len(data), BYTES_LEFT_OVER)
+    return identifier, message
 
 
 # The member
@@ -236,8 +245,11 @@ class Member:
             or self.carrier is not None and len(self.carrier_inward()) > self.taken
         )
 
-    def check_book(self):
+    def check_sound(self):
         refuse_if(self.faulty(), RECORDS_UNSOUND)
+
+    def check_book(self):
+        self.check_sound()
         refuse_if(self.own >= self.members, NO_SUCH_MEMBER)
 
     # The steps. Each checks in the table's order, then changes.
@@ -289,9 +301,35 @@ class Member:
 
     def deliver(self, data, sender):
         """"deliver is given bytes and a sender"."""
+        self.check_deliver()
+        identifier, message = read_one(data)
+        self.take(identifier, message, sender)
+        return OK
+
+    def packet(self, data, sender):
+        """"A packet of several is delivered one by one, up to the first refusal. Its
+        result is the number delivered with the refusal that stopped it, or 0 (an empty
+        packet: 0 and 0, once 4 is passed)"."""
+        self.check_sound()
+        delivered = 0
+        while data:
+            try:
+                self.check_deliver()
+                identifier, message, taken = read_front(data)
+                self.take(identifier, message, sender)
+            except Refused as refusal:
+                # "the messages before that stay taken, and the stopped one changes nothing"
+                return line("took", delivered, "refused", refusal.number)
+            delivered += 1
+            data = data[taken:]
+        return line("took", delivered)
+
+    def check_deliver(self):
         self.check_book()
         refuse_if(self.carrier is None, NO_CARRIER_VIEW)
-        identifier, message = read_message(data)
+
+    def take(self, identifier, message, sender):
+        """What deliver does with a message that was read."""
         carried = [message[1]] + message[2] if message[0] == "info" else []
         refuse_if(any(self.set_bad(view) for view in carried), SET_UNFIT)
         refuse_if(identifier != self.carrier[0], ANOTHER_VIEW)
@@ -308,7 +346,6 @@ class Member:
             # "put at the end of that view's inward list"
             self.carrier_inward().append((sender, message[1]))
         self.taken += 1
-        return OK
 
     def take_info(self, sender, settled, open_views):
         # "a settled view with a higher identifier replaces its own"; "an open view that

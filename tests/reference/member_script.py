@@ -6,7 +6,9 @@ of 5,234 bytes of value 0 at first. K and J are books; numbers are decimal.
     start K N S P     members, first set, own number      join K I S        the view
     attempt K    register K    send K V    hand K    tell K    safe K    collect K
     pass K ROOM       into a buffer of ROOM bytes, at most 200
-    deliver K Q HEX   the bytes HEX, at most 200 and perhaps none, from the sender Q
+    deliver K Q HEX   the bytes HEX, at most 1,024 and perhaps none, from the sender Q
+    packet K Q HEX    the same bytes as a packet: took N, the number of messages delivered,
+                      or took N refused R where the next one was refused by R
     relay K J         what J last passed, delivered to K with J's own number as sender: the
                       number of its last accepted start, 0 before
     poke K AT X       byte AT of the book becomes X
@@ -23,7 +25,8 @@ from stored_script import answered, each_line
 
 BOOKS = 4
 MOST_LENT = 5240
-MOST_BYTES = 200
+MOST_PASSED = 200
+MOST_BYTES = 1024
 
 # The widths of the operands behind the book, in bytes.
 WIDTHS = {
@@ -95,19 +98,20 @@ class Desk:
         readable_if(fits and 0 <= int(words[1]) < BOOKS, words)
         return word, int(words[1]), operands
 
-    def deliver(self, words):
+    def arrive(self, words):
+        """A deliver or a packet."""
         hexes = words[3] if len(words) == 4 else ""
         data = bytes.fromhex(hexes)
         readable_if(3 <= len(words) <= 4 and data.hex() == hexes, words)
         readable_if(len(data) <= MOST_BYTES and 0 <= int(words[2]) < 256, words)
-        return self.books[int(words[1])].step("deliver", data, int(words[2]))
+        return self.books[int(words[1])].step(words[0], data, int(words[2]))
 
     def answer(self, text):
         if text.startswith("#"):
             return text
         words = text.split(" ")
-        if words[0] == "deliver":
-            return self.deliver(words)
+        if words[0] in ("deliver", "packet"):
+            return self.arrive(words)
         word, k, operands = self.read(words)
         book = self.books[k]
         if word == "relay":
@@ -122,7 +126,7 @@ class Desk:
             readable_if(operands[0] <= MOST_LENT, words)
             book.length = operands[0]
             return OK
-        readable_if(word != "pass" or operands[0] <= MOST_BYTES, words)
+        readable_if(word != "pass" or operands[0] <= MOST_PASSED, words)
         reply = book.step(word, *operands)
         if word == "start" and reply == OK:
             book.own = operands[2]

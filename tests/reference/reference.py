@@ -410,9 +410,9 @@ def form(group, identifier):
 # "Message bytes": the reader
 
 
-def read_message(data):
-    """(view identifier, message), or Refused. 32 to 34 are checked "as the bytes
-    come, then 35 to 38"."""
+def read_front(data):
+    """(view identifier, message, the number of bytes it took), or Refused. 32 to 34 are
+    checked "as the bytes come", then 35 to 37."""
     rest = list(data)
 
     def number(width):
@@ -435,14 +435,22 @@ def read_message(data):
     rising = all(views[i][0] < views[i + 1][0] for i in range(view_count - 1))
     refuse_if(not rising, NOT_RISING)
     refuse_if(kind == 4 and not 1 <= numbers[0] <= MOST_ORDERED, TOLD_OUT_OF_RANGE)
-    refuse_if(rest != [], BYTES_LEFT_OVER)
     if kind == 1:
-        return identifier, ("client", numbers[0])
-    if kind == 2:
-        return identifier, ("info", views[0], views[1:])
-    if kind == 3:
-        return identifier, ("registered",)
-    return identifier, ("told", numbers[0])
+        message = ("client", numbers[0])
+    elif kind == 2:
+        message = ("info", views[0], views[1:])
+    elif kind == 3:
+        message = ("registered",)
+    else:
+        message = ("told", numbers[0])
+    return identifier, message, len(data) - len(rest)
+
+
+def read_one(data):
+    """(view identifier, message) of bytes that are to be exactly one: 38 after 37."""
+    identifier, message, taken = read_front(data)
+    refuse_if(taken != len(data), BYTES_LEFT_OVER)
+    return identifier, message
 
 
 # "The bench"

@@ -6,7 +6,7 @@
 import copy
 import io
 
-from reference import Group, Refused, bench, form_steps, members_of, read_message, start
+from reference import Group, Refused, bench, form_steps, members_of, read_front, read_one, start
 
 KIND = {
     "create": 1, "join": 2, "pass": 3, "order": 4, "deliver": 5, "attempt": 6,
@@ -56,7 +56,7 @@ def made_and_joined(first_set, identifier, members_set):
 
 def reads(hexadecimal):
     try:
-        return read_message(bytes.fromhex(hexadecimal))
+        return read_one(bytes.fromhex(hexadecimal))
     except Refused as refusal:
         return refusal.number
 
@@ -151,6 +151,13 @@ def info_reads():
 def cut_and_lengthened():
     assert reads("02 00000001 01 00000000 07") == 32
     assert reads("02 00000001 01 00000000 07 00 00") == 38
+
+
+def joined_read_in_order():
+    joined = "03 00000000 00 00 02 00000001 01 00000000 07 00"
+    assert reads(joined) == 38
+    assert read_front(bytes.fromhex(joined)) == (0, ("registered",), 7)
+    assert read_front(bytes.fromhex(joined)[7:]) == (1, ("info", (0, 0b111), []), 12)
 
 
 def ordered_128_then_16():
@@ -293,6 +300,7 @@ CASES = [
     registered_reads,
     info_reads,
     cut_and_lengthened,
+    joined_read_in_order,
     ordered_128_then_16,
     list_of_length_1,
     start_refusals,

@@ -1,7 +1,8 @@
 """The two references beside each other: random steps of a group, each put to the
 reference of the group and to references of the member by itself, one for each member,
 whose bytes are carried in the same order. Their answers must be the same. The driver is one
-call of the group, and its steps of the members. Every refusal that a step has in both and
+call of the group, and its steps of the members; a packet is one call of a member, and must
+leave what deliver leaves message by message. Every refusal that a step has in both and
 every one of the driver's must have come, and every step must have succeeded: where one was
 not seen the exit status is 1.
 
@@ -10,6 +11,7 @@ not seen the exit status is 1.
 
 import collections
 import copy
+import itertools
 import random
 import sys
 
@@ -36,6 +38,7 @@ SHARED = {
     "safe": [22, 26, 28, 29],
     "collect": [13, 30, 31],
     "form": [10, 44, 45],
+    "packet": [],
 }
 CARRIERS_OWN = [10, 15, 16, 17, 18]
 
@@ -90,6 +93,21 @@ class Beside:
             sys.exit(f"{name} {p} {x}: the group says {want}, the member by itself {got}")
         self.seen[name, refused] += 1
         return refused == 0
+
+    def packet(self, p):
+        """What comes next from one sender, joined, leaves the member as it is after one by one; both are only tried."""
+        m = self.members[p]
+        rest = self.order.get(m.carrier and m.carrier[0], [])[m.taken :]
+        joined = [data for _, data in itertools.takewhile(lambda sent: sent[0] == rest[0][0], rest)]
+        if len(joined) < 2:
+            return
+        at_once, one_by_one = copy.deepcopy(m), copy.deepcopy(m)
+        answer = at_once.packet(b"".join(joined), rest[0][0])
+        for data in joined:
+            one_by_one.deliver(data, rest[0][0])
+        if answer != f"took {len(joined)}" or vars(at_once) != vars(one_by_one):
+            sys.exit(f"packet {p}: {len(joined)} messages are next, and the member by itself says {answer}")
+        self.seen["packet", 0] += 1
 
     def create(self):
         """A further view, of all, of one in any set, or of what no view may have."""
@@ -157,6 +175,8 @@ class Beside:
         elif name == "fill":
             self.fill(p)
         else:
+            if name == "deliver":
+                self.packet(p)
             self.put(name, p, draw.randrange(100) if name == "send" else draw.choice(self.group.views[-2:])[0])
 
 

@@ -54,7 +54,7 @@ def check_content(kind, views, x):
 
 
 def read(data, all_of_it):
-    """Kind, identifier, views, numbers as the bytes come: 32 where they end, 33 and 34 at once. Then 35 to 37, and 38."""
+    """Kind, identifier, views, numbers as the bytes come: 32 where they end, 33 and 34 at once. Then 35 to 37. 38 where it is to be all of them."""
     at = 0
 
     def take(width):
@@ -328,7 +328,36 @@ def mixed():
         (reads if draw(3) else fronts)(bytes(data))
 
 
-for part in (worked_cases, every_length, kinds_and_counts, values, two_faults, writer, mixed):
+def packets():
+    """Messages joined: what stands at the front, then at the front of the rest, to the end or to what is none."""
+    def packet(*messages, behind=b''):
+        data = b''.join(message(*m) for m in messages) + behind
+        if not behind:
+            reads(data)                                         # one message they are not
+        for kind, view, x, views in messages:
+            fronts(data)
+            *written, taken = read(data, False)
+            assert written == [kind, view, x if kind in (CLIENT, TOLD) else 0, list(views)]
+            data = data[taken:]
+        assert data == behind
+        if behind:
+            fronts(behind)
+
+    client, registered, told = (CLIENT, 5, TOP8, ()), (REGISTERED, 5, 0, ()), (TOLD, 5, 9, ())
+    info, longer = (INFO, 5, 0, ONE), (INFO, 5, 0, [(0, 7), (TOP4, 1)])
+    packet(registered, told, client, info)
+    packet(longer, registered, registered)
+    packet((CLIENT, 1, 3, ()), (CLIENT, 2, 3, ()), (CLIENT, 1, 3, ()))       # of two views
+    packet(info, behind=message(*client)[:-1])                               # the last is cut
+    packet(registered, registered, behind=b'\x03')
+    packet(registered, behind=b'\x00')                                       # of no kind
+    packet(registered, behind=message(CLIENT, 5, 1, ONE) + message(*registered))
+    packet(registered, behind=message(INFO, 5, views=[(0, 7), (1, 0)]) + message(*registered))
+    packet(registered, behind=message(INFO, 5, views=[(1, 7), (1, 7)]) + message(*registered))
+    packet(client, behind=message(TOLD, 5, 129) + message(*client))
+
+
+for part in (worked_cases, every_length, kinds_and_counts, values, two_faults, writer, mixed, packets):
     part()
 
 seen, lines, answers = set(), [], []

@@ -34,6 +34,15 @@ TRIED = "if (Refusal r = tried.step(s.kind, s.first, s.second, Range{event, kEve
 COUNTED = "put(count.at, kLengthSize, steps(newest()).size());"
 PRUNED = "      prune(views, count, now);\n"
 JOINED = "for (unsigned i = 1; i < m.count; ++i) open_view(views, count, now, m.views[i]);\n"
+READ_ONE = "  if (Refusal r = read_front(bytes, size, m, taken)) return r;\n  return taken == size ? kAccepted : kBytesLeftOver;"
+READ_FRONT = "  if (Refusal r = read_front(bytes, size, m, taken)) return r;\n  store_record(m, record.at);\n"
+ARRIVED = "    if (Refusal r = read(bytes, size, message)) return r;\n    return arrive(message, sender);"
+CARRIED, FRONT = "    if (!has_carrier) return kNoCarrierView;\n", "    if (Refusal r = read_front(bytes, size, message, taken_bytes)) return r;\n"
+ONE = FRONT.replace("read_front(", "read(").replace(", taken_bytes", "")
+ADMITTED = "if (delivery.size != kDeliverySize || check() == kRecordsUnsound) return kRecordsUnsound;\n"
+STOPPED = "Refusal stopped = kAccepted;"
+TOOK = "if (stopped == kAccepted) ++delivered, at += front;"
+GAVE = "    put(delivery.at + kDelivered, 4, delivered), delivery.at[kStopped] = static_cast<uint8_t>(stopped);\n    return kAccepted;"
 MOVED_UP = "for (unsigned i = 0; i < outgoings; ++i) outgoing[i] = outgoing[i + 1];"
 
 # For each file what stands there, and what is put in its place: at its first occurrence.
@@ -45,8 +54,13 @@ CHANGES = {
         ("m.views[i].id <= m.views[i - 1].id", "m.views[i].id < m.views[i - 1].id"),
         gone("m.number < 1 || "),
         ("m.number > kOrdered)", "m.number > kOrdered + 1)"),
-        ("  if (Refusal r = content(m)) return r;\n  return at == size ? kAccepted : kBytesLeftOver;",
-         "  if (at != size) return kBytesLeftOver;\n  return content(m);"),
+        (READ_ONE, "  Refusal r = read_front(bytes, size, m, taken);\n  return taken != 0 && taken != size ? kBytesLeftOver : r;"),
+        (READ_ONE, "  return read_front(bytes, size, m, taken);"),
+        (READ_FRONT, "  if (Refusal r = read(bytes, size, m)) return r;\n  taken = size;\n  store_record(m, record.at);\n"),
+        (READ_FRONT, "  put(len.at, kLengthSize, 0);\n" + READ_FRONT),
+        (READ_FRONT, "  store_record(m, record.at);\n" + READ_FRONT),
+        ("put(len.at, kLengthSize, taken);", "put(len.at, kLengthSize, size);"),
+        gone(" || len.size != kLengthSize"),
         exchanged("  if (Refusal r = content(m)) return r;", "  if (size < length(m)) return kBufferTooShort;"),
         ("size < length(m)", "size <= length(m)"),
     ],
@@ -139,6 +153,32 @@ CHANGES = {
         exchanged("    if (!set_fits(set, members)) return kSetUnfit;", "    if (!(set >> own & 1)) return kNotInSet;"),
         ("put(length.at, kLengthSize, size);", "put(length.at, kLengthSize, size << 24);"),
         ("    return m_.admit();", "    return kAccepted;"),
+        # one message as a packet of one; 38 behind all others
+        (ARRIVED, "    size_t front = 0;\n    if (Refusal r = read_front(bytes, size, message, front)) return r;\n    return arrive(message, sender);"),
+        (ARRIVED, "    size_t front = 0;\n    if (Refusal r = read_front(bytes, size, message, front)) return r;\n"
+         "    if (Refusal r = ByItself(*this).arrive(message, sender)) return r;\n"
+         "    return front == size ? arrive(message, sender) : kBytesLeftOver;"),
+        # 13 behind the reader's; a packet of one message alone
+        (CARRIED + "    Message message;\n" + FRONT, "    Message message;\n" + FRONT + CARRIED),
+        (CARRIED + "    Message message;\n" + FRONT, CARRIED + "    Message message;\n    taken_bytes = size;\n" + ONE),
+        gone("delivery.size != kDeliverySize || "),
+        gone(" || check() == kRecordsUnsound"),
+        # 6 as the call's answer; then 6, 13 and 42 of an empty packet
+        (ADMITTED, "if (delivery.size != kDeliverySize) return kRecordsUnsound;\n    if (Refusal r = check()) return r;\n"),
+        (STOPPED, "Refusal stopped = size > 0 || m_.own < m_.members ? kAccepted : kNoSuchMember;"),
+        (STOPPED, "Refusal stopped = size > 0 || m_.has_carrier ? kAccepted : kNoCarrierView;"),
+        (STOPPED, "Refusal stopped = size > 0 || !m_.has_carrier || m_.carrier.set >> (sender & 7) & 1 ? kAccepted : kSenderNotInView;"),
+        # goes on behind a refused message; counts it; says 38 of what is none; ends behind 128
+        (TOOK, "if (stopped != kAccepted && front > 0 && at + front < size) stopped = kAccepted, at += front;\n      else " + TOOK),
+        (TOOK, "++delivered, at += front;"),
+        (TOOK, TOOK + "\n      else if (delivered > 0 && front == 0) stopped = kBytesLeftOver;"),
+        ("at < size && stopped == kAccepted;", "at < size && stopped == kAccepted && delivered < kOrdered;"),
+        (GAVE, GAVE.replace("kAccepted", "stopped")),
+        (GAVE, GAVE.replace("(stopped)", "(kAccepted)")),
+        (GAVE, GAVE.replace("4, delivered", "4, delivered << 24")),
+        # a packet that is stopped leaves the book as it was
+        ("uint32_t delivered = 0;\n", "uint32_t delivered = 0;\n    struct Kept {\n      uint8_t *at, was[kBookSize];\n      const uint8_t* stop;\n"
+         "      ~Kept() { if (*stop) memcpy(at, was, kBookSize); }\n    } kept{book_.at, {}, delivery.at + kStopped};\n    memcpy(kept.was, book_.at, kBookSize);\n"),
     ],
     "group.hpp": [
         ("at[0] * kSlotSize); }", "kWaiting * kSlotSize - kSlotSize); }"),

@@ -34,13 +34,15 @@ while read -r function ranges; do
     for fault in accepted refused outside; do try "$function" $fault "$range"; done
   done
 done < <(functions)
-# Other drivers: the right one passes as the library's does, and of each other one it is seen what is wrong with it.
-if ! WRONG_FUNCTION=dvs_group_form WRONG_FAULT=driver-right "$program" short 1 > "$program.log" 2>&1; then
-  echo "REPORTED: the right driver"
-  failed=1
-fi
-for fault in $(sed -nE 's|^//   (driver-[a-z0-9-]+) .*|\1|p' tests/strength/wrong_driver.hpp); do
-  [ "$fault" = driver-right ] || try dvs_group_form "$fault" 0
-done
+# Other drivers, packets, deliveries and fronts: the right one passes as the library's does, and of each other one it is seen what is wrong with it.
+while read -r function fault; do
+  if [ "${fault#*-}" != right ]; then
+    try "$function" "$fault" 0
+  elif ! WRONG_FUNCTION=$function WRONG_FAULT=$fault "$program" short 1 > "$program.log" 2>&1; then
+    echo "REPORTED: $function $fault"
+    failed=1
+  fi
+done < <(sed -nE 's|^//   (driver-[a-z0-9-]+) .*|dvs_group_form \1|p' tests/strength/wrong_driver.hpp
+         sed -nE 's|^//   (dvs_[a-z_]+): ([a-z0-9-]+) .*|\1 \2|p' tests/strength/wrong_packet.hpp)
 echo "$reported faults reported"
 [ $reported -gt 0 ] && exit $failed

@@ -6,13 +6,15 @@
 //                    outside: an accepted call writes beside a range
 //   WRONG_RANGE      which of its lent ranges, from 0
 //
-// Only the tenth call that could show the fault has it. The driver has faults of its own, in every call: wrong_driver.hpp.
+// Only the tenth call that could show the fault has it. The driver, packets, one message delivered and the reader's front have faults of their own, in
+// every call: wrong_driver.hpp, wrong_packet.hpp.
 #include <cstdlib>
 #include <cstring>
 #include <initializer_list>
 
 #include "../../include/dvs.h"
 #include "wrong_driver.hpp"
+#include "wrong_packet.hpp"
 
 namespace {
 
@@ -73,7 +75,6 @@ WRAP(dvs_start, (BOOK, uint32_t m, uint32_t s, uint32_t o), (book, book_size, m,
 WRAP(dvs_join, (BOOK, uint32_t v, uint32_t s), (book, book_size, v, s), IN(book))
 WRAP(dvs_pass, (BOOK, uint8_t* buffer, size_t buffer_size, uint8_t* length, size_t length_size),
      (book, book_size, buffer, buffer_size, length, length_size), IN(book), IN(buffer), IN(length))
-WRAP(dvs_deliver, (BOOK, const uint8_t* bytes, size_t bytes_size, uint32_t s), (book, book_size, bytes, bytes_size, s), IN(book))
 WRAP(dvs_attempt, (BOOK, EVENT), (book, book_size, event, event_size), IN(book), IN(event))
 WRAP(dvs_register, (BOOK, EVENT), (book, book_size, event, event_size), IN(book), IN(event))
 WRAP(dvs_send, (BOOK, uint64_t e, EVENT), (book, book_size, e, event, event_size), IN(book), IN(event))
@@ -83,6 +84,30 @@ WRAP(dvs_safe, (BOOK, EVENT), (book, book_size, event, event_size), IN(book), IN
 WRAP(dvs_collect, (BOOK), (book, book_size), IN(book))
 WRAP(dvs_read, (const uint8_t* bytes, size_t bytes_size, uint8_t* message, size_t message_size),
      (bytes, bytes_size, message, message_size), IN(message))
+// One message, a packet and the reader's front, or wrong ones in their place.
+static bool has_fault(const char* name, const char* sort) { return strcmp(function, name) == 0 && strncmp(fault, sort, strlen(sort)) == 0; }
+
+extern "C" uint32_t __wrap_dvs_deliver(BOOK, const uint8_t* bytes, size_t bytes_size, uint32_t s);
+extern "C" uint32_t __wrap_dvs_deliver(BOOK, const uint8_t* bytes, size_t bytes_size, uint32_t s) {
+  if (has_fault("dvs_deliver", "deliver-")) return WrongPacket{fault}.deliver(book, book_size, bytes, bytes_size, s);
+  return spoil("dvs_deliver", __real_dvs_deliver(book, book_size, bytes, bytes_size, s), {IN(book)});
+}
+extern "C" uint32_t __real_dvs_deliver_packet(BOOK, const uint8_t* bytes, size_t bytes_size, uint32_t s, uint8_t* delivery, size_t delivery_size);
+extern "C" uint32_t __wrap_dvs_deliver_packet(BOOK, const uint8_t* bytes, size_t bytes_size, uint32_t s, uint8_t* delivery, size_t delivery_size);
+extern "C" uint32_t __wrap_dvs_deliver_packet(BOOK, const uint8_t* bytes, size_t bytes_size, uint32_t s, uint8_t* delivery, size_t delivery_size) {
+  if (has_fault("dvs_deliver_packet", "packet-"))
+    return WrongPacket{fault}.packet(book, book_size, bytes, bytes_size, s, delivery, delivery_size);
+  uint32_t answer = __real_dvs_deliver_packet(book, book_size, bytes, bytes_size, s, delivery, delivery_size);
+  return spoil("dvs_deliver_packet", answer, {IN(book), IN(delivery)});
+}
+extern "C" uint32_t __real_dvs_read_front(const uint8_t* bytes, size_t bytes_size, uint8_t* message, size_t message_size, uint8_t* length, size_t length_size);
+extern "C" uint32_t __wrap_dvs_read_front(const uint8_t* bytes, size_t bytes_size, uint8_t* message, size_t message_size, uint8_t* length, size_t length_size);
+extern "C" uint32_t __wrap_dvs_read_front(const uint8_t* bytes, size_t bytes_size, uint8_t* message, size_t message_size, uint8_t* length, size_t length_size) {
+  if (has_fault("dvs_read_front", "front-"))
+    return WrongPacket{fault}.read_front(bytes, bytes_size, message, message_size, length, length_size);
+  uint32_t answer = __real_dvs_read_front(bytes, bytes_size, message, message_size, length, length_size);
+  return spoil("dvs_read_front", answer, {IN(message), IN(length)});
+}
 WRAP(dvs_write, (const uint8_t* message, size_t message_size, uint8_t* buffer, size_t buffer_size, uint8_t* length, size_t length_size),
      (message, message_size, buffer, buffer_size, length, length_size), IN(buffer), IN(length))
 WRAP(dvs_group_start, (THREE, uint32_t m, uint32_t s), (list, list_size, books, books_size, queues, queues_size, m, s),
@@ -93,7 +118,7 @@ WRAP(dvs_group_step, (THREE, uint32_t k, uint32_t f, uint64_t s, EVENT),
 extern "C" uint32_t __real_dvs_group_form(THREE, uint32_t v, uint8_t* count, size_t count_size);
 extern "C" uint32_t __wrap_dvs_group_form(THREE, uint32_t v, uint8_t* count, size_t count_size);
 extern "C" uint32_t __wrap_dvs_group_form(THREE, uint32_t v, uint8_t* count, size_t count_size) {
-  if (strcmp(function, "dvs_group_form") == 0 && strncmp(fault, "driver-", strlen("driver-")) == 0)
+  if (has_fault("dvs_group_form", "driver-"))
     return WrongDriver{fault, list, books, queues, list_size, books_size, queues_size, v}.form(count, count_size);
   uint32_t answer = __real_dvs_group_form(list, list_size, books, books_size, queues, queues_size, v, count, count_size);
   return spoil("dvs_group_form", answer, {IN(list), IN(books), IN(queues), IN(count)});

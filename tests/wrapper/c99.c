@@ -1,5 +1,5 @@
-/* The C header in a C99 program: a book, its event read by the header's readers, a view formed, and what a shared object answers where one is
- * linked. */
+/* The C header in a C99 program: a book, its event read by the header's readers, a packet, a view formed, and what a shared object answers where one
+ * is linked. */
 #include <dvs.h>
 
 #ifdef SHARED
@@ -24,6 +24,16 @@ int main(void) {
   if (dvs_deliver(book, sizeof book, buffer, dvs_length(length), 1) != DVS_ACCEPTED) return 14;
   if (dvs_book_infos(book) != 2 || dvs_book_registrations(book) != 0 || dvs_book_told(book, 1) != 0) return 15;
   if (dvs_view_identifier(book + DVS_BOOK_CARRIER + 1) != 258 || dvs_view_set(book + DVS_BOOK_CARRIER + 1) != 6) return 16;
+  /* A registration twice in a packet, and a byte behind them that is none. */
+  static const uint8_t packet[15] = {DVS_REGISTERED, 0, 0, 1, 2, 0, 0, DVS_REGISTERED, 0, 0, 1, 2, 0, 0, 0};
+  static uint8_t delivery[DVS_DELIVERY_SIZE];
+  if (dvs_deliver(book, sizeof book, packet, sizeof packet, 2) != DVS_REFUSED_BYTES_LEFT_OVER) return 23;
+  if (dvs_deliver_packet(book, sizeof book, packet, sizeof packet, 2, delivery, sizeof delivery) != DVS_ACCEPTED) return 24;
+  if (dvs_delivery_count(delivery) != 2 || dvs_delivery_stopped(delivery) != DVS_REFUSED_UNKNOWN_KIND || dvs_book_registrations(book) != 4) return 25;
+  if (dvs_deliver_packet(book, sizeof book, packet, 0, 9, delivery, sizeof delivery) != DVS_ACCEPTED || dvs_delivery_count(delivery) != 0) return 26;
+  if (dvs_read_front(packet, sizeof packet, message, sizeof message, length, sizeof length) != DVS_ACCEPTED || dvs_length(length) != 7) return 27;
+  if (dvs_message_kind(message) != DVS_REGISTERED || dvs_message_view(message) != 258) return 28;
+  if (dvs_size(DVS_SIZE_DELIVERY, 0) != sizeof delivery) return 29;
   static uint8_t list[DVS_LIST_SIZE(2)], books[DVS_BOOKS_SIZE], queues[DVS_QUEUES_SIZE(2)], count[DVS_LENGTH_SIZE];
   if (dvs_group_start(list, sizeof list, books, sizeof books, queues, sizeof queues, 3, 7) != DVS_ACCEPTED) return 18;
   if (dvs_group_form(list, sizeof list, books, sizeof books, queues, sizeof queues, 0, count, sizeof count) != DVS_REFUSED_VIEW_NOT_FRESH) return 19;

@@ -7,8 +7,12 @@
 #include <cstdio>
 #include <cstdlib>
 #include <cstring>
+#include <iterator>
 #include <string>
 #include <vector>
+#ifdef __cpp_lib_ranges
+#include <ranges>
+#endif
 
 namespace {
 
@@ -114,6 +118,71 @@ void messages() {
   EXPECT(dvs::write(client, dvs::MutableBytes(buffer.data(), 14)).refusal() == Refusal::buffer_too_short);
   EXPECT(dvs::write(dvs::Message{}).refusal() == Refusal::unknown_kind);
   EXPECT(dvs::write(dvs::Message{dvs::MessageKind::told, Identifier{5}, 129, {}}).refusal() == Refusal::told_out_of_range);
+}
+
+// Packets: joined by the writer, taken apart by the reader's front, and taken by a book as far as they go.
+static_assert(std::is_trivially_copyable_v<dvs::Delivery> && std::is_trivially_copyable_v<dvs::Front>);
+constexpr std::uint8_t kDelivery[DVS_DELIVERY_SIZE] = {0, 1, 2, 3, DVS_REFUSED_ANOTHER_VIEW};
+static_assert(dvs::Delivery::from(dvs::Bytes(kDelivery, DVS_DELIVERY_SIZE)) == dvs::Delivery{0x10203, Refusal::another_view});
+static_assert(dvs::Delivery::from(dvs::Bytes()) == dvs::Delivery{} && dvs::Delivery{1, Refusal::none} != dvs::Delivery{});
+#ifdef __cpp_lib_ranges
+static_assert(std::input_iterator<dvs::MessagesIn::Iterator> && std::ranges::input_range<dvs::MessagesIn &>);
+#endif
+
+void packets() {
+  const dvs::Message registered{dvs::MessageKind::registered, Identifier{7}, 0, {}}, client{dvs::MessageKind::client, Identifier{7}, 9, {}};
+  dvs::Message info{dvs::MessageKind::info, Identifier{7}, 0, {}};
+  EXPECT(info.views.push_back({Identifier{0}, Set{7}}));
+  std::array<std::uint8_t, 7 + 15 + 12 + 6> buffer{};
+  buffer.back() = 77;
+  dvs::PacketWriter packet(buffer);
+  EXPECT(packet.empty() && packet.bytes().empty() && packet.bytes().data() == buffer.data());
+  EXPECT(*packet.add(registered) == 7 && *packet.add(client) == 15);
+  EXPECT(packet.add(dvs::Message{}).refusal() == Refusal::unknown_kind && packet.size() == 22);
+  EXPECT(packet.add({dvs::MessageKind::told, Identifier{7}, 129, {}}).refusal() == Refusal::told_out_of_range && packet.messages() == 2);
+  EXPECT(*packet.add(info) == 12 && packet.add(registered).refusal() == Refusal::buffer_too_short && buffer[34] == 0 && buffer.back() == 77);
+  EXPECT(!packet.empty() && packet.messages() == 3 && packet.size() == 34 && packet.bytes().size() == 34 && packet.bytes().data() == buffer.data());
+
+  const auto front = dvs::read_front(packet.bytes());
+  EXPECT(front && front->message == registered && front->taken == 7 && dvs::read(packet.bytes()).refusal() == Refusal::bytes_left_over);
+  EXPECT(*dvs::read_front(dvs::Bytes(&buffer[7], 15)) == (dvs::Front{client, 15}) && (dvs::Front{client, 15}) != *front);
+  EXPECT(dvs::read_front(dvs::Bytes()).refusal() == Refusal::ends_early && dvs::read_front(dvs::Bytes(&buffer[39], 1)).refusal() == Refusal::unknown_kind);
+
+  auto messages = dvs::messages_in(packet.bytes());
+  for (int times = 0; times < 2; ++times) {
+    std::vector<dvs::Message> read;
+    for (const dvs::Message &message : messages) read.push_back(message);
+    EXPECT((read == std::vector<dvs::Message>{registered, client, info}) && messages.refusal() == Refusal::none && messages.taken() == 34);
+  }
+  auto rest = dvs::messages_in(buffer);
+  EXPECT(std::vector<dvs::Message>(rest.begin(), rest.end()).size() == 3 && rest.refusal() == Refusal::unknown_kind && rest.taken() == 34);
+  auto at = rest.begin();
+  EXPECT(at->kind == dvs::MessageKind::registered && *at == registered && *at++ == registered && *at == client && *++at == info);
+  EXPECT(rest.taken() == 34 && rest.refusal() == Refusal::none && at != rest.end() && ++at == rest.end() && rest.refusal() == Refusal::unknown_kind);
+  auto cut = dvs::messages_in(dvs::Bytes(buffer.data(), 21)), none = dvs::messages_in(dvs::Bytes());
+  EXPECT(std::distance(cut.begin(), cut.end()) == 1 && cut.refusal() == Refusal::ends_early && cut.taken() == 7);
+  EXPECT(none.begin() == none.end() && none.refusal() == Refusal::none && none.taken() == 0);
+
+  dvs::Book book;
+  EXPECT(book.deliver_packet(packet.bytes(), Member{1}).refusal() == Refusal::records_unsound);
+  EXPECT(book.start(3, Set{7}, Member{0}) && book.join({Identifier{7}, Set{7}}) && book.deliver(packet.bytes(), Member{1}).refusal() == Refusal::bytes_left_over);
+  EXPECT(*book.deliver_packet(packet.bytes(), Member{1}) == (dvs::Delivery{3, Refusal::none}) && book.look().taken() == 3);
+  EXPECT(*book.deliver_packet(buffer, Member{2}) == (dvs::Delivery{3, Refusal::unknown_kind}) && book.look().taken() == 6);
+  EXPECT(*book.deliver_packet(packet.bytes(), Member{3}) == (dvs::Delivery{0, Refusal::sender_not_in_view}) && book.look().taken() == 6);
+  EXPECT(*book.deliver_packet(dvs::Bytes(), Member{3}) == dvs::Delivery{} && book.look().registrations() == Set{6} && book.look().infos() == Set{6});
+
+  // What a book gives out goes behind what is there already, as long as there is room.
+  dvs::Book sender;
+  EXPECT(sender.start(1, Set{1}, Member{0}) && sender.send(5) && sender.send(6));
+  dvs::PacketWriter passed(buffer);
+  EXPECT(*passed.add(registered) == 7 && *passed.pass(sender) == 15 && *passed.pass(sender) == 15 && passed.size() == 37 && passed.messages() == 3);
+  EXPECT(passed.pass(sender).refusal() == Refusal::none_outgoing && sender.send(8) && passed.pass(sender).refusal() == Refusal::buffer_too_short);
+  EXPECT(passed.size() == 37 && passed.messages() == 3 && sender.look().outgoing() == 1 && buffer.back() == 77);
+  std::vector<std::uint64_t> numbers;
+  for (const dvs::Message &message : dvs::messages_in(passed.bytes())) numbers.push_back(message.number);
+  EXPECT((numbers == std::vector<std::uint64_t>{0, 5, 6}));
+  dvs::PacketWriter nowhere{dvs::MutableBytes()};
+  EXPECT(nowhere.add(registered).refusal() == Refusal::buffer_too_short && nowhere.pass(sender).refusal() == Refusal::buffer_too_short && nowhere.bytes().empty());
 }
 
 // The specification's case of {0,1,2} and {2,3,4}, by books.
@@ -329,6 +398,7 @@ int main() {
   sets();
   steps();
   messages();
+  packets();
   books();
   entries();
   groups();

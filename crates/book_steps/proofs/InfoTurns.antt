@@ -12,8 +12,8 @@ use Rattle.views.specs.Lists.{idOf, isRising}
 use Rattle.views.proofs.VerdictLaws.{need-accepted}
 use Rattle.views.proofs.ListLaws.{rising-tail, rises-rising}
 use Rattle.wire.specs.Format.{contentOf}
-use Rattle.wire.specs.Reader.{viewsAt, viewIn, viewCount, viewsIn, readOf}
-use Rattle.wire.proofs.FrontLaws.{content-whole}
+use Rattle.wire.specs.Reader.{viewsAt, viewIn, viewCount, viewsIn, readFront}
+use Rattle.wire.proofs.TripRead.{front-met}
 use Rattle.book_bytes.specs.Books.{bookIn, bytesSound}
 use Rattle.book_bytes.proofs.Opens.{opens-in, opens-rise}
 use Rattle.book_steps.specs.Promises.{TurnsWith, InfoTurns}
@@ -30,9 +30,9 @@ behind-first c at zero r = refl
 behind-first c at (suc n) r =
     let e : suc n - 1 ≡ n = omega arith in rw e (rising-tail (viewIn c at) (viewsIn c (at + viewSize) n) r)
 
-read-rises : (c : List ℕ) → readOf c .verdict ≡ Accepted → isRising (viewsIn c viewsAt (viewCount c)) ≡ true
+read-rises : (c : List ℕ) → readFront c .verdict ≡ Accepted → isRising (viewsIn c viewsAt (viewCount c)) ≡ true
 unfolding contentOf
-read-rises c v = need-accepted _ _ _ (need-accepted _ _ _ (content-whole c v) .1) .0
+read-rises c v = need-accepted _ _ _ (need-accepted _ _ _ (front-met c v .1) .1) .0
 
 pub info-turns : InfoTurns
 info-turns = record {

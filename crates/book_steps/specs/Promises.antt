@@ -9,7 +9,7 @@ use Rattle.views.specs.declared.refusal.Verdict.the-variants.{Accepted}
 use Rattle.views.specs.Sizes.{viewSize}
 use Rattle.views.specs.Lists.{idOf, risesAbove}
 use Rattle.wire.specs.declared.merging.Merged.{Merged}
-use Rattle.wire.specs.Reader.{viewsAt, viewCount, viewsIn, readOf}
+use Rattle.wire.specs.Reader.{viewsAt, viewCount, viewsIn, readFront}
 use Rattle.wire.specs.Merges.{differentIn, Merges}
 use Rattle.book_bytes.specs.Places.{opensAt}
 use Rattle.book_bytes.specs.Books.{bookIn, bytesSound}
@@ -26,6 +26,6 @@ pub record InfoTurns : Type 0 where
   -- with an info whose open views rise above its settled view x: 4 asks that of every queued one
   pub queued : (b : List ℕ) → bytesSound b ≡ true → (x : View) (l : List View) → risesAbove (idOf x) l ≡ true
       → TurnsWith b l
-  -- with the open views of a message that was read, which stand behind the settled one
-  pub read : (b : List ℕ) → bytesSound b ≡ true → (c : List ℕ) → readOf c .verdict ≡ Accepted
+  -- with the open views of a message that was read, by itself or in a packet; they stand behind the settled one
+  pub read : (b : List ℕ) → bytesSound b ≡ true → (c : List ℕ) → readFront c .verdict ≡ Accepted
       → TurnsWith b (viewsIn c (viewsAt + viewSize) (viewCount c - 1))

@@ -1,5 +1,5 @@
--- What is given out, case by case: an event's bytes stored one part behind the other, a length, and what each verdict says.
-use mathlib.Core.Path.{_≡_, refl, ap, _∙_}
+-- What is given out, case by case: an event's bytes stored one part behind the other, a length, a delivery, and what each verdict says.
+use mathlib.Core.Path.{_≡_, refl, sym, ap, _∙_}
 use mathlib.Core.List.{List, [], _∷_, _++_, append-assoc, append-nil}
 use Prim.Native.Nat.{ℕ, _<_, _≤_}
 use native.Mathlib.Omega.{arith}
@@ -17,7 +17,7 @@ use Rattle.wire.specs.Format.{viewBytes}
 use Rattle.wire.specs.Writer.{overwritten, storeView}
 use Rattle.wire.proofs.SeamLaws.{byte-seam, number-seam, view-seam, length-viewBytes}
 use Rattle.events.specs.declared.Event.{Event}
-use Rattle.c_answers.specs.Answers.{eventSize, eventBytes, lengthSize, lengthBytes, sized, narrowed}
+use Rattle.c_answers.specs.Answers.{eventSize, eventBytes, lengthSize, lengthBytes, deliverySize, deliveryBytes, sized, narrowed}
 
 -- bytes as long as the buffer leave nothing of it
 overwritten-whole : (w b : List ℕ) → length w ≡ length b → overwritten w b ≡ w
@@ -55,6 +55,20 @@ event-stored e b c d n p q =
 pub length-stored : (b : List ℕ) (x : ℕ) → length b ≡ lengthSize → put b 0 4 x ≡ lengthBytes x
 length-stored b x n =
     number-seam [] b 0 4 x refl (omega arith) ∙ overwritten-whole (digits 4 x) b (omega (arith, length-digits 4 x))
+
+-- ---- a delivery
+
+length-delivery : (n : ℕ) (v : Verdict) → length (deliveryBytes n v) ≡ deliverySize
+unfolding deliveryBytes
+length-delivery n v = length-append (digits 4 n) (codeOf v ∷ []) ∙ omega (arith, length-digits 4 n)
+
+-- c after the count, x what stopped it
+pub delivery-stored : (b c : List ℕ) (n x : ℕ) (v : Verdict) → length b ≡ deliverySize → c ≡ put b 0 4 n → x ≡ codeOf v → set c 4 x ≡ deliveryBytes n v
+unfolding deliveryBytes
+delivery-stored b c n x v size ec ex =
+    let count : c ≡ overwritten (digits 4 n) b = ec ∙ number-seam [] b 0 4 n refl (omega arith) in
+    rw (count, ex) (byte-seam (digits 4 n) b 4 (codeOf v) (length-digits 4 n) (omega arith))
+    ∙ overwritten-whole (digits 4 n ++ codeOf v ∷ []) b (length-delivery n v ∙ sym size)
 
 -- ---- the verdicts
 

@@ -1,7 +1,8 @@
--- What the calls of the C interface have in common: the bytes of an event, which a run writes too, and of a length or a
--- count that a call gives out, a range that must have its length, a number that is taken in one byte.
+-- What the calls of the C interface have in common: the bytes of an event, which a run writes too, of a length or a
+-- count that a call gives out, and of a delivery; a range that must have its length, a number that is taken in one
+-- byte.
 use mathlib.Core.Bool.{cond}
-use mathlib.Core.List.{List, _∷_, _++_}
+use mathlib.Core.List.{List, [], _∷_, _++_}
 use Prim.Native.Nat.{ℕ, _+_}
 use lib.Dec.{eqb, ltb}
 use lib.ListN.{length}
@@ -9,7 +10,7 @@ use Rattle.numbers.specs.Number.{digits}
 use Rattle.views.specs.declared.refusal.Refusal.the-variants.{RecordsUnsound}
 use Rattle.views.specs.declared.refusal.Verdict.{Verdict}
 use Rattle.views.specs.Sizes.{viewSize, numberSize}
-use Rattle.views.specs.Refusals.{require}
+use Rattle.views.specs.Refusals.{codeOf, require}
 use Rattle.wire.specs.Format.{viewBytes}
 use Rattle.events.specs.declared.Event.{Event}
 
@@ -40,6 +41,13 @@ lengthSize = 4
 
 abbrev pub lengthBytes : ℕ → List ℕ
 lengthBytes n = digits lengthSize n
+
+-- a delivery: the number delivered 4 bytes, the number of the refusal that stopped it 1, 0 for none
+abbrev pub deliverySize : ℕ
+deliverySize = lengthSize + 1
+
+unfoldable pub deliveryBytes : ℕ → Verdict → List ℕ
+deliveryBytes n stopped = digits lengthSize n ++ (codeOf stopped ∷ [])
 
 -- 4, before anything else, for a range that is not of its length
 unfoldable pub sized : List ℕ → ℕ → Verdict → Verdict

@@ -1,5 +1,6 @@
 // Answers as numbers and lent bytes: a verdict's number; the bytes of an event, which the calls of the C interface and
-// the answers of a run share, and of a number that a call gives out; and numbers of 32 bits taken in a byte.
+// the answers of a run share, of a number that a call gives out, and of a delivery; and numbers of 32 bits taken in a
+// byte.
 use events::Event;
 use events::Reply;
 use views::refusal;
@@ -10,6 +11,7 @@ ghost use lib.ListN.{length};
 ghost use mathlib.Core.Path.{_≡_};
 ghost use Rattle.views.specs.Refusals.{codeOf, numberOf, left};
 ghost use Rattle.c_answers.specs.Answers.{narrowed, eventSize, eventBytes, lengthSize, lengthBytes};
+ghost use Rattle.c_answers.specs.Answers.{deliverySize, deliveryBytes};
 
 // Where the parts of an event stand: its kind, the member, the view, the sender, the entry number.
 pub const KIND: usize = 0;
@@ -25,8 +27,16 @@ pub const ENTRY: usize = SENDER + 1;
 // Bytes of an event.
 pub const EVENT: usize = ENTRY + sizes::NUMBER;
 
-// Bytes of a number that a call gives out: the length of a message, how many steps.
+// Bytes of a number that a call gives out: the length of a message, how many bytes one took, how many steps.
 pub const LENGTH: usize = 4;
+
+// Where the parts of a delivery stand: how many messages were delivered, the refusal that stopped it.
+pub const COUNT: usize = 0;
+
+pub const STOPPED: usize = COUNT + LENGTH;
+
+// Bytes of a delivery.
+pub const DELIVERY: usize = STOPPED + 1;
 
 // 0 for accepted, or the refusal's number.
 pub fn code(v: Verdict) -> u32
@@ -89,6 +99,22 @@ pub fn measure(out: &mut [u8], v: Verdict, n: usize) -> u32
         Verdict::Refused(why) => refused(why),
         Verdict::Accepted => {
             numbers::put_number(out, 0, LENGTH, n as u64);
+            0
+        }
+    }
+}
+
+// The number of a call that gives a delivery out, n messages and what stopped it: a refusal of the call leaves the
+// bytes.
+pub fn account(out: &mut [u8], v: Verdict, n: usize, stopped: Verdict) -> u32
+    requires { ⌜ length (now out) ≡ deliverySize ⌝ }
+    ensures { λ x. ⌜ (x ≡ codeOf v) × (now (out .exit) ≡ left v (deliveryBytes n stopped) (now (out .entry))) ⌝ }
+{
+    match v {
+        Verdict::Refused(why) => refused(why),
+        Verdict::Accepted => {
+            numbers::put_number(out, COUNT, LENGTH, n as u64);
+            out[STOPPED] = refusal::code(stopped);
             0
         }
     }

@@ -11,7 +11,7 @@ use Rattle.wire.specs.Records.{recordSize}
 use Rattle.rules.specs.Sound.{within}
 use Rattle.book_bytes.specs.Places.{bookSize}
 use Rattle.group_bytes.specs.Places.{booksSize, queuesSize}
-use Rattle.c_answers.specs.Answers.{eventSize, lengthSize}
+use Rattle.c_answers.specs.Answers.{eventSize, lengthSize, deliverySize}
 use Rattle.group_run.specs.Records.{stepSize, answerSize}
 use Rattle.dvs.specs.Library.{memberSize, groupSize, listSize, tablesSize, sizeOf}
 
@@ -53,11 +53,11 @@ module _ (n : ℕ) where
 
 -- ---- the tables
 
-pub member-sizes : (k other a b c d e : ℕ) → a ≡ cond (eqb k 5) longest other → b ≡ cond (eqb k 4) recordSize a → c ≡ cond (eqb k 3) lengthSize b
-    → d ≡ cond (eqb k 2) eventSize c → e ≡ cond (eqb k 1) bookSize d → e ≡ memberSize k other
+pub member-sizes : (k other z a b c d e : ℕ) → z ≡ cond (eqb k 11) deliverySize other → a ≡ cond (eqb k 5) longest z → b ≡ cond (eqb k 4) recordSize a
+    → c ≡ cond (eqb k 3) lengthSize b → d ≡ cond (eqb k 2) eventSize c → e ≡ cond (eqb k 1) bookSize d → e ≡ memberSize k other
 unfolding memberSize
-member-sizes k other a b c d e p q r s t =
-    t ∙ ap (cond (eqb k 1) bookSize) (s ∙ ap (cond (eqb k 2) eventSize) (r ∙ ap (cond (eqb k 3) lengthSize) (q ∙ ap (cond (eqb k 4) recordSize) p)))
+member-sizes k other z a b c d e o p q r s t =
+    t ∙ ap (cond (eqb k 1) bookSize) (s ∙ ap (cond (eqb k 2) eventSize) (r ∙ ap (cond (eqb k 3) lengthSize) (q ∙ ap (cond (eqb k 4) recordSize) (p ∙ ap (cond (eqb k 5) longest) o))))
 
 pub group-sizes : (k list queues a b c d e : ℕ) → a ≡ cond (eqb k 10) answerSize 0 → b ≡ cond (eqb k 9) stepSize a → c ≡ cond (eqb k 8) queues b
     → d ≡ cond (eqb k 7) booksSize c → e ≡ cond (eqb k 6) list d → e ≡ groupSize k list queues

@@ -1,4 +1,4 @@
--- From what the member's pass and the message's record gave to what the calls give here.
+-- From what the member's pass, a packet and the message's record gave to what the calls give here.
 use mathlib.Core.Path.{_≡_, refl, ap, _∙_}
 use mathlib.Core.List.{List}
 use Prim.Native.Nat.{ℕ}
@@ -11,18 +11,22 @@ use Rattle.views.specs.declared.refusal.Verdict.the-variants.{Accepted, Refused
 use Rattle.views.specs.Refusals.{codeOf, require, left}
 use Rattle.wire.specs.declared.Written.{Written}
 use Rattle.wire.specs.Format.{isKnown}
-use Rattle.wire.specs.Reader.{readOf}
+use Rattle.wire.specs.declared.Front.{Front}
+use Rattle.wire.specs.Reader.{readFront, frontOf}
+use Rattle.wire.specs.Single.{readOne}
 use Rattle.wire.specs.Writer.{frameBytes, writeVerdict, writtenOf, Wrote}
 use Rattle.rules.specs.Data.{Result, refused, accepted}
 use Rattle.rules.specs.Member.{Passing}
+use Rattle.rules.specs.Alone.{Delivery}
 use Rattle.book_steps.specs.Acts.{passBytes}
 use Rattle.member.specs.declared.Passed.{Passed}
-use Rattle.member.specs.Calls.{GaveOut, passCall, passedOf, passBuffer}
-use Rattle.c_answers.specs.Answers.{lengthSize, lengthBytes}
+use Rattle.member.specs.declared.Delivered.{Delivered}
+use Rattle.member.specs.Calls.{GaveOut, passCall, passedOf, passBuffer, packetCall, packetBytes, deliveredOf, GaveEach}
+use Rattle.c_answers.specs.Answers.{lengthSize, lengthBytes, deliverySize, deliveryBytes}
 use Rattle.c_answers.proofs.AnswerLaws.{sized-met, sized-unmet}
 use Rattle.wire.specs.Records.{recordSize, recordBytes, frameOf}
 use Rattle.events.specs.Replies.{verdictOf}
-use Rattle.dvs.specs.MessageCalls.{Passes, reading, Reads, writing, Writes}
+use Rattle.dvs.specs.MessageCalls.{Passes, accounted, Delivers, reading, Reads, readingFront, ReadsFront, writing, Writes}
 
 -- ---- pass
 
@@ -52,21 +56,65 @@ passes-call b b' o o' l l' r x n h k =
     let size : l' ≡ left (verdictOf result) (lengthBytes (passedOf result .length)) l = rw (w, h .reply) at (k .1) in
     record { number = rw v number; book = rw v (h .book); buffer = rw v (h .buffer ∙ passed-buffer result o); size = rw v size }
 
+-- ---- a packet
+
+delivered-verdict : (result : Result Delivery) → deliveredOf result .verdict ≡ verdictOf result
+delivered-verdict (refused r) = refl
+delivered-verdict (accepted x) = refl
+
+pub delivers-unsized : (s : List ℕ) (q : ℕ) (b e : List ℕ) (x : ℕ) → (length e ≡ deliverySize → ⊥) → x ≡ 4 → Delivers s q b b e e x
+unfolding left
+delivers-unsized s q b e x h k =
+    let v = sized-unmet e deliverySize (verdictOf (packetCall s q b)) h in
+    record { number = rw v k; book = rw v; delivery = rw v }
+
+pub delivers-call : (s : List ℕ) (q : ℕ) (b b' e e' : List ℕ) (r : Delivered) (x : ℕ) → length e ≡ deliverySize → GaveEach (packetCall s q b) (packetBytes s q b) b b' r
+    → (x ≡ codeOf (r .verdict)) × (e' ≡ left (r .verdict) (deliveryBytes (r .count) (r .stopped)) e) → Delivers s q b b' e e' x
+delivers-call s q b b' e e' r x n h k =
+    let result = packetCall s q b in
+    let v = sized-met e deliverySize (verdictOf result) n in
+    let w : r .verdict ≡ verdictOf result = ap (λ (y : Delivered). y .verdict) (h .reply) ∙ delivered-verdict result in
+    let number : x ≡ codeOf (verdictOf result) = k .0 ∙ ap (λ (y : Verdict). codeOf y) w in
+    let delivery : e' ≡ left (verdictOf result) (accounted (deliveredOf result)) e = k .1 ∙ (λ i. left (w i) (accounted (h .reply i)) e) in
+    record { number = rw v number; book = rw v (h .book); delivery = rw v delivery }
+
 -- ---- read and write
 
 pub reads-unsized : (s m : List ℕ) (x : ℕ) → (length m ≡ recordSize → ⊥) → x ≡ 4 → Reads s m m x
 unfolding left
 reads-unsized s m x h k =
-    let v = sized-unmet m recordSize (readOf s .verdict) h in
+    let v = sized-unmet m recordSize (readOne s .verdict) h in
     let number : x ≡ codeOf (reading s m) = rw v k in
     record { number = number; message = rw v }
 
 pub reads-call : (s m m' : List ℕ) (v : Verdict) (x : ℕ) → length m ≡ recordSize
-    → (v ≡ readOf s .verdict) × (m' ≡ left (readOf s .verdict) (recordBytes (readOf s .frame)) m) → x ≡ codeOf v → Reads s m m' x
+    → (v ≡ readOne s .verdict) × (m' ≡ left (readOne s .verdict) (recordBytes (readOne s .frame)) m) → x ≡ codeOf v → Reads s m m' x
 reads-call s m m' v x n h k =
-    let e = sized-met m recordSize (readOf s .verdict) n in
-    let number : x ≡ codeOf (readOf s .verdict) = k ∙ ap (λ (w : Verdict). codeOf w) (h .0) in
+    let e = sized-met m recordSize (readOne s .verdict) n in
+    let number : x ≡ codeOf (readOne s .verdict) = k ∙ ap (λ (w : Verdict). codeOf w) (h .0) in
     record { number = rw e number; message = rw e (h .1) }
+
+module _ (s m l : List ℕ) where
+  front-refused : (r : Refusal) (x : ℕ) → readingFront s m l ≡ Refused r → x ≡ codeOf (Refused r) → ReadsFront s m m l l x
+  unfolding left
+  front-refused r x v k = record { number = rw v k; message = rw v; size = rw v }
+
+  pub front-unsized : (x : ℕ) → (length m ≡ recordSize → ⊥) → x ≡ 4 → ReadsFront s m m l l x
+  front-unsized x h k = front-refused RecordsUnsound x (sized-unmet m recordSize _ h) k
+
+  module _ (whole : length m ≡ recordSize) where
+    pub front-unmeasured : (x : ℕ) → (length l ≡ lengthSize → ⊥) → x ≡ 4 → ReadsFront s m m l l x
+    front-unmeasured x h k = front-refused RecordsUnsound x (sized-met m recordSize _ whole ∙ sized-unmet l lengthSize _ h) k
+
+    pub front-call : (m' l' : List ℕ) (f : Front) (x : ℕ) → length l ≡ lengthSize
+        → (f ≡ frontOf s) × (m' ≡ left (readFront s .verdict) (recordBytes (readFront s .frame)) m)
+        → (x ≡ codeOf (f .verdict)) × (l' ≡ left (f .verdict) (lengthBytes (f .taken)) l) → ReadsFront s m m' l l' x
+    front-call m' l' f x room h k =
+        let v : readingFront s m l ≡ readFront s .verdict = sized-met m recordSize _ whole ∙ sized-met l lengthSize _ room in
+        let number : x ≡ codeOf (readFront s .verdict) = k .0 ∙ ap (λ (y : Front). codeOf (y .verdict)) (h .0) in
+        let size : l' ≡ left (readFront s .verdict) (lengthBytes (readFront s .taken)) l
+        = k .1 ∙ ap (λ (y : Front). left (y .verdict) (lengthBytes (y .taken)) l) (h .0) in
+        record { number = rw v number; message = rw v (h .1); size = rw v size }
 
 -- what the writer gave, by its verdict
 written-said : (v : Verdict) (n x : ℕ) (l l' : List ℕ) → (x ≡ codeOf (writtenOf v n .verdict)) × (l' ≡ left (writtenOf v n .verdict) (lengthBytes (writtenOf v n .length)) l)

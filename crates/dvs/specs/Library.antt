@@ -8,23 +8,24 @@ use Rattle.wire.specs.Records.{recordSize}
 use Rattle.rules.specs.Sound.{within}
 use Rattle.book_bytes.specs.Places.{bookSize}
 use Rattle.group_bytes.specs.Places.{booksSize, queuesSize}
-use Rattle.c_answers.specs.Answers.{eventSize, lengthSize}
+use Rattle.c_answers.specs.Answers.{eventSize, lengthSize, deliverySize}
 use Rattle.group_run.specs.Records.{stepSize, answerSize}
 
 -- major · 10000 + minor · 100 + patch
 abbrev pub version : ℕ
-version = 300
+version = 400
 
 -- ---- the length of a range by its number
 
--- a book 1, an event 2, a length or a count 3, a message's record 4, a buffer for any message 5
+-- a book 1, an event 2, a length or a count 3, a message's record 4, a buffer for any message 5, a delivery 11
 unfoldable pub memberSize : ℕ → ℕ → ℕ
 memberSize range other =
     cond (eqb range 1) bookSize (
     cond (eqb range 2) eventSize (
     cond (eqb range 3) lengthSize (
     cond (eqb range 4) recordSize (
-    cond (eqb range 5) longest other))))
+    cond (eqb range 5) longest (
+    cond (eqb range 11) deliverySize other)))))
 
 -- a group's list 6, its books 7, its queues 8; of a run a step 9 and an answer 10; 0 for every other number
 unfoldable pub groupSize : ℕ → ℕ → ℕ → ℕ

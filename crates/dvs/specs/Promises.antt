@@ -8,6 +8,7 @@ use lib.ListN.{length, take}
 use Rattle.views.specs.Refusals.{left}
 use Rattle.views.specs.Sets.{one}
 use Rattle.wire.specs.Widths.{AreBytes}
+use Rattle.wire.specs.Reader.{readFront}
 use Rattle.wire.specs.Writer.{frameBytes, overwritten}
 use Rattle.wire.specs.Records.{recordSize, recordBytes, frameOf}
 use Rattle.wire.specs.Promises.{canonical}
@@ -19,7 +20,7 @@ use Rattle.group_bytes.specs.Forming.{formTaken}
 use Rattle.events.specs.Shown.{shownBy, eventsShown}
 use Rattle.group_bytes.specs.Promises.{Given}
 use Rattle.c_answers.specs.Answers.{lengthSize, lengthBytes}
-use Rattle.dvs.specs.MessageCalls.{Reads, Writes}
+use Rattle.dvs.specs.MessageCalls.{Reads, ReadsFront, Writes}
 use Rattle.dvs.specs.GroupCalls.{Begins, Steps, stepping, Forms, forming}
 
 -- from the ranges r to f by calls of dvs_group_step and dvs_group_form, each as its contract has it, and the events
@@ -48,3 +49,11 @@ pub record Demand2 : Type 0 where
   pub written-then-read : (m o o' l l' k k' : List ℕ) (x : ℕ) → AreBytes m → recordBytes (canonical (frameOf m)) ≡ m
       → Writes m o o' l l' 0 → length k ≡ recordSize → Reads (take (length (frameBytes (frameOf m))) o') k k' x
       → (x ≡ 0) × (k' ≡ m)
+  -- the same of dvs_read_front: the record that it made of the front of s is written as those bytes, and what dvs_write
+  -- wrote is read from the front of the buffer, whatever lies behind it
+  pub front-then-written : (s m m' j j' o o' l l' : List ℕ) (x : ℕ) → AreBytes s → ReadsFront s m m' j j' 0
+      → readFront s .taken ≤ length o → length l ≡ lengthSize → Writes m' o o' l l' x
+      → (x ≡ 0) × (o' ≡ overwritten (take (readFront s .taken) s) o) × (l' ≡ j')
+  pub written-then-front : (m o o' l l' k k' j j' : List ℕ) (x : ℕ) → AreBytes m
+      → recordBytes (canonical (frameOf m)) ≡ m → Writes m o o' l l' 0 → length k ≡ recordSize
+      → length j ≡ lengthSize → ReadsFront o' k k' j j' x → (x ≡ 0) × (k' ≡ m) × (j' ≡ l')

@@ -6,7 +6,7 @@ ghost use lib.Dec.{eqb};
 ghost use Rattle.dvs.specs.Library.{version, memberSize, groupSize, listSize, tablesSize, sizeOf};
 
 // Major · 10000 + minor · 100 + patch.
-pub const VERSION: u32 = 300;
+pub const VERSION: u32 = 400;
 
 // The ranges by number: of the member by itself and of messages, then of a whole group and of a run.
 pub const BOOK: u32 = 1;
@@ -28,6 +28,9 @@ pub const QUEUES: u32 = 8;
 pub const STEP: u32 = 9;
 
 pub const ANSWER: u32 = 10;
+
+// And of a packet.
+pub const DELIVERY: u32 = 11;
 
 // The version of the library.
 #[no_mangle]
@@ -77,7 +80,8 @@ fn queues_size(views: u32) -> usize
 fn member_size(range: u32, other: u64) -> u64
     ensures { λ r. ⌜ r ≡ memberSize range other ⌝ }
 {
-    let buffer = pick(range, BUFFER, limits::LONGEST, other);
+    let delivery = pick(range, DELIVERY, c_answers::DELIVERY, other);
+    let buffer = pick(range, BUFFER, limits::LONGEST, delivery);
     let message = pick(range, MESSAGE, wire::record::RECORD, buffer);
     let length = pick(range, LENGTH, c_answers::LENGTH, message);
     let event = pick(range, EVENT, c_answers::EVENT, length);

@@ -41,7 +41,7 @@ unsound-called b r h =
     (λ (e : layoutFits b ≡ false). rw e)
     (known (layoutFits b))
 
-sound-called : {A : Type 0} (b : List ℕ) (r : Result A) → bytesSound b ≡ true → called b r ≡ need (ltb (selfIn b) (membersIn b)) NoSuchMember r
+pub sound-called : {A : Type 0} (b : List ℕ) (r : Result A) → bytesSound b ≡ true → called b r ≡ need (ltb (selfIn b) (membersIn b)) NoSuchMember r
 unfolding bytesSound alone need
 sound-called b r h = let (l, (s, _)) = conditions-say _ h in rw (l, s)
 

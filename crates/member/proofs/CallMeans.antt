@@ -13,14 +13,14 @@ use Rattle.views.specs.declared.refusal.Refusal.{Refusal}
 use Rattle.views.specs.Limits.{maxMembers, maxOpen, maxOrdered}
 use Rattle.views.specs.Sets.{one, has}
 use Rattle.views.specs.Lists.{idOf}
-use Rattle.wire.specs.Reader.{readOf}
+use Rattle.wire.specs.Single.{readOne}
 use Rattle.wire.proofs.TripViews.{AreBytes}
 use Rattle.rules.specs.Data.{Book as Ruled, Message, client, info, registered, told, entry, ok, Result, refused, accepted, withView, after}
 use Rattle.rules.specs.Member.{Done, Passing, passing, delivered, attempts}
 use Rattle.rules.specs.Sound.{countFits}
 use Rattle.rules.specs.Alone.{Sent, sentOf, bookSound, alone, joinAlone, passAlone, deliverAlone, attemptAlone}
 use Rattle.rules.proofs.TestLaws.{within-says, conditions-say}
-use Rattle.rules.proofs.Alone.Readable.{Carries, reading-readable, reading-fits}
+use Rattle.rules.proofs.Alone.Readable.{Carries, Given, one-given}
 use Rattle.slots.proofs.Stored.{MessageFits, toldOf}
 use Rattle.book_bytes.specs.Places.{takenAt}
 use Rattle.book_bytes.specs.Records.{recordIn}
@@ -33,6 +33,7 @@ use Rattle.book_steps.proofs.MeansMarks.{hand-means, safe-means, collect-means}
 use Rattle.book_steps.proofs.MeansJoin.{join-means, attempt-means, pass-means}
 use Rattle.book_steps.proofs.MeansTake.{take-means}
 use Rattle.member.specs.Calls.{joinCall, passCall, takenBytes, deliverCall, deliverBytes, attemptCall, registerCall, sendCall, handCall, tellCall, safeCall, collectCall}
+use Rattle.member.specs.Parts.{messageCall}
 use Rattle.member.proofs.CallLaws.{need-gave, called-gave}
 use Rattle.member.proofs.ArriveLaws.{carrier-mark, sender-small}
 
@@ -134,12 +135,12 @@ module _ (b : List ℕ) (bytes : AreBytes b) where
   taken-is = refl
 
   -- what was read is what is taken
-  pub deliver-call : (m : List ℕ) (q : ℕ) → AreBytes m → (d : Done) → deliverCall m q b ≡ accepted d → Means b (deliverBytes m q b) (d .book)
-  unfolding deliverCall deliverAlone deliverBytes
-  deliver-call m q w d e =
+  pub message-call : (read : Result Sent) → Given read → (q : ℕ) (d : Done) → messageCall read q b ≡ accepted d → Means b (takenBytes read q b) (d .book)
+  unfolding deliverAlone
+  message-call read g q d e =
       let (a, r) = called-gave b _ d e in
       let (v, carrier, r1) = view-gave (bookIn b .carrier .view) _ _ d r in
-      let (x, read, r2) = after-gave (sentOf (readOf m)) _ d r1 in
+      let (x, is, r2) = after-gave read _ d r1 in
       let (_, r3) = need-gave _ _ _ _ r2 in
       let (_, r4) = need-gave _ _ _ _ r3 in
       let (sender, r5) = need-gave (has (v .set) q) _ _ _ r4 in
@@ -147,8 +148,12 @@ module _ (b : List ℕ) (bytes : AreBytes b) where
       let roomy : bookIn b .carrier .taken < maxOrdered = ltb-true _ _ room in
       let (few, r7) = need-gave (leb (length (delivered q (x .message) (bookIn b) .held .opens)) maxOpen) _ _ _ r6 in
       let given : record { book = delivered q (x .message) (bookIn b); answer = ok } ≡ d = cc in
-      let f = reading-fits m x w read in
+      let f = g .fits x is in
       let means : Means b (takeBytes q (x .message) b) (delivered q (x .message) (bookIn b))
       = take-means b bytes (a .sound) q (x .message) (sender-small b v q (a .sound) carrier sender) (carried-fits (x .message) f) (f .sets)
-      (told-byte (x .message) (reading-readable m x read .count)) (carrier-mark b v carrier) (rw taken-is at roomy) (leb-true _ _ few) in
-      taken-means b q (sentOf (readOf m)) x (delivered q (x .message) (bookIn b)) d read given means
+      (told-byte (x .message) (g .readable x is .count)) (carrier-mark b v carrier) (rw taken-is at roomy) (leb-true _ _ few) in
+      taken-means b q read x (delivered q (x .message) (bookIn b)) d is given means
+
+  pub deliver-call : (m : List ℕ) (q : ℕ) → AreBytes m → (d : Done) → deliverCall m q b ≡ accepted d → Means b (deliverBytes m q b) (d .book)
+  unfolding deliverCall deliverBytes
+  deliver-call m q w d e = message-call (sentOf (readOne m)) (one-given m w) q d e

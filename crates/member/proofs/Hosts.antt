@@ -5,23 +5,23 @@ pub mod Follows
 use mathlib.Core.Path.{_≡_, _∙_}
 use mathlib.Core.List.{List}
 use Prim.Native.Nat.{ℕ, _<_}
-use Rattle.wire.specs.Reader.{readOf}
+use Rattle.wire.specs.Single.{readOne}
 use Rattle.rules.specs.Data.{Identifier, Member, Message, Entry, entry, Book, accepted}
 use Rattle.rules.specs.Alone.{sentOf}
 use Rattle.rules.specs.Hosts as R
 use Rattle.book_bytes.proofs.LayoutLaws.{layout-from}
 use Rattle.book_steps.proofs.Means.{Means}
 use Rattle.member.specs.Promises.{AreBook}
-use Rattle.member.specs.Hosts.{Packet, World}
+use Rattle.member.specs.Hosts.{Letter, World}
 use Rattle.member.proofs.Hosts.Related.{Pairs}
 
 -- the bytes are read as the message of an entry from q, sent in the view g
 pub record ReadAs (g : Identifier) (q : Member) (b : List ℕ) (e : Entry) : Type 0 where
   pub message : Message
   pub is : e ≡ entry q message
-  pub read : sentOf (readOf b) ≡ accepted (record { view = g; message = message })
+  pub read : sentOf (readOne b) ≡ accepted (record { view = g; message = message })
 
-abbrev pub Ordered : Identifier → Packet → Entry → Type 0
+abbrev pub Ordered : Identifier → Letter → Entry → Type 0
 Ordered g k e = ReadAs g (k .sender) (k .bytes) e
 
 pub record Same (n : ℕ) (w : World) (t : R.World ℕ) : Type 0 where

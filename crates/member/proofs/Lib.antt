@@ -3,6 +3,8 @@ pub mod StartLaws
 pub mod ArriveLaws
 pub mod StartMeans
 pub mod CallMeans
+pub mod PacketLaws
+pub mod Packets
 pub mod NeverFour
 pub mod PassLaws
 pub mod ReadLaws

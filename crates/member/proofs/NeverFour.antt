@@ -8,25 +8,27 @@ use Rattle.views.specs.declared.refusal.Refusal.the-variants.{RecordsUnsound}
 use Rattle.views.specs.Sets.{one}
 use Rattle.views.specs.Lists.{viewOf}
 use Rattle.views.specs.Refusals.{left}
-use Rattle.wire.specs.Reader.{readOf}
+use Rattle.wire.specs.Single.{readOne}
 use Rattle.wire.proofs.TripViews.{AreBytes}
 use Rattle.rules.specs.Data.{Book as Ruled, Result, refused, accepted}
 use Rattle.rules.specs.Member.{Done, Passing}
-use Rattle.rules.specs.Alone.{Sent, sentOf, deliverAlone}
+use Rattle.rules.specs.Alone.{Sent, sentOf, deliverAlone, Delivery, onward, oneByOne}
 use Rattle.rules.proofs.TestLaws.{_and_, conditions-from}
 use Rattle.rules.proofs.Alone.Kept.{KeptAlone, start-kept, join-kept, pass-kept, attempt-kept, register-kept, send-kept, hand-kept, tell-kept, safe-kept, collect-kept}
-use Rattle.rules.proofs.Alone.Taken.{Readable, deliver-kept}
-use Rattle.rules.proofs.Alone.Readable.{reading-readable}
+use Rattle.rules.proofs.Alone.Taken.{deliver-kept}
+use Rattle.rules.proofs.Alone.Readable.{Given, one-given}
+use Rattle.rules.proofs.Alone.Packets.{Each, Fine, each-fine}
 use Rattle.events.specs.Replies.{verdictOf}
 use Rattle.book_bytes.specs.Books.{bookIn, layoutFits, bytesSound, membersIn, selfIn}
 use Rattle.book_bytes.proofs.LayoutLaws.{Layout, layout-from}
 use Rattle.book_steps.proofs.Means.{Means}
 use Rattle.book_bytes.specs.Starts.{startBytes}
-use Rattle.member.specs.Calls.{onBook, joinCall, passCall, deliverCall, attemptCall, registerCall, sendCall, handCall, tellCall, safeCall, collectCall, startCall}
+use Rattle.member.specs.Calls.{onBook, messagesIn, packetCall, joinCall, passCall, deliverCall, attemptCall, registerCall, sendCall, handCall, tellCall, safeCall, collectCall, startCall}
 use Rattle.member.specs.Drives.{Call, after, lastOf, Within, AllWithin}
 use Rattle.member.specs.Promises.{NeverFour}
 use Rattle.member.proofs.CallLaws.{need-gave}
 use Rattle.member.proofs.StartMeans.{start-gave, start-means}
+use Rattle.member.proofs.PacketLaws.{packet-gives, packet-call}
 use Rattle.member.proofs.CallMeans.{delivers-read, join-call, pass-call, deliver-call, attempt-call, register-call, send-call, hand-call, tell-call, safe-call, collect-call}
 
 -- what every call keeps of a member's bytes
@@ -40,6 +42,22 @@ record Kept (b : List ℕ) : Type 0 where
 kept-sound : (b : List ℕ) → Kept b → bytesSound b ≡ true
 unfolding bytesSound
 kept-sound b k = conditions-from _ (layout-from b (k .layout) and k .book .sound and tt)
+
+-- ---- messages, on the rules' book
+
+message-kept : (n p : ℕ) (read : Result Sent) → Given read → (q : ℕ) (b : Ruled) (d : Done) → KeptAlone n b → deliverAlone n p read q b ≡ accepted d → KeptAlone n (d .book)
+message-kept n p read g q b d k e = let (x, is) = delivers-read n p read q b d e in deliver-kept n p x q b d k (g .readable x is) (rw is at e)
+
+onward-kept : (n : ℕ) (b : Ruled) (others : Ruled → Delivery) (r : Result Done) → KeptAlone n b → ((d : Done) → r ≡ accepted d → KeptAlone n (d .book))
+    → ((c : Ruled) → KeptAlone n c → KeptAlone n (others c .book)) → KeptAlone n (onward b others r .book)
+onward-kept n b others (refused x) k f g = k
+onward-kept n b others (accepted d) k f g = g (d .book) (f d refl)
+
+each-kept : (n p : ℕ) (l : List (Result Sent)) → Each Fine l → (q : ℕ) (b : Ruled) → KeptAlone n b → KeptAlone n (oneByOne n p l q b .book)
+unfolding oneByOne
+each-kept n p [] f q b k = k
+each-kept n p (read ∷ l) ((g, _), f) q b k =
+    onward-kept n b (λ c. oneByOne n p l q c) (deliverAlone n p read q b) k (λ d e. message-kept n p read g q b d k e) (λ c j. each-kept n p l f q c j)
 
 -- ---- one call
 
@@ -74,11 +92,6 @@ module _ (b : List ℕ) (k : Kept b) where
       → ((d : Done) → r ≡ accepted d → KeptAlone n (d .book)) → Kept (left (verdictOf (onBook b r)) new b)
   step-kept new r f g = call-kept (λ (d : Done). d .book) new r f g
 
-  -- what the reader gave is taken; where it refused, nothing is
-  taken-kept : (read : Result Sent) → ((x : Sent) → read ≡ accepted x → Readable (x .message)) → (q : ℕ) (d : Done)
-      → deliverAlone n p read q (bookIn b) ≡ accepted d → KeptAlone n (d .book)
-  taken-kept read f q d e = let (x, is) = delivers-read n p read q (bookIn b) d e in deliver-kept n p x q (bookIn b) d (k .book) (f x is) (rw is at e)
-
   after-kept : (c : Call) → Within c → Kept (after c b)
   unfolding after Within joinCall passCall deliverCall attemptCall registerCall sendCall handCall tellCall safeCall collectCall
   after-kept (Call.join g S) w =
@@ -86,7 +99,12 @@ module _ (b : List ℕ) (k : Kept b) where
   after-kept (Call.pass buffer) w =
       call-kept (λ (x : Passing). x .book) _ _ (pass-call b (k .bytes) (length buffer)) (λ x e. pass-kept n p (length buffer) (bookIn b) x (k .book) e)
   after-kept (Call.deliver bytes q) w =
-      step-kept _ _ (deliver-call b (k .bytes) bytes q w) (λ d e. taken-kept (sentOf (readOf bytes)) (reading-readable bytes) q d e)
+      step-kept _ _ (deliver-call b (k .bytes) bytes q w) (λ d e. message-kept n p (sentOf (readOne bytes)) (one-given bytes w) q (bookIn b) d (k .book) e)
+  after-kept (Call.packet s q) w =
+      left-kept (λ (x : Delivery). x .book) b _ (packetCall s q b) k
+      (λ x e.
+      let is = packet-gives s q b x e .1 in
+      (packet-call s q b w (k .bytes) x e, rw is (each-kept n p (messagesIn s) (each-fine s w) q (bookIn b) (k .book))))
   after-kept Call.attempt w = step-kept _ _ (attempt-call b (k .bytes)) (λ d e. attempt-kept one n p (bookIn b) d (k .book) e)
   after-kept Call.register w = step-kept _ _ (register-call b (k .bytes)) (λ d e. register-kept n p (bookIn b) d (k .book) e)
   after-kept (Call.send x) w = step-kept _ _ (send-call b (k .bytes) x w) (λ d e. send-kept n p x (bookIn b) d (k .book) e)

@@ -15,7 +15,8 @@ use Rattle.views.specs.Lists.{idOf}
 use Rattle.views.proofs.SetLaws.{known}
 use Rattle.views.proofs.PlaceLaws.{length-places}
 use Rattle.wire.specs.Widths.{AreBytes, Fits}
-use Rattle.wire.specs.Reader.{viewIn, viewsIn, readOf}
+use Rattle.wire.specs.Reader.{viewIn, viewsIn}
+use Rattle.wire.specs.Single.{readOne}
 use Rattle.wire.specs.Writer.{frameBytes, frameVerdict}
 use Rattle.wire.proofs.TripViews.{get-fits, views-fit}
 use Rattle.wire.proofs.TripMessages.{client-number}
@@ -74,7 +75,7 @@ frame-fits b at g bytes h few = record {
 
 -- so it is read as the entry's message
 sent-at : (b : List ℕ) (at g : ℕ) → EntryOk b at → Fits (frameAt b at g) → frameVerdict (frameAt b at g) ≡ Accepted
-    → sentOf (readOf (frameBytes (frameAt b at g))) ≡ accepted (record { view = g; message = messageIn b at })
+    → sentOf (readOne (frameBytes (frameAt b at g))) ≡ accepted (record { view = g; message = messageIn b at })
 unfolding frameAt
 sent-at b at g ok fit v = written-sent (frameAt b at g) (messageIn b at) fit v (frame-carried b at g ok) (frame-views b at g ok)
 
@@ -82,7 +83,7 @@ sent-at b at g ok fit v = written-sent (frameAt b at g) (messageIn b at) fit v (
 
 module _ (b : List ℕ) (bytes : AreBytes b) where
   pub passed-reads : (room : ℕ) (x : Passing) → passCall room b ≡ accepted x → (q : ℕ) (m : Message) → x .first ≡ entry q m
-      → sentOf (readOf (passedBytes x)) ≡ accepted (record { view = idOf (x .to); message = m })
+      → sentOf (readOne (passedBytes x)) ≡ accepted (record { view = idOf (x .to); message = m })
   unfolding passCall passAlone passing
   passed-reads room x e q m is =
       let (a, r) = called-gave b _ x e in

@@ -1,16 +1,16 @@
 -- Deliver: what the reader gave, and the member's answer to it.
-use mathlib.Core.Path.{_≡_, refl, sym, ap, _∙_}
+use mathlib.Core.Path.{_≡_, refl, sym, ap, subst, _∙_}
 use mathlib.Core.Bool.{Bool, true, false, not, true≢false}
 use mathlib.Core.Option.{Option, some}
 use mathlib.Core.List.{List, [], _∷_}
-use Prim.Native.Nat.{ℕ, suc, _+_, _*_, _≤_}
+use Prim.Native.Nat.{ℕ, suc, _+_, _*_, _≤_, _<_}
 use native.Mathlib.Omega.{arith}
-use borrow.Author.Tests.{not-true, not-false, eqb-true, leb-true}
+use borrow.Author.Tests.{not-true, not-false, eqb-true, leb-true, le-ltb}
 use lib.Dec.{eqb, leb}
 use lib.ListN.{length}
 use Rattle.views.specs.declared.View.{View}
 use Rattle.views.specs.declared.refusal.Refusal.{Refusal}
-use Rattle.views.specs.declared.refusal.Refusal.the-variants.{NoCarrierView}
+use Rattle.views.specs.declared.refusal.Refusal.the-variants.{NoSuchMember, NoCarrierView}
 use Rattle.views.specs.declared.refusal.Verdict.{Verdict}
 use Rattle.views.specs.declared.refusal.Verdict.the-variants.{Accepted, Refused}
 use Rattle.views.specs.Limits.{maxViews}
@@ -18,29 +18,34 @@ use Rattle.views.specs.Sizes.{viewSize}
 use Rattle.views.specs.Lists.{listOf}
 use Rattle.views.specs.Refusals.{left}
 use Rattle.views.proofs.SetLaws.{both-true}
+use Rattle.views.proofs.VerdictLaws.{never}
 use Rattle.wire.specs.declared.Frame.{Frame}
 use Rattle.wire.specs.declared.Message.the-variants.{Info}
 use Rattle.wire.specs.declared.Reading.{Reading}
+use Rattle.wire.specs.declared.Front.{Front}
 use Rattle.wire.specs.Format.{viewsAllowed}
-use Rattle.wire.specs.Reader.{kindIn, viewsAt, viewCount, viewIn, viewsIn, numberIn, messageOf as messageIn, scanOf, frameIn, readFront, readOf}
+use Rattle.wire.specs.Reader.{kindIn, viewsAt, viewCount, viewIn, viewsIn, numberIn, messageOf as messageIn, scanOf, frameIn, readFront, frontOf}
+use Rattle.wire.specs.Single.{readOne}
 use Rattle.wire.proofs.FormatLaws.{views-few}
 use Rattle.wire.proofs.ReaderLaws.{length-viewsIn, list-viewsIn, front-read}
 use Rattle.wire.proofs.TripMessages.{Kind}
 use Rattle.wire.proofs.TripRead.{Scanned, scanned, front-met}
 use Rattle.wire.proofs.RoundTrip.{read-takes-all}
-use Rattle.rules.specs.Data.{Book as Ruled, Result, refused, accepted, withView, after}
+use Rattle.wire.proofs.FrontLaws.{at-front}
+use Rattle.rules.specs.Data.{Book as Ruled, Result, refused, accepted, need, withView, after}
 use Rattle.rules.specs.Member.{Done, all}
 use Rattle.rules.specs.Sound.{setFits}
-use Rattle.rules.specs.Alone.{Sent, messageOf, viewsOf, sentOf}
+use Rattle.rules.specs.Alone.{Sent, messageOf, viewsOf, sentBy, sentOf, deliverAlone}
 use Rattle.book_bytes.specs.declared.Seat.{Seat}
 use Rattle.book_bytes.specs.Places.{carrierAt}
 use Rattle.book_bytes.specs.Records.{flagIn, seatIn, recordIn}
-use Rattle.book_bytes.specs.Books.{bookIn, membersIn}
+use Rattle.book_bytes.specs.Books.{bookIn, bytesSound, membersIn, selfIn}
 use Rattle.events.specs.declared.Reply.{Reply}
 use Rattle.events.specs.Replies.{noEvent, replied, replyOf, verdictOf}
-use Rattle.book_steps.specs.Acts.{takeBytes}
-use Rattle.member.specs.Calls.{takenBytes, deliverBytes}
-use Rattle.member.specs.Parts.{sentIn, arriving, delivering}
+use Rattle.book_steps.specs.Acts.{takeBytes, fewOpen}
+use Rattle.member.specs.Calls.{takenBytes, deliverCall, deliverBytes, Gave}
+use Rattle.member.specs.Parts.{admitted, sentIn, arriving, delivering, messageCall, GaveFront}
+use Rattle.member.proofs.CallLaws.{sound-called, called-admitted, call-done}
 use Rattle.member.proofs.ArriveLaws.{Answers, answers-refused}
 
 -- ---- a frame that was read has its message's views, no more and no fewer
@@ -93,16 +98,23 @@ module _ (b : List ℕ) (scan : scanOf b ≡ Accepted) where
   pub scan-some : messageIn (kindIn b) (numberIn b) ≡ Info → 1 ≤ viewCount b
   scan-some e = some-allowed (kindIn b) (numberIn b) (viewCount b) (shape .kind) e (shape .views)
 
--- bytes that are read as one message
-module _ (b : List ℕ) (met : readOf b .verdict ≡ Accepted) where
-  pub read-scan : scanOf b ≡ Accepted
-  read-scan = front-met b (rw (read-takes-all b met .0) at met) .0
+-- ---- the message that was read, by the verdict on it and the frame that the bytes hold
 
-  pub read-frame : readOf b .frame ≡ frameIn b
-  read-frame =
-      let whole : readOf b ≡ readFront b = read-takes-all b met .0 in
-      let (scan, content) = front-met b (rw whole at met) in
-      ap (λ (y : Reading). y .frame) (whole ∙ front-read b _ _ _ scan content refl refl refl)
+sent-same : (v : Verdict) (f g : Frame) → (v ≡ Accepted → f ≡ g) → sentBy v f ≡ sentBy v g
+sent-same Accepted f g h = ap (λ (z : Frame). accepted (sentIn z)) (h refl)
+sent-same (Refused r) f g h = refl
+
+pub front-sent : (b : List ℕ) → sentBy (readFront b .verdict) (frameIn b) ≡ sentOf (readFront b)
+front-sent b =
+    sent-same (readFront b .verdict) (frameIn b) (readFront b .frame)
+    (λ met. let (scan, content) = front-met b met in ap (λ (y : Reading). y .frame) (sym (front-read b _ _ _ scan content refl refl refl)))
+
+pub one-sent : (b : List ℕ) → sentBy (readOne b .verdict) (frameIn b) ≡ sentOf (readOne b)
+one-sent b =
+    sent-same (readOne b .verdict) (frameIn b) (readOne b .frame)
+    (λ met.
+    let (scan, content) = front-met b (at-front b met) in
+    ap (λ (y : Reading). y .frame) (sym (read-takes-all b met .0 ∙ front-read b _ _ _ scan content refl refl refl)))
 
 -- ---- the answer, with the carrier view as it was loaded
 
@@ -114,18 +126,24 @@ arrives n q b v x read e f =
     ap (λ (o : Option View). withView o NoCarrierView (λ w. after read (λ y. arriving n w y q b))) e
     ∙ ap (λ (z : Result Sent). after z (λ y. arriving n v y q b)) f
 
-module _ (b bytes : List ℕ) (q : ℕ) (s : Seat) (loaded : s ≡ seatIn b carrierAt) where
+module _ (b : List ℕ) (f : Frame) (read : Verdict) (q : ℕ) (s : Seat) (loaded : s ≡ seatIn b carrierAt) where
+  abbrev sent : Result Sent
+  sent = sentBy read f
+
   abbrev result : Result Done
-  result = delivering (membersIn b) (sentOf (readOf bytes)) q (bookIn b)
+  result = delivering (membersIn b) sent q (bookIn b)
+
+  gave : (y : Reply) (d : List ℕ) → Answers result (takenBytes sent q b) b y d → Gave result (takenBytes sent q b) b d y
+  gave y d a = record { reply = a .0; book = a .1 }
 
   there-is : flagIn b carrierAt ≡ s .there
   there-is = ap (λ (x : Seat). x .there) (sym loaded)
 
-  pub read-unseated : not (s .there) ≡ true → (y : Reply) → y ≡ replied (Refused NoCarrierView) noEvent → Answers result (deliverBytes bytes q b) b y b
+  pub read-unseated : not (s .there) ≡ true → (y : Reply) → y ≡ replied (Refused NoCarrierView) noEvent → Gave result (takenBytes sent q b) b b y
   unfolding bookIn recordIn withView
   read-unseated h y e =
       let t : flagIn b carrierAt ≡ false = there-is ∙ not-true _ h in
-      answers-refused result NoCarrierView (deliverBytes bytes q b) b y (rw t refl) e
+      gave y b (answers-refused result NoCarrierView (takenBytes sent q b) b y (rw t refl) e)
 
   module _ (seated : not (s .there) ≡ false) where
     pub read-carrier : bookIn b .carrier .view ≡ some (s .view)
@@ -135,21 +153,61 @@ module _ (b bytes : List ℕ) (q : ℕ) (s : Seat) (loaded : s ≡ seatIn b carr
         let v : s .view ≡ viewIn b (carrierAt + 1) = ap (λ (x : Seat). x .view) loaded in
         rw (t, v) refl
 
-    module _ (w : Verdict) (read : w ≡ readOf bytes .verdict) where
-      pub read-refused : (x : Refusal) → w ≡ Refused x → (y : Reply) → y ≡ replied (Refused x) noEvent → Answers result (deliverBytes bytes q b) b y b
-      unfolding withView after
-      read-refused x t y e =
-          let k : sentOf (readOf bytes) ≡ refused x = rw (sym read ∙ t) refl in
-          answers-refused result x (deliverBytes bytes q b) b y (rw (read-carrier, k) refl) e
+    pub read-refused : (x : Refusal) → read ≡ Refused x → (y : Reply) → y ≡ replied (Refused x) noEvent → Gave result (takenBytes sent q b) b b y
+    unfolding withView after
+    read-refused x t y e =
+        let k : sent ≡ refused x = rw t refl in
+        gave y b (answers-refused result x (takenBytes sent q b) b y (rw (read-carrier, k) refl) e)
 
-      pub read-done : w ≡ Accepted → (y : Reply) (d : List ℕ)
-          → Answers (arriving (membersIn b) (s .view) (sentIn (frameIn bytes)) q (bookIn b)) (takeBytes q (sentIn (frameIn bytes) .message) b) b y d
-          → Answers result (deliverBytes bytes q b) b y d
-      unfolding deliverBytes
-      read-done t y d (e, f) =
-          let met : readOf bytes .verdict ≡ Accepted = sym read ∙ t in
-          let k : sentOf (readOf bytes) ≡ accepted (sentIn (frameIn bytes)) = rw met (ap (λ (z : Frame). accepted (sentIn z)) (read-frame bytes met)) in
-          let is : result ≡ arriving (membersIn b) (s .view) (sentIn (frameIn bytes)) q (bookIn b)
-          = arrives (membersIn b) q (bookIn b) (s .view) (sentIn (frameIn bytes)) (sentOf (readOf bytes)) read-carrier k in
-          let new : takenBytes (sentOf (readOf bytes)) q b ≡ takeBytes q (sentIn (frameIn bytes) .message) b = ap (λ (z : Result Sent). takenBytes z q b) k in
-          (e ∙ ap replyOf (sym is), f ∙ (λ i. left (verdictOf (sym is i)) (sym new i) b))
+    pub read-done : read ≡ Accepted → (y : Reply) (d : List ℕ)
+        → Answers (arriving (membersIn b) (s .view) (sentIn f) q (bookIn b)) (takeBytes q (sentIn f .message) b) b y d
+        → Gave result (takenBytes sent q b) b d y
+    read-done t y d (e, g) =
+        let k : sent ≡ accepted (sentIn f) = rw t refl in
+        let is : result ≡ arriving (membersIn b) (s .view) (sentIn f) q (bookIn b)
+        = arrives (membersIn b) q (bookIn b) (s .view) (sentIn f) sent read-carrier k in
+        let new : takenBytes sent q b ≡ takeBytes q (sentIn f .message) b = ap (λ (z : Result Sent). takenBytes z q b) k in
+        gave y d (e ∙ ap replyOf (sym is), g ∙ (λ i. left (verdictOf (sym is i)) (sym new i) b))
+
+-- ---- deliver of what was read, after 4 and 6
+
+reply-verdict : (r : Result Done) → replyOf r .verdict ≡ verdictOf r
+reply-verdict (refused x) = refl
+reply-verdict (accepted d) = refl
+
+module _ (b bytes : List ℕ) (q : ℕ) where
+  abbrev Took : Result Sent → List ℕ → Reply → Type 0
+  Took sent d y = Gave (delivering (membersIn b) sent q (bookIn b)) (takenBytes sent q b) b d y
+
+  -- the bytes as one message
+  pub one-done : (v : Verdict) → v ≡ admitted b → v ≡ Accepted → (read : Verdict) → read ≡ readOne bytes .verdict → (y : Reply) (d : List ℕ)
+      → Took (sentBy read (frameIn bytes)) d y → Gave (deliverCall bytes q b) (deliverBytes bytes q b) b d y
+  unfolding deliverCall deliverBytes deliverAlone fewOpen after
+  one-done v e t read r y d g =
+      let k : sentBy read (frameIn bytes) ≡ sentOf (readOne bytes) = ap (λ (w : Verdict). sentBy w (frameIn bytes)) r ∙ one-sent bytes in
+      let h : Took (sentOf (readOne bytes)) d y = subst (λ (s : Result Sent). Took s d y) k g in
+      call-done b _ _ v e t y d (h .reply, h .book)
+
+  -- the message at their front: 6
+  module _ (sound : bytesSound b ≡ true) where
+    pub front-beyond : membersIn b ≤ selfIn b → GaveFront bytes q b b (record { verdict = Refused NoSuchMember; taken = 0 })
+    unfolding deliverAlone need left
+    front-beyond h =
+        let k : messageCall (sentOf (readFront bytes)) q b ≡ refused NoSuchMember = sound-called b _ sound ∙ rw (le-ltb _ _ h) in
+        record { verdict = ap verdictOf (sym k); taken = λ e. absurd (never NoSuchMember e); book = refl }
+
+    pub front-done : selfIn b < membersIn b → (f : Front) → f ≡ frontOf bytes → (y : Reply) (d : List ℕ) → Took (sentBy (f .verdict) (frameIn bytes)) d y
+        → GaveFront bytes q b d (record { verdict = y .verdict; taken = f .taken })
+    unfolding deliverAlone fewOpen after
+    front-done i f e y d g =
+        let sent = sentOf (readFront bytes) in
+        let k : sentBy (f .verdict) (frameIn bytes) ≡ sent = ap (λ (w : Front). sentBy (w .verdict) (frameIn bytes)) e ∙ front-sent bytes in
+        let h : Took sent d y = subst (λ (s : Result Sent). Took s d y) k g in
+        let r = delivering (membersIn b) sent q (bookIn b) in
+        let same : messageCall sent q b ≡ r = called-admitted b r (record { sound = sound; member = i }) in
+        let v : y .verdict ≡ verdictOf r = ap (λ (z : Reply). z .verdict) (h .reply) ∙ reply-verdict r in
+        record {
+          verdict = v ∙ ap verdictOf (sym same);
+          taken = λ _. ap (λ (w : Front). w .taken) e;
+          book = h .book ∙ ap (λ (w : Verdict). left w (takenBytes sent q b) b) (sym v);
+        }

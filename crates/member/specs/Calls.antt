@@ -2,27 +2,29 @@
 -- lent byte. A call's result is that of rules/specs/Alone on the book that the bytes are; 4 comes first, for what only
 -- bytes can hold.
 use mathlib.Core.Path.{_≡_}
-use mathlib.Core.List.{List}
+use mathlib.Core.List.{List, [], _∷_, map}
 use Prim.Native.Nat.{ℕ}
 use lib.Dec.{eqb}
-use lib.ListN.{length}
+use lib.ListN.{length, take}
 use Rattle.views.specs.declared.View.{View}
 use Rattle.views.specs.declared.refusal.Refusal.the-variants.{RecordsUnsound}
 use Rattle.views.specs.declared.refusal.Verdict.the-variants.{Accepted, Refused}
 use Rattle.views.specs.Sets.{one}
 use Rattle.views.specs.Refusals.{left}
-use Rattle.wire.specs.Reader.{readOf}
+use Rattle.wire.specs.Single.{readOne}
+use Rattle.wire.specs.Packets.{readingsIn}
 use Rattle.wire.specs.Writer.{overwritten}
 use Rattle.rules.specs.Data.{Member, Book as Ruled, Result, refused, accepted, need}
 use Rattle.rules.specs.Member.{Done, Passing, registers, sends, hands, tells, safes, collects}
 use Rattle.rules.specs.Alone.{Sent, sentOf, alone, startAlone, joinAlone, passedBytes, passAlone, deliverAlone}
-use Rattle.rules.specs.Alone.{attemptAlone}
+use Rattle.rules.specs.Alone.{Delivery, packetAlone, attemptAlone}
 use Rattle.book_bytes.specs.Places.{bookSize}
 use Rattle.book_bytes.specs.Books.{bookIn, layoutFits, membersIn, selfIn}
 use Rattle.events.specs.declared.Reply.{Reply}
 use Rattle.events.specs.Replies.{noEvent, replyOf, verdictOf}
 use Rattle.book_steps.specs.Acts.{takeBytes}
 use Rattle.member.specs.declared.Passed.{Passed}
+use Rattle.member.specs.declared.Delivered.{Delivered}
 
 -- ---- the results
 
@@ -43,7 +45,15 @@ passCall room b = onBook b (passAlone (membersIn b) (selfIn b) room (bookIn b))
 
 -- these bytes from the sender q
 unfoldable pub deliverCall : List ℕ → Member → List ℕ → Result Done
-deliverCall bytes q b = onBook b (deliverAlone (membersIn b) (selfIn b) (sentOf (readOf bytes)) q (bookIn b))
+deliverCall bytes q b = onBook b (deliverAlone (membersIn b) (selfIn b) (sentOf (readOne bytes)) q (bookIn b))
+
+-- the messages in a packet's bytes, as the reader reads them
+abbrev pub messagesIn : List ℕ → List (Result Sent)
+messagesIn s = map sentOf (readingsIn s)
+
+-- a packet of these bytes from the sender q
+unfoldable pub packetCall : List ℕ → Member → List ℕ → Result Delivery
+packetCall s q b = onBook b (packetAlone (membersIn b) (selfIn b) (messagesIn s) q (bookIn b))
 
 unfoldable pub attemptCall : List ℕ → Result Done
 attemptCall b = onBook b (attemptAlone one (membersIn b) (selfIn b) (bookIn b))
@@ -92,7 +102,25 @@ takenBytes (refused r) q b = b
 takenBytes (accepted x) q b = takeBytes q (x .message) b
 
 unfoldable pub deliverBytes : List ℕ → Member → List ℕ → List ℕ
-deliverBytes bytes q b = takenBytes (sentOf (readOf bytes)) q b
+deliverBytes bytes q b = takenBytes (sentOf (readOne bytes)) q b
+
+-- ---- a packet: as many of its messages as were delivered are taken, one after the other
+
+unfoldable pub takeEach : List (Result Sent) → Member → List ℕ → List ℕ
+takeEach [] q b = b
+takeEach (read ∷ l) q b = takeEach l q (takenBytes read q b)
+
+abbrev pub countOf : Result Delivery → ℕ
+countOf (refused r) = 0
+countOf (accepted x) = x .count
+
+unfoldable pub packetBytes : List ℕ → Member → List ℕ → List ℕ
+packetBytes s q b = takeEach (take (countOf (packetCall s q b)) (messagesIn s)) q b
+
+-- the verdict on the call; where it is accepted, how many were delivered and what stopped it
+abbrev pub deliveredOf : Result Delivery → Delivered
+deliveredOf (refused r) = record { verdict = Refused r; count = 0; stopped = Accepted }
+deliveredOf (accepted x) = record { verdict = Accepted; count = x .count; stopped = x .stopped }
 
 -- ---- what a call gives and leaves: the reply r, and the book's bytes at exit; an accepted one leaves `new`
 
@@ -105,3 +133,8 @@ pub record GaveOut (result : Result Passing) (new entry exit before after : List
   pub reply : r ≡ passedOf result
   pub book : exit ≡ left (verdictOf result) new entry
   pub buffer : after ≡ passBuffer result before
+
+-- the same of a packet
+pub record GaveEach (result : Result Delivery) (new entry exit : List ℕ) (r : Delivered) : Type 0 where
+  pub reply : r ≡ deliveredOf result
+  pub book : exit ≡ left (verdictOf result) new entry

@@ -17,7 +17,7 @@ use Rattle.views.specs.Refusals.{left}
 use Rattle.views.specs.Sets.{one, fits}
 use Rattle.views.specs.Lists.{idOf, viewOf}
 use Rattle.wire.specs.Widths.{AreBytes}
-use Rattle.wire.specs.Reader.{readOf}
+use Rattle.wire.specs.Single.{readOne}
 use Rattle.rules.specs.Data.{Identifier, Member, Message, Entry, Book, Event, Result, refused, accepted}
 use Rattle.rules.specs.Member.{Done, Passing, outgoes}
 use Rattle.rules.specs.Group.{firstView}
@@ -35,7 +35,7 @@ use Rattle.member.specs.Calls.{registerCall, sendCall, handCall, tellCal
 use Rattle.member.specs.Promises.{AreBook}
 
 -- a message in a view's order
-pub record Packet : Type 0 where
+pub record Letter : Type 0 where
   pub sender : Member
   pub bytes : List ℕ
 
@@ -43,7 +43,7 @@ pub record World : Type 0 where
   pub views : List View  -- those in existence
   pub books : Member → List ℕ
   pub sent : Member → Identifier → List (List ℕ)  -- given out in a view and not in its order: on its way, or lost
-  pub order : Identifier → List Packet
+  pub order : Identifier → List Letter
 
 -- the book that the bytes of p are
 abbrev pub bookOf : World → Member → Book
@@ -91,7 +91,7 @@ Next w p v q bytes = At (w .order (idOf v)) (bookOf w p .carrier .taken) (record
 abbrev pub InOrder : World → Member → List ℕ → Member → Type 0
 InOrder w p bytes q =
     (v : View) (m : Message) → bookOf w p .carrier .view ≡ some v
-    → sentOf (readOf bytes) ≡ accepted (record { view = idOf v; message = m }) → Next w p v q bytes
+    → sentOf (readOne bytes) ≡ accepted (record { view = idOf v; message = m }) → Next w p v q bytes
 
 -- each with its result, and the bytes of the book where it is accepted
 pub data Call (n : ℕ) (w : World) (p : Member) : Result Done → List ℕ → Type 0 where

@@ -1,5 +1,5 @@
 -- The parts in which the code does a call: 4 and 6, which come before all else; what follows them in join, pass and
--- deliver.
+-- deliver; a message of a packet.
 use mathlib.Core.Bool.{cond}
 use mathlib.Core.Path.{_≡_}
 use mathlib.Core.List.{List}
@@ -16,14 +16,18 @@ use Rattle.views.specs.Refusals.{require, left}
 use Rattle.views.specs.Sets.{has, fits}
 use Rattle.views.specs.Lists.{idOf, listOf}
 use Rattle.wire.specs.declared.Frame.{Frame}
+use Rattle.wire.specs.declared.Front.{Front}
+use Rattle.wire.specs.Reader.{readFront}
 use Rattle.wire.specs.Writer.{frameBytes, writeVerdict, overwritten}
 use Rattle.rules.specs.Data.{Member, Book as Ruled, Result, accepted, need, withView, after}
 use Rattle.rules.specs.Member.{Done, all, joins, Passing, passing}
 use Rattle.rules.specs.Sound.{setFits}
-use Rattle.rules.specs.Alone.{Sent, messageOf, viewsOf, passedBytes}
-use Rattle.book_bytes.specs.Books.{bytesSound, membersIn, selfIn}
+use Rattle.rules.specs.Alone.{Sent, messageOf, viewsOf, sentOf, passedBytes, deliverAlone}
+use Rattle.book_bytes.specs.Books.{bookIn, bytesSound, membersIn, selfIn}
+use Rattle.events.specs.Replies.{verdictOf}
 use Rattle.book_steps.specs.Acts.{taking, passBytes}
 use Rattle.member.specs.declared.Passed.{Passed}
+use Rattle.member.specs.Calls.{onBook, takenBytes}
 
 -- 4, then 6
 unfoldable pub admitted : List ℕ → Verdict
@@ -77,3 +81,15 @@ frameAnswer n v taken q f =
     require (eqb (f .view .0) (idOf v)) AnotherView (
     require (has (v .set) q) SenderNotInView (
     require (ltb taken maxOrdered) OrderFull Accepted)))
+
+-- ---- a packet
+
+-- deliver of what the reader gave
+abbrev pub messageCall : Result Sent → Member → List ℕ → Result Done
+messageCall read q b = onBook b (deliverAlone (membersIn b) (selfIn b) read q (bookIn b))
+
+-- the message at the front of the bytes s, from the sender q, after 4; r has the verdict and how many bytes it took
+pub record GaveFront (s : List ℕ) (q : Member) (entry exit : List ℕ) (r : Front) : Type 0 where
+  pub verdict : r .verdict ≡ verdictOf (messageCall (sentOf (readFront s)) q entry)
+  pub taken : r .verdict ≡ Accepted → r .taken ≡ readFront s .taken
+  pub book : exit ≡ left (r .verdict) (takenBytes (sentOf (readFront s)) q entry) entry

@@ -24,6 +24,14 @@ pub struct Passed {
     pub length: usize,
 }
 
+// What a packet's delivery gives: the verdict on the call and, where it is accepted, how many messages were delivered
+// and the refusal of the next.
+pub struct Delivered {
+    pub verdict: Verdict,
+    pub count: usize,
+    pub stopped: Verdict,
+}
+
 // 4 for bytes that are no sound book, then 6 for an own number not below the members.
 pub fn admit(b: &[u8]) -> Verdict
     ensures { λ r. ⌜ r ≡ admitted (now (b .entry)) ⌝ }

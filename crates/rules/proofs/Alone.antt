@@ -3,6 +3,7 @@
 pub mod Kept
 pub mod Taken
 pub mod Readable
+pub mod Packets
 pub mod Written
 pub mod Peculiar
 use mathlib.Core.Path.{_≡_, refl}
@@ -20,7 +21,7 @@ use Rattle.rules.specs.Sound.{within, countFits, setFits, opensRise, fro
 use Rattle.rules.specs.Alone.{viewsOf, bookViews, limitIf, setsFit, setFitsIf, bookSound}
 use Rattle.rules.proofs.TestLaws.{all-at, all-from, _and_, conditions-say, conditions-from}
 use Rattle.rules.proofs.Sound.Books.{Setting, viewsIn, EntryTests, entry-says, entry-tests, book-says, book-tests}
-use Rattle.rules.proofs.Sound.BookParts.{BookKept, parts-of, sound-of}
+use Rattle.rules.proofs.Sound.BookParts.{PartsSound, BookKept, parts-in, kept-with, parts-sound, sound-parts}
 
 abbrev pub Fits : ℕ → View → Type 0
 Fits n v = setFits n v ≡ true
@@ -52,15 +53,18 @@ module _ {M : Type 0} where
     pub sound : bookSound n b ≡ true
     pub below : rank (b .client .view) ≤ rank (b .carrier .view)
 
-  pub members-within : (n : ℕ) (b : BookOf M) → KeptAlone n b → within 1 n maxMembers ≡ true
+  pub sound-within : (n : ℕ) (b : BookOf M) → bookSound n b ≡ true → within 1 n maxMembers ≡ true
   unfolding bookSound
-  members-within n b k = let (m, _) = conditions-say _ (k .sound) in m
+  sound-within n b h = let (m, _) = conditions-say _ h in m
 
-  pub alone-says : (n : ℕ) (b : BookOf M) → KeptAlone n b → BookKept (byItself n) b
+  pub members-within : (n : ℕ) (b : BookOf M) → KeptAlone n b → within 1 n maxMembers ≡ true
+  members-within n b k = sound-within n b (k .sound)
+
+  pub sound-says : (n : ℕ) (b : BookOf M) → bookSound n b ≡ true → PartsSound (byItself n) b
   unfolding bookSound
-  alone-says n b k =
-      let (m, (c, (l, (f, (v, (r, (t, (s, (g, (o, (q, (i, (a, _))))))))))))) = conditions-say _ (k .sound) in
-      parts-of (byItself n) b
+  sound-says n b h =
+      let (m, (c, (l, (f, (v, (r, (t, (s, (g, (o, (q, (i, (a, _))))))))))))) = conditions-say _ h in
+      parts-sound (byItself n) b
       (book-says (byItself n) b (record {
         count = c;
         rise = g;
@@ -79,29 +83,31 @@ module _ {M : Type 0} where
           sender = all-at (fromMember n) (b .outgoing) q e j;
         });
       })
-      (k .below)
 
-  pub alone-from : (n : ℕ) (b : BookOf M) → within 1 n maxMembers ≡ true → BookKept (byItself n) b → KeptAlone n b
+  pub alone-says : (n : ℕ) (b : BookOf M) → KeptAlone n b → BookKept (byItself n) b
+  alone-says n b k = kept-with (sound-says n b (k .sound)) (k .below)
+
+  pub sound-from : (n : ℕ) (b : BookOf M) → within 1 n maxMembers ≡ true → PartsSound (byItself n) b → bookSound n b ≡ true
   unfolding bookSound
-  alone-from n b m k =
-      let t = book-tests (byItself n) b (sound-of (byItself n) b k) in
+  sound-from n b m k =
+      let t = book-tests (byItself n) b (sound-parts (byItself n) b k) in
       let outgoing : (f : EntryOf M → Bool) → ((e : EntryOf M) → EntryTests n (Fits n) e → f e ≡ true) → all f (b .outgoing) ≡ true
       = λ f g. all-from f (b .outgoing) (λ e j. g e (entry-tests n (Fits n) e (k .outgoing .entries e j))) in
-      record {
-        sound = conditions-from _ (
-            m
-            and t .count
-            and le-leb _ _ (k .outgoing .short)
-            and outgoing countFits (λ e u. u .count)
-            and all-from (setFits n) (bookViews b) (t .held)
-            and fits-from n (b .carrier .view) (t .carrier)
-            and fits-from n (b .client .view) (t .client)
-            and outgoing (setsFit n) (λ e u. fit-carried n e (u .known))
-            and t .rise
-            and outgoing opensRise (λ e u. u .rise)
-            and outgoing (fromMember n) (λ e u. u .sender)
-            and t .inward
-            and t .arrived
-            and tt);
-        below = k .below;
-      }
+      conditions-from _ (
+      m
+      and t .count
+      and le-leb _ _ (k .outgoing .short)
+      and outgoing countFits (λ e u. u .count)
+      and all-from (setFits n) (bookViews b) (t .held)
+      and fits-from n (b .carrier .view) (t .carrier)
+      and fits-from n (b .client .view) (t .client)
+      and outgoing (setsFit n) (λ e u. fit-carried n e (u .known))
+      and t .rise
+      and outgoing opensRise (λ e u. u .rise)
+      and outgoing (fromMember n) (λ e u. u .sender)
+      and t .inward
+      and t .arrived
+      and tt)
+
+  pub alone-from : (n : ℕ) (b : BookOf M) → within 1 n maxMembers ≡ true → BookKept (byItself n) b → KeptAlone n b
+  alone-from n b m k = record { sound = sound-from n b m (parts-in k); below = k .below }

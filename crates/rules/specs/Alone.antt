@@ -3,12 +3,15 @@
 use mathlib.Core.Bool.{Bool, true}
 use mathlib.Core.Option.{Option, none, some}
 use mathlib.Core.List.{List, [], _∷_}
-use Prim.Native.Nat.{ℕ}
+use Prim.Native.Nat.{ℕ, _+_}
 use lib.Dec.{eqb, ltb, leb}
 use lib.ListN.{length}
 use Rattle.views.specs.declared.View.{View}
+use Rattle.views.specs.declared.refusal.Refusal.{Refusal}
 use Rattle.views.specs.declared.refusal.Refusal.the-variants.{MembersOutOfRange, FirstSetUnfit, RecordsUnsound}
 use Rattle.views.specs.declared.refusal.Refusal.the-variants.{NoSuchMember, SetUnfit, NoCarrierView, OrderFull}
+use Rattle.views.specs.declared.refusal.Refusal.the-variants.{EndsEarly, UnknownKind, SectionCount, EmptySet}
+use Rattle.views.specs.declared.refusal.Refusal.the-variants.{NotRising, ToldOutOfRange}
 use Rattle.views.specs.declared.refusal.Refusal.the-variants.{BufferTooShort, AnotherView, SenderNotInView, TooManyOpen}
 use Rattle.views.specs.declared.refusal.Verdict.{Verdict}
 use Rattle.views.specs.declared.refusal.Verdict.the-variants.{Accepted, Refused}
@@ -148,6 +151,42 @@ deliverAlone n p read q b =
     need (ltb (b .carrier .taken) maxOrdered) OrderFull (
     need (leb (length (delivered q (x .message) b .held .opens)) maxOpen) TooManyOpen (
     does ok (delivered q (x .message) b)))))))))
+
+-- ---- a packet is given as the messages that the reader read in it, all from one sender
+
+-- how many were delivered, the refusal that stopped it if there was one, and the book
+pub record DeliveryOf (M : Type 0) : Type 0 where
+  pub count : ℕ
+  pub stopped : Verdict
+  pub book : BookOf M
+
+abbrev pub Delivery : Type 0
+Delivery = DeliveryOf ℕ
+
+-- a message that is refused stops it and changes nothing; behind one that is delivered come the others, with the book
+-- that it leaves
+abbrev pub onward : {M : Type 0} → BookOf M → (BookOf M → DeliveryOf M) → Result (DoneOf M) → DeliveryOf M
+onward b others (refused r) = record { count = 0; stopped = Refused r; book = b }
+onward b others (accepted d) =
+    let x = others (d .book) in
+    record { count = x .count + 1; stopped = x .stopped; book = x .book }
+
+-- one by one, up to the first refusal
+unfoldable pub oneByOne : {M : Type 0} → ℕ → Member → List (Result (SentOf M)) → Member → BookOf M → DeliveryOf M
+oneByOne n p [] q b = record { count = 0; stopped = Accepted; book = b }
+oneByOne n p (read ∷ l) q b = onward b (λ c. oneByOne n p l q c) (deliverAlone n p read q b)
+
+-- 4 refuses the packet; every other refusal is that of a message
+unfoldable pub packetAlone : {M : Type 0} → ℕ → Member → List (Result (SentOf M)) → Member → BookOf M
+    → Result (DeliveryOf M)
+packetAlone n p l q b = need (bookSound n b) RecordsUnsound (accepted (oneByOne n p l q b))
+
+-- what can stop a packet: neither 4 nor 38 is among them
+abbrev pub stops : List Refusal
+stops =
+    NoSuchMember ∷ NoCarrierView
+    ∷ EndsEarly ∷ UnknownKind ∷ SectionCount ∷ EmptySet ∷ NotRising ∷ ToldOutOfRange
+    ∷ SetUnfit ∷ AnotherView ∷ SenderNotInView ∷ OrderFull ∷ TooManyOpen ∷ []
 
 -- ---- attempt: 43 last
 

@@ -14,7 +14,7 @@ use Rattle.views.specs.Lists.{viewOf, placed}
 use Rattle.wire.specs.declared.Message.{Message}
 use Rattle.wire.specs.declared.Message.the-variants.{Info, Registered}
 use Rattle.wire.specs.declared.Reading.{Reading}
-use Rattle.wire.specs.Reader.{readOf}
+use Rattle.wire.specs.Single.{readOne}
 use Rattle.wire.specs.Reader as Reader
 use Rattle.rules.specs.Data.{Identifier, Member, Group, Step, Event, attempt, Answer, ok, event, refusal}
 use Rattle.rules.specs.Data.{Result, refused, accepted}
@@ -46,9 +46,9 @@ against l held =
     tests (2 * size (inCommon (setOf l) (setOf held))) (size (setOf held))
     (passes one (viewOf 1 (setOf l)) (viewOf 0 (setOf held)))
 
--- bytes put to the reader
+-- bytes as one message
 unfoldable pub reading : List ℕ → Outcome
-reading b = reads (codeOf (readOf b .verdict)) (readOf b)
+reading b = reads (codeOf (readOne b .verdict)) (readOne b)
 
 -- a message of n bytes, sent in the view g, with an info's views
 abbrev pub message : ℕ → Identifier → Message → List View → Outcome

@@ -25,7 +25,7 @@ use Rattle.views.specs.Members.{In}
 use Rattle.views.specs.Points.{at, at2}
 use Rattle.views.specs.Sets.{has, fits}
 use Rattle.views.specs.Lists.{idOf}
-use Rattle.wire.specs.Reader.{readOf}
+use Rattle.wire.specs.Single.{readOne}
 use Rattle.rules.specs.Data.{Identifier, Member, MessageOf, Message, EntryOf, entry, BookOf, Event, ok, Result}
 use Rattle.rules.specs.Data.{refused, accepted, need, rank}
 use Rattle.rules.specs.Data as D
@@ -178,4 +178,4 @@ BytesRead =
     → ((v : View) → In v (w .views) → idOf v < 256 ^ 4)
     → ((p : Member) (g : Identifier) (x : ℕ) → In (D.send p g x) l → x < 256 ^ 8)
     → (v : View) → In v (w .views) → (q : Member) (m : Message) → In (entry q m) (w .order (idOf v))
-    → sentOf (readOf (messageBytes (idOf v) m)) ≡ accepted (record { view = idOf v; message = m })
+    → sentOf (readOne (messageBytes (idOf v) m)) ≡ accepted (record { view = idOf v; message = m })

@@ -11,11 +11,13 @@ use Rattle.events.specs.declared.Reply.{Reply}
 use Rattle.events.specs.Replies.{verdictOf}
 use Rattle.book_bytes.specs.Starts.{startBytes}
 use Rattle.book_steps.specs.Acts.{joinBytes, sendBytes, collectBytes}
-use Rattle.member.specs.Calls.{Gave, startCall, startReply, joinCall, sendCall, deliverCall, deliverBytes, collectCall}
+use Rattle.member.specs.declared.Delivered.{Delivered}
+use Rattle.member.specs.Calls.{Gave, GaveEach, startCall, startReply, joinCall, sendCall, deliverCall, deliverBytes, collectCall, packetCall, packetBytes}
 use Rattle.test_script.specs.ParseParts.{wordStart, wordNumber, unhexed, Fronted}
 use Rattle.test_script.specs.OperandParts.{byteWord}
 use Rattle.test_stories.specs.declared.word.Word.the-variants.{Unknown}
 use Rattle.test_stories.specs.WordParts.{byLetters}
+use Rattle.test_stories.specs.DeskParts.{packetRoom}
 use Rattle.test_stories.specs.CallParts.{Started, joined, brought, stepCall, stepBytes}
 
 -- no word begins with such a letter
@@ -49,15 +51,25 @@ send-said line b exit r x p h = rw (← p) h
 front-taken : (s entry exit : List ℕ) (n : ℕ) → Fronted s entry exit n → take n exit ≡ s
 front-taken s entry exit n f = rw (f .bytes) (take-at s (drop (length s) entry) n (sym (f .count)))
 
+-- and what is delivered is what the line brought
+brought-taken : (line entry bytes : List ℕ) (at n : ℕ) → at ≡ wordStart 3 line → length entry ≡ packetRoom
+    → Fronted (unhexed (length entry) (drop at line)) entry bytes n → take n bytes ≡ brought line
+brought-taken line entry bytes at n p l f =
+    front-taken _ entry bytes n f ∙ ap (λ (k : ℕ). unhexed k (drop at line)) l ∙ ap (λ (k : ℕ). unhexed packetRoom (drop k line)) p
+
 pub deliver-said : (line entry bytes b exit : List ℕ) (r : Reply) (at n q : ℕ) → at ≡ wordStart 3 line → q ≡ byteWord line 2
-    → length entry ≡ 200 → Fronted (unhexed (length entry) (drop at line)) entry bytes n
+    → length entry ≡ packetRoom → Fronted (unhexed (length entry) (drop at line)) entry bytes n
     → Gave (deliverCall (take n bytes) q b) (deliverBytes (take n bytes) q b) b exit r
     → Gave (deliverCall (brought line) (byteWord line 2) b) (deliverBytes (brought line) (byteWord line 2) b) b exit r
 deliver-said line entry bytes b exit r at n q p e l f h =
-    let t : take n bytes ≡ brought line =
-    front-taken _ entry bytes n f ∙ ap (λ (k : ℕ). unhexed k (drop at line)) l ∙ ap (λ (k : ℕ). unhexed 200 (drop k line)) p
-    in
-    rw (← e, ← t) h
+    let t : take n bytes ≡ brought line = brought-taken line entry bytes at n p l f in rw (← e, ← t) h
+
+pub packet-said : (line entry bytes b exit : List ℕ) (r : Delivered) (at n q : ℕ) → at ≡ wordStart 3 line → q ≡ byteWord line 2
+    → length entry ≡ packetRoom → Fronted (unhexed (length entry) (drop at line)) entry bytes n
+    → GaveEach (packetCall (take n bytes) q b) (packetBytes (take n bytes) q b) b exit r
+    → GaveEach (packetCall (brought line) (byteWord line 2) b) (packetBytes (brought line) (byteWord line 2) b) b exit r
+packet-said line entry bytes b exit r at n q p e l f h =
+    let t : take n bytes ≡ brought line = brought-taken line entry bytes at n p l f in rw (← e, ← t) h
 
 -- a number that is none of the others
 pub collect-said : (kind : ℕ) (line b exit : List ℕ) (r : Reply) → (kind ≡ 2 → ⊥) → (kind ≡ 5 → ⊥) → (kind ≡ 6 → ⊥) → (kind ≡ 7 → ⊥) → (kind ≡ 8 → ⊥)

@@ -21,19 +21,19 @@ use Rattle.member.specs.Calls.{startCall, startReply, joinCall, deliverCall, de
 use Rattle.member.specs.Calls.{registerCall, sendCall, handCall, tellCall, safeCall}
 use Rattle.test_script.specs.ParseParts.{wordStart, wordNumber, unhexed}
 use Rattle.test_script.specs.OperandParts.{byteWord, identifierWord}
-use Rattle.test_stories.specs.DeskParts.{slipRoom}
+use Rattle.test_stories.specs.DeskParts.{packetRoom}
 
 -- the members, the set, the own number
 pub record Started (n S p : ℕ) (entry exit : List ℕ) (r : Reply) : Type 0 where
   pub reply : r ≡ startReply (startCall n S p entry)
   pub book : exit ≡ left (verdictOf (startCall n S p entry)) (startBytes n S p entry) entry
 
--- the view to join, and the bytes to deliver
+-- the view to join, and the bytes to deliver, of one message or of a packet
 abbrev pub joined : List ℕ → View
 joined line = viewOf (identifierWord line 2) (byteWord line 3)
 
 abbrev pub brought : List ℕ → List ℕ
-brought line = unhexed slipRoom (drop (wordStart 3 line) line)
+brought line = unhexed packetRoom (drop (wordStart 3 line) line)
 
 -- what the step of a kind's number gives, and what it leaves if it is accepted; any other number is a collect's
 unfoldable pub stepCall : ℕ → List ℕ → List ℕ → Result Done

@@ -8,12 +8,15 @@ use Rattle.book_bytes.specs.Places.{bookSize}
 use Rattle.test_stories.specs.declared.desk.Desk.{Desk}
 use Rattle.test_script.specs.OperandParts.{byteWord}
 
--- how many bytes of a book can be lent, and of a message passed
+-- how many bytes of a book can be lent, of a message passed, and of a line delivered
 abbrev pub room : ℕ
 room = 5240
 
 abbrev pub slipRoom : ℕ
 slipRoom = 200
+
+abbrev pub packetRoom : ℕ
+packetRoom = 1024
 
 abbrev pub freshDesk : Desk
 freshDesk = record { lent = replicate 4 bookSize; own = replicate 4 0; slip = replicate 4 0 }

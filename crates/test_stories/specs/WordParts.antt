@@ -11,17 +11,20 @@ use Rattle.events.specs.Kinds.{joinKind, deliverKind, attemptKind, registerKind
 use Rattle.events.specs.Kinds.{safeKind, collectKind}
 use Rattle.test_script.specs.ParseParts.{wordNumber}
 use Rattle.test_stories.specs.declared.word.Word.{Word}
-use Rattle.test_stories.specs.declared.word.Word.the-variants.{Unknown, Comment, Start, Pass, Relay}
-use Rattle.test_stories.specs.declared.word.Word.the-variants.{Poke, Lend, Step}
+use Rattle.test_stories.specs.declared.word.Word.the-variants.{Unknown, Comment, Start, Pass, Packet}
+use Rattle.test_stories.specs.declared.word.Word.the-variants.{Relay, Poke, Lend, Step}
 
 -- the byte of a letter
 abbrev pub letter : String → ℕ
 letter text.[] = 0
 letter (text._∷_ c s) = code c
 
--- pass, poke
+-- pass, packet, poke
 unfoldable pub withP : ℕ → Word
-withP c = cond (eqb c (letter "a")) Pass (cond (eqb c (letter "o")) Poke Unknown)
+withP c =
+    cond (eqb c (letter "s")) Pass
+    (cond (eqb c (letter "c")) Packet
+    (cond (eqb c (letter "k")) Poke Unknown))
 
 -- register, relay
 unfoldable pub withR : ℕ → Word
@@ -45,7 +48,7 @@ byLetters first second third =
     (cond (eqb first (letter "t")) (Step tellKind)
     (cond (eqb first (letter "c")) (Step collectKind)
     (cond (eqb first (letter "l")) Lend
-    (cond (eqb first (letter "p")) (withP second)
+    (cond (eqb first (letter "p")) (withP third)
     (cond (eqb first (letter "r")) (withR third)
     (cond (eqb first (letter "s")) (withS second) Unknown))))))))))
 

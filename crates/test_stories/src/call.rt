@@ -1,11 +1,12 @@
 // The calls of a book, with their operands from a line.
 use events::Reply;
 use events::kinds;
+use member::Delivered;
 use views::Member;
 use views::View;
 use views::ViewId;
 ghost use mathlib.Core.Path.{_≡_};
-ghost use Rattle.member.specs.Calls.{Gave, deliverCall, deliverBytes};
+ghost use Rattle.member.specs.Calls.{Gave, GaveEach, deliverCall, deliverBytes, packetCall, packetBytes};
 ghost use Rattle.test_script.specs.OperandParts.{byteWord};
 ghost use Rattle.test_stories.specs.CallParts.{Started, joined, brought, stepCall, stepBytes};
 
@@ -56,7 +57,19 @@ fn deliver(b: &mut [u8], line: &[u8]) -> Reply
         (deliverBytes (brought (now (line .entry))) (byteWord (now (line .entry)) 2) (now (b .entry)))
         (now (b .entry)) (now (b .exit)) r ⌝ }
 {
-    let mut bytes = [0u8; crate::desk::SLIP];
+    let mut bytes = [0u8; crate::desk::PACKET];
     let n = test_script::parse::unhex(line, test_script::parse::word(line, 3), &mut bytes);
     member::messages::deliver::deliver(b, &bytes[..n], Member(word(line, 2)))
+}
+
+// The same bytes as a packet.
+pub fn packet(b: &mut [u8], line: &[u8]) -> Delivered
+    ensures { λ r. ⌜ GaveEach
+        (packetCall (brought (now (line .entry))) (byteWord (now (line .entry)) 2) (now (b .entry)))
+        (packetBytes (brought (now (line .entry))) (byteWord (now (line .entry)) 2) (now (b .entry)))
+        (now (b .entry)) (now (b .exit)) r ⌝ }
+{
+    let mut bytes = [0u8; crate::desk::PACKET];
+    let n = test_script::parse::unhex(line, test_script::parse::word(line, 3), &mut bytes);
+    member::messages::packet::deliver(b, &bytes[..n], Member(word(line, 2)))
 }

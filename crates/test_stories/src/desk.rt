@@ -15,8 +15,11 @@ pub const BOOKS: usize = 4;
 // How many bytes of a book can be lent: some more than it has.
 pub const ROOM: usize = 5240;
 
-// How many bytes can be passed or delivered at once: some more than the longest message has.
+// How many bytes can be passed at once: some more than the longest message has.
 pub const SLIP: usize = 200;
+
+// How many bytes of a line can be delivered at once: some more than 129 of the shortest messages have.
+pub const PACKET: usize = 1024;
 
 pub struct Desk {
     pub lent: [usize; BOOKS],

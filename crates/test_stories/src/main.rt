@@ -80,6 +80,10 @@ fn answer(line: &[u8], books: &mut [u8], slips: &mut [u8], d: Desk) -> Desk
         }
         Word::Start => start(books, k, line, d),
         Word::Pass => pass(books, slips, k, line, d),
+        Word::Packet => {
+            packet(books, k, line, d);
+            d
+        }
         Word::Relay => {
             relay(books, slips, k, line, d);
             d
@@ -154,4 +158,14 @@ fn step(books: &mut [u8], k: usize, line: &[u8], d: Desk, kind: u8)
     let to = from + crate::desk::lent(d, k);
     let r = crate::call::step(&mut books[from..to], line, kind);
     test_script::reply::reply(r);
+}
+
+fn packet(books: &mut [u8], k: usize, line: &[u8], d: Desk)
+    requires { ⌜ k < 4 ⌝ }
+    requires { ⌜ length (now books) ≡ 20960 ⌝ }
+{
+    let from = k * ROOM;
+    let to = from + crate::desk::lent(d, k);
+    let r = crate::call::packet(&mut books[from..to], line);
+    crate::show::delivered(r);
 }

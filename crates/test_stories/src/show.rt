@@ -1,5 +1,7 @@
-// What a pass gave.
+// What a pass or a packet gave.
+use member::Delivered;
 use member::Passed;
+use test_script::show::also;
 use test_script::show::end;
 use test_script::show::refused;
 use views::refusal::Verdict;
@@ -18,4 +20,31 @@ pub fn passed(p: Passed, slip: &[u8]) {
         }
     }
     end();
+}
+
+// How many messages were taken, and the refusal of the next if there was one.
+pub fn delivered(d: Delivered) {
+    let v = d.verdict;
+    match v {
+        Verdict::Refused(x) => {
+            refused(x);
+        }
+        Verdict::Accepted => {
+            io::write_all(1, b"took");
+            also(d.count as u64);
+            let s = d.stopped;
+            stopped(s);
+        }
+    }
+    end();
+}
+
+fn stopped(s: Verdict) {
+    match s {
+        Verdict::Refused(x) => {
+            io::write_all(1, b" ");
+            refused(x);
+        }
+        Verdict::Accepted => {}
+    }
 }

@@ -10,6 +10,7 @@ pub enum Word {
     Comment,
     Start,
     Pass,
+    Packet,
     Relay,
     Poke,
     Lend,
@@ -22,6 +23,7 @@ pub fn of(line: &[u8]) -> Word
 {
     let first = test_script::parse::byte(line, 0);
     let second = test_script::parse::byte(line, 1);
+    let third = test_script::parse::byte(line, 2);
     match first {
         b'#' => Word::Comment,
         b'j' => Word::Step(kinds::JOIN),
@@ -31,20 +33,21 @@ pub fn of(line: &[u8]) -> Word
         b't' => Word::Step(kinds::TELL),
         b'c' => Word::Step(kinds::COLLECT),
         b'l' => Word::Lend,
-        b'p' => with_p(second),
-        b'r' => with_r(test_script::parse::byte(line, 2)),
+        b'p' => with_p(third),
+        b'r' => with_r(third),
         b's' => with_s(second),
         _ => Word::Unknown,
     }
 }
 
-// pass, poke
-fn with_p(second: u8) -> Word
-    ensures { λ r. ⌜ r ≡ withP second ⌝ }
+// pass, packet, poke
+fn with_p(third: u8) -> Word
+    ensures { λ r. ⌜ r ≡ withP third ⌝ }
 {
-    match second {
-        b'a' => Word::Pass,
-        b'o' => Word::Poke,
+    match third {
+        b's' => Word::Pass,
+        b'c' => Word::Packet,
+        b'k' => Word::Poke,
         _ => Word::Unknown,
     }
 }

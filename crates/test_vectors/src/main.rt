@@ -44,7 +44,7 @@ fn answer(line: &[u8]) {
 fn read_line(line: &[u8]) {
     let mut bytes = [0u8; 256];
     let n = test_script::parse::unhex(line, 5, &mut bytes);
-    let r = wire::reader::read(&bytes[..n]);
+    let r = wire::single::read(&bytes[..n]);
     crate::show::reading(r);
 }
 

@@ -19,9 +19,10 @@ use Rattle.views.specs.Lists.{isRising}
 use Rattle.wire.specs.declared.Front.{Front}
 use Rattle.wire.specs.declared.Reading.{Reading}
 use Rattle.wire.specs.Format.{someEmpty, toldFits, contentOf, viewsAllowed, numbersAllowed}
-use Rattle.wire.specs.Reader.{kindIn, viewCount, numbersPlace, numberCount, endOf, numberIn, frameIn, scanOf, wholeOf, refused, readFront, frontOf, readOf}
+use Rattle.wire.specs.Reader.{kindIn, viewCount, numbersPlace, numberCount, endOf, numberIn, frameIn, scanOf, wholeOf, refused, readFront, frontOf}
+use Rattle.wire.specs.Single.{readOne}
 use Rattle.wire.proofs.VerdictLaws.{given-refused, given-twice}
-use Rattle.wire.proofs.ReaderLaws.{shaped, a-number, front-refused, front-read, read-refused, read-over, read-all}
+use Rattle.wire.proofs.ReaderLaws.{a-number, front-refused, front-read, read-refused, read-over, read-all}
 use Rattle.wire.proofs.TripRead.{scanned, front-met}
 use Rattle.wire.proofs.RoundTrip.{read-takes-all}
 
@@ -110,32 +111,19 @@ module _ (b : List ℕ) where
 
     -- ---- and of the bytes as one message
 
-    pub says-refused : (r : Refusal) → f .verdict ≡ Refused r → Refused r ≡ readOf b .verdict
+    pub says-refused : (r : Refusal) → f .verdict ≡ Refused r → Refused r ≡ readOne b .verdict
     says-refused r v = ap (λ (x : Reading). x .verdict) (sym (read-refused b (readFront b) r refl (sym same ∙ v)))
 
-    pub says-over : f .verdict ≡ Accepted → f .taken < length b → Refused BytesLeftOver ≡ readOf b .verdict
+    pub says-over : f .verdict ≡ Accepted → f .taken < length b → Refused BytesLeftOver ≡ readOne b .verdict
     says-over v h = ap (λ (x : Reading). x .verdict) (sym (read-over b (readFront b) refl (sym same ∙ v) (rw (← took) h)))
 
-    pub says-all : f .verdict ≡ Accepted → length b ≤ f .taken → Accepted ≡ readOf b .verdict
+    pub says-all : f .verdict ≡ Accepted → length b ≤ f .taken → Accepted ≡ readOne b .verdict
     says-all v h = sym (sym same ∙ v) ∙ ap (λ (x : Reading). x .verdict) (sym (read-all b (readFront b) refl (sym same ∙ v) (rw (← took) h)))
 
-  pub refused-whole : (r : Refusal) → readOf b .verdict ≡ Refused r → readOf b ≡ refused r
-  unfolding readOf
+  pub refused-whole : (r : Refusal) → readOne b .verdict ≡ Refused r → readOne b ≡ refused r
+  unfolding readOne
   refused-whole r v = given-twice (readFront b .verdict) _ (readFront b) r (λ e. e) v
 
-  module _ (v : readOf b .verdict ≡ Accepted) where
-    at-front : readFront b .verdict ≡ Accepted
-    at-front = rw (read-takes-all b v .0) at v
-
-    pub scan-whole : scanOf b ≡ Accepted
-    scan-whole = front-met b at-front .0
-
-    pub content-whole : wholeOf b ≡ Accepted
-    content-whole = front-met b at-front .1
-
-    pub read-whole : readOf b ≡ record { verdict = Accepted; taken = length b; frame = frameIn b }
-    read-whole =
-        let r : readFront b ≡ record { verdict = Accepted; taken = endOf b; frame = frameIn b } = front-read b _ _ _ scan-whole content-whole refl refl refl in
-        let t : readFront b .taken ≡ endOf b = ap (λ (x : Reading). x .taken) r in
-        let n : length b ≡ endOf b = omega (arith, t, read-takes-all b v .1, shaped b scan-whole .whole) in
-        rw n (read-takes-all b v .0 ∙ r)
+  -- bytes that are one message are read as at the front
+  pub at-front : readOne b .verdict ≡ Accepted → readFront b .verdict ≡ Accepted
+  at-front v = rw (read-takes-all b v .0) at v

@@ -11,6 +11,7 @@ pub mod TripWritten
 pub mod TripRead
 pub mod RoundTrip
 pub mod FrontLaws
+pub mod PacketTrip
 pub mod RecordLaws
 pub mod RecordAskedLaws
 pub mod RecordTrip

@@ -16,7 +16,8 @@ use Rattle.views.specs.Limits.{maxViews}
 use Rattle.views.specs.Lists.{noView, listOf, places, placed}
 use Rattle.wire.specs.declared.Message.{Message}
 use Rattle.wire.specs.declared.Reading.{Reading}
-use Rattle.wire.specs.Reader.{kindIn, viewIn, viewsIn, viewCount, numbersPlace, numberCount, endOf, numberIn, messageOf, scanOf, wholeOf, refused, readFront, readOf}
+use Rattle.wire.specs.Reader.{kindIn, viewIn, viewsIn, viewCount, numbersPlace, numberCount, endOf, numberIn, messageOf, scanOf, wholeOf, refused, readFront}
+use Rattle.wire.specs.Single.{readOne}
 use Rattle.views.proofs.VerdictLaws.{need-met, need-unmet, need-accepted}
 use Rattle.wire.proofs.VerdictLaws.{given-accepted, given-refused}
 use Rattle.views.proofs.PlaceLaws.{places-snoc, list-placed}
@@ -115,14 +116,14 @@ front-read b g m l s w p q r = rw (p, q, r) (given-accepted _ s ∙ given-accept
 
 -- ---- the bytes as one message: x is what stands at the front
 
-pub read-refused : (b : List ℕ) (x : Reading) (r : Refusal) → x ≡ readFront b → x .verdict ≡ Refused r → readOf b ≡ refused r
-unfolding readOf
+pub read-refused : (b : List ℕ) (x : Reading) (r : Refusal) → x ≡ readFront b → x .verdict ≡ Refused r → readOne b ≡ refused r
+unfolding readOne
 read-refused b x r e v = rw (← e) (given-refused r _ v)
 
-pub read-over : (b : List ℕ) (x : Reading) → x ≡ readFront b → x .verdict ≡ Accepted → x .taken < length b → readOf b ≡ refused BytesLeftOver
-unfolding readOf
+pub read-over : (b : List ℕ) (x : Reading) → x ≡ readFront b → x .verdict ≡ Accepted → x .taken < length b → readOne b ≡ refused BytesLeftOver
+unfolding readOne
 read-over b x e v h = rw (← e) (given-accepted _ v ∙ given-refused _ _ (need-unmet _ _ (lt-leb _ _ h)))
 
-pub read-all : (b : List ℕ) (x : Reading) → x ≡ readFront b → x .verdict ≡ Accepted → length b ≤ x .taken → readOf b ≡ x
-unfolding readOf
+pub read-all : (b : List ℕ) (x : Reading) → x ≡ readFront b → x .verdict ≡ Accepted → length b ≤ x .taken → readOne b ≡ x
+unfolding readOne
 read-all b x e v h = rw (← e) (given-accepted _ v ∙ given-accepted _ (need-met _ _ (le-leb _ _ h)))

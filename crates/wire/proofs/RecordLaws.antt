@@ -20,15 +20,14 @@ use Rattle.views.proofs.SetLaws.{known, both-true}
 use Rattle.views.proofs.PlaceLaws.{places-short}
 use Rattle.wire.specs.declared.Frame.{Frame}
 use Rattle.wire.specs.Format.{kindOf, viewBytes, viewsBytes, toldFits}
-use Rattle.wire.specs.Reader.{kindIn, viewCount, viewsIn, numberIn, readOf}
+use Rattle.wire.specs.Reader.{kindIn, viewCount, viewsIn, numberIn, readFront}
 use Rattle.wire.specs.Widths.{AreBytes}
 use Rattle.wire.specs.Writer.{numberOf, overwritten}
 use Rattle.wire.specs.Records.{recordSize, headBytes, recordBytes, counted}
 use Rattle.wire.proofs.SeamLaws.{byte-seam, number-seam, length-viewsBytes, viewsBytes-append}
-use Rattle.wire.proofs.ReaderLaws.{length-viewsIn}
+use Rattle.wire.proofs.ReaderLaws.{length-viewsIn, front-read}
 use Rattle.wire.proofs.TripViews.{views-again}
-use Rattle.wire.proofs.TripRead.{scanned, message-read}
-use Rattle.wire.proofs.FrontLaws.{scan-whole, content-whole, read-whole}
+use Rattle.wire.proofs.TripRead.{front-met, scanned, message-read}
 
 -- ---- stored
 
@@ -91,19 +90,20 @@ views-put b from at n k z c d size few h y ek ez ec ed =
     ed ∙ rw (head, rest, none, append-nil {A = ℕ} (replicate (5 * (maxViews - length l)) 0), places-bytes l (omega arith))
     (append-assoc (take 14 b) (viewsBytes l) (replicate (5 * (maxViews - length l)) 0))
 
--- the record of the message that the bytes b are: c after what stands before the views, d after the views
-pub record-stored : (b : List ℕ) → AreBytes b → readOf b .verdict ≡ Accepted → (g x : ℕ) (out c d : List ℕ)
+-- the record of the message at the front of the bytes b: c after what stands before the views, d after the views
+pub record-stored : (b : List ℕ) → AreBytes b → readFront b .verdict ≡ Accepted → (g x : ℕ) (out c d : List ℕ)
     → g ≡ get b 1 4 → x ≡ numberIn b → c ≡ overwritten (headBytes (kindIn b) g x (viewCount b)) out
     → d ≡ take 14 c ++ viewsBytes (places (viewsIn b 6 (viewCount b)))
-    → d ≡ recordBytes (readOf b .frame)
+    → d ≡ recordBytes (readFront b .frame)
 unfolding recordBytes
 record-stored b y v g x out c d eg ex ec ed =
-    let a = message-read b y (scanned b (scan-whole b v)) (content-whole b v) in
+    let (scan, content) = front-met b v in
+    let a = message-read b y (scanned b scan) content in
     let head = headBytes (kindIn b) g x (viewCount b) in
     let front : take 14 c ≡ head =
     ap (take 14) ec ∙ take-at head (drop (length head) out) 14 (length-head (kindIn b) g x (viewCount b))
     in
-    ed ∙ rw (read-whole b v, front, a .kind-again, a .number-again, eg, ex, length-viewsIn b 6 (viewCount b))
+    ed ∙ rw (front-read b _ _ _ scan content refl refl refl, front, a .kind-again, a .number-again, eg, ex, length-viewsIn b 6 (viewCount b))
 
 -- ---- a told's count
 

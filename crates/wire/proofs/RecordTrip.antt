@@ -18,7 +18,8 @@ use Rattle.wire.specs.declared.Message.the-variants.{Client, Info, Regis
 use Rattle.wire.specs.declared.Frame.{Frame}
 use Rattle.wire.specs.declared.Reading.{Reading}
 use Rattle.wire.specs.Format.{toldKind, kindOf, viewsBytes, toldFits, viewsAllowed, contentOf}
-use Rattle.wire.specs.Reader.{viewsIn, readFront, readOf}
+use Rattle.wire.specs.Reader.{viewsIn, readFront}
+use Rattle.wire.specs.Single.{readOne}
 use Rattle.wire.specs.Writer.{numberOf, frameBytes, frameVerdict}
 use Rattle.views.proofs.VerdictLaws.{need-accepted}
 use Rattle.wire.proofs.TripViews.{ViewFits, EachFits, AreBytes, get-fits, views-fit, views-back}
@@ -109,10 +110,10 @@ record-back f fit v =
 
 -- and is what reading gives of what writing it gives
 pub written-record-returns : (f : Frame) → Fits f → frameVerdict f ≡ Accepted
-    → recordBytes (readOf (frameBytes (frameOf (recordBytes (canonical f)))) .frame) ≡ recordBytes (canonical f)
+    → recordBytes (readOne (frameBytes (frameOf (recordBytes (canonical f)))) .frame) ≡ recordBytes (canonical f)
 written-record-returns f fit v =
-    ap (λ (y : Frame). recordBytes (readOf (frameBytes y) .frame)) (record-back f fit v)
-    ∙ ap (λ (y : List ℕ). recordBytes (readOf y .frame)) (canonical-same-bytes f fit)
+    ap (λ (y : Frame). recordBytes (readOne (frameBytes y) .frame)) (record-back f fit v)
+    ∙ ap (λ (y : List ℕ). recordBytes (readOne y .frame)) (canonical-same-bytes f fit)
     ∙ ap (λ (y : Reading). recordBytes (y .frame)) (written-reads f fit v)
 
 -- ---- read and written
@@ -122,15 +123,15 @@ unfolding recordBytes headBytes
 kind-in f = refl
 
 -- the record that reading gives is written as the bytes that were read
-pub read-record-is-written : (b : List ℕ) → AreBytes b → readOf b .verdict ≡ Accepted → RecordOf (recordBytes (readOf b .frame)) b
+pub read-record-is-written : (b : List ℕ) → AreBytes b → readOne b .verdict ≡ Accepted → RecordOf (recordBytes (readOne b .frame)) b
 read-record-is-written b y e =
-    let f = readOf b .frame in
+    let f = readOne b .frame in
     let same = read-takes-all b e .0 in
     let was : readFront b .verdict ≡ Accepted = rw same at e in
     let written = subst (WrittenAs b) (sym same) (read-is-written b y was) in
     let bytes : b ≡ frameBytes f = read-whole-is-written b y e in
     -- what was read has the zero view in its unused places
-    let plain : f ≡ canonical f = ap (λ (z : List ℕ). readOf z .frame) bytes ∙ ap (λ (r : Reading). r .frame) (written-reads f (written .fits) (written .verdict)) in
+    let plain : f ≡ canonical f = ap (λ (z : List ℕ). readOne z .frame) bytes ∙ ap (λ (r : Reading). r .frame) (written-reads f (written .fits) (written .verdict)) in
     let back : frameOf (recordBytes f) ≡ f = ap (λ (z : Frame). frameOf (recordBytes z)) plain ∙ record-back f (written .fits) (written .verdict) ∙ sym plain in
     record {
       kind = rw (kind-in f) (kind-known (f .message));
@@ -158,7 +159,7 @@ record-fits m y = record {
 }
 
 -- what was read has its 32 places
-pub read-places : (b : List ℕ) → AreBytes b → readOf b .verdict ≡ Accepted → length (readOf b .frame .views .at) ≡ maxViews
+pub read-places : (b : List ℕ) → AreBytes b → readOne b .verdict ≡ Accepted → length (readOne b .frame .views .at) ≡ maxViews
 read-places b y e =
     let same = read-takes-all b e .0 in
     let was : readFront b .verdict ≡ Accepted = rw same at e in

@@ -19,7 +19,8 @@ use Rattle.wire.specs.declared.Message.the-variants.{Info}
 use Rattle.wire.specs.declared.Frame.{Frame}
 use Rattle.wire.specs.declared.Reading.{Reading}
 use Rattle.wire.specs.Format.{kindOf, numbersOf, bytesOf, viewsAllowed, contentOf}
-use Rattle.wire.specs.Reader.{viewCount, numbersPlace, numberCount, endOf, viewsIn, numberIn, scanOf, wholeOf, frameIn, given, readFront, readOf}
+use Rattle.wire.specs.Reader.{viewCount, numbersPlace, numberCount, endOf, viewsIn, numberIn, scanOf, wholeOf, frameIn, given, readFront}
+use Rattle.wire.specs.Single.{readOne}
 use Rattle.wire.specs.Writer.{numberOf, frameBytes, frameVerdict, overwritten}
 pub use Rattle.wire.specs.Widths.{Fits}
 pub use Rattle.wire.specs.Promises.{canonical, asWritten, WrittenAs}
@@ -54,8 +55,8 @@ written-reads-back f fit v rest =
     rw taken (held-reads (frameBytes f ++ rest) (f .view .0) m l holds (rw n allowed) content)
 
 -- and nothing is left over
-pub written-reads : (f : Frame) → Fits f → frameVerdict f ≡ Accepted → readOf (frameBytes f) ≡ asWritten f
-unfolding readOf given require
+pub written-reads : (f : Frame) → Fits f → frameVerdict f ≡ Accepted → readOne (frameBytes f) ≡ asWritten f
+unfolding readOne given require
 written-reads f fit v =
     let front : readFront (frameBytes f) ≡ asWritten f = rw append-nil at (written-reads-back f fit v []) in
     rw (front, le-leb (length (frameBytes f)) (length (frameBytes f)) (omega arith))
@@ -92,16 +93,16 @@ read-is-written b y e =
     rw (scan ∙ given-then (wholeOf b) r whole) (record { bytes = bytes-again b y s w; verdict = verdict-again b y s w; fits = frame-fits b y s w })
 
 -- bytes read as one message are read as at the front, and none are left over
-pub read-takes-all : (b : List ℕ) → readOf b .verdict ≡ Accepted → (readOf b ≡ readFront b) × (length b ≤ readFront b .taken)
-unfolding readOf
+pub read-takes-all : (b : List ℕ) → readOne b .verdict ≡ Accepted → (readOne b ≡ readFront b) × (length b ≤ readFront b .taken)
+unfolding readOne
 read-takes-all b e =
     let r = readFront b in
     let v = require (leb (length b) (r .taken)) BytesLeftOver Accepted in
-    let front : readOf b ≡ given v r = given-then (r .verdict) (given v r) e in
+    let front : readOne b ≡ given v r = given-then (r .verdict) (given v r) e in
     let left : given v r .verdict ≡ Accepted = ap (λ (x : Reading). x .verdict) (sym front) ∙ e in
     (front ∙ given-then v r left, leb-true (length b) (r .taken) (need-accepted _ _ _ (given-met v r left) .0))
 
-pub read-whole-is-written : (b : List ℕ) → AreBytes b → readOf b .verdict ≡ Accepted → b ≡ frameBytes (readOf b .frame)
+pub read-whole-is-written : (b : List ℕ) → AreBytes b → readOne b .verdict ≡ Accepted → b ≡ frameBytes (readOne b .frame)
 read-whole-is-written b y e =
     let all = read-takes-all b e in
     let front : readFront b .verdict ≡ Accepted = rw (all .0) at e in
@@ -113,7 +114,7 @@ read-whole-is-written b y e =
 pub no-two-share : (f g : Frame) → Fits f → Fits g → frameVerdict f ≡ Accepted → frameVerdict g ≡ Accepted → frameBytes f ≡ frameBytes g
     → canonical f ≡ canonical g
 no-two-share f g ff fg vf vg e =
-    ap (λ (r : Reading). r .frame) (sym (written-reads f ff vf) ∙ ap readOf e ∙ written-reads g fg vg)
+    ap (λ (r : Reading). r .frame) (sym (written-reads f ff vf) ∙ ap readOne e ∙ written-reads g fg vg)
 
 -- and what lies there makes no difference to the bytes
 pub canonical-same-bytes : (f : Frame) → Fits f → frameBytes (canonical f) ≡ frameBytes f

@@ -1,7 +1,9 @@
 pub mod Widths
 pub mod Format
 pub mod Reader
+pub mod Single
 pub mod Writer
+pub mod Packets
 pub mod Records
 pub mod Promises
 pub mod Merges

@@ -1,5 +1,5 @@
--- The reader: the message at the front of bytes, or the first refusal, 32 to 34 as the bytes come, then 35 to 37, and
--- 38 above it.
+-- The reader: the message at the front of bytes and how many it took, or the first refusal, 32 to 34 as the bytes come,
+-- then 35 to 37. What lies behind the message is its caller's matter.
 use mathlib.Core.Bool.{cond}
 use mathlib.Core.List.{List, [], _∷_}
 use Prim.Native.Nat.{ℕ, zero, suc, _+_, _*_, _%_}
@@ -8,7 +8,7 @@ use lib.ListN.{length, getD}
 use Rattle.numbers.specs.Number.{get}
 use Rattle.views.specs.declared.View.{View}
 use Rattle.views.specs.declared.refusal.Refusal.{Refusal}
-use Rattle.views.specs.declared.refusal.Refusal.the-variants.{EndsEarly, UnknownKind, SectionCount, BytesLeftOver}
+use Rattle.views.specs.declared.refusal.Refusal.the-variants.{EndsEarly, UnknownKind, SectionCount}
 use Rattle.views.specs.declared.refusal.Verdict.{Verdict}
 use Rattle.views.specs.declared.refusal.Verdict.the-variants.{Accepted, Refused}
 use Rattle.views.specs.Sizes.{identifierSize, viewSize, numberSize}
@@ -120,9 +120,3 @@ readFront b = given (scanOf b) (given (wholeOf b) (record { verdict = Accepted; 
 -- the verdict on the message at the front, and how many bytes it takes
 abbrev pub frontOf : List ℕ → Front
 frontOf b = record { verdict = readFront b .verdict; taken = readFront b .taken }
-
--- the bytes as one message
-unfoldable pub readOf : List ℕ → Reading
-readOf b =
-    given (readFront b .verdict)
-    (given (require (leb (length b) (readFront b .taken)) BytesLeftOver Accepted) (readFront b))

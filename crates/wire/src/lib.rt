@@ -4,6 +4,7 @@ pub mod in_bytes;
 pub mod merging;
 pub mod reader;
 pub mod record;
+pub mod single;
 pub mod writer;
 
 use views::ViewId;

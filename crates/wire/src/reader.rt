@@ -1,4 +1,4 @@
-// The reader, over any bytes of any length.
+// The reader, over any bytes of any length: the message at their front, and how many it took.
 use crate::Frame;
 use crate::Front;
 use crate::Message;
@@ -19,7 +19,7 @@ ghost use Rattle.views.specs.Sizes.{viewSize};
 ghost use Rattle.views.specs.Limits.{maxViews};
 ghost use Rattle.views.specs.Lists.{placed};
 ghost use Rattle.wire.specs.Reader.{kindIn, viewIn, viewsIn, numberIn, messageOf, frameIn, scanOf, wholeOf};
-ghost use Rattle.wire.specs.Reader.{refused, readFront, frontOf, readOf};
+ghost use Rattle.wire.specs.Reader.{refused, readFront, frontOf};
 
 // The bytes have the shape of a message: 32 to 34 as the bytes come.
 pub fn scan(b: &[u8]) -> Verdict
@@ -163,24 +163,6 @@ fn front_scanned(b: &[u8]) -> Front
     }
 }
 
-// The verdict on the bytes as one message: none may be left over.
-pub fn verdict(b: &[u8]) -> Verdict
-    ensures { λ r. ⌜ r ≡ readOf (now (b .entry)) .verdict ⌝ }
-{
-    let f = front(b);
-    let v = f.verdict;
-    match v {
-        Verdict::Refused(r) => Verdict::Refused(r),
-        Verdict::Accepted => {
-            if f.taken < b.len() {
-                Verdict::Refused(Refusal::BytesLeftOver)
-            } else {
-                Verdict::Accepted
-            }
-        }
-    }
-}
-
 // The number that the message carries, 0 for none.
 pub fn load_number(b: &[u8]) -> u64
     requires { ⌜ scanOf (now b) ≡ Verdict.Accepted ⌝ }
@@ -229,24 +211,6 @@ pub fn read_front(b: &[u8]) -> Reading
             Reading {
                 verdict: Verdict::Accepted,
                 taken: f.taken,
-                frame,
-            }
-        }
-    }
-}
-
-// The bytes as one message: none may be left over.
-pub fn read(b: &[u8]) -> Reading
-    ensures { λ r. ⌜ r ≡ readOf (now (b .entry)) ⌝ }
-{
-    let v = verdict(b);
-    match v {
-        Verdict::Refused(r) => refuse(r),
-        Verdict::Accepted => {
-            let frame = load_frame(b);
-            Reading {
-                verdict: Verdict::Accepted,
-                taken: b.len(),
                 frame,
             }
         }

@@ -1,8 +1,10 @@
 // A message's record, in lent bytes: the C interface gives out and takes messages in it.
+use crate::Front;
 use crate::Written;
 use crate::format;
 use crate::in_bytes;
 use crate::reader;
+use crate::single;
 use crate::writer;
 use views::ViewId;
 use views::limits;
@@ -19,7 +21,8 @@ ghost use Rattle.views.specs.Sizes.{viewSize};
 ghost use Rattle.views.specs.Lists.{places};
 ghost use Rattle.views.specs.Refusals.{left};
 ghost use Rattle.wire.specs.Format.{isKnown, viewsBytes};
-ghost use Rattle.wire.specs.Reader.{viewsIn, readOf};
+ghost use Rattle.wire.specs.Reader.{viewsIn, readFront, frontOf};
+ghost use Rattle.wire.specs.Single.{readOne};
 ghost use Rattle.wire.specs.Writer.{overwritten, frameVerdict, Wrote};
 ghost use Rattle.wire.specs.Records.{recordKind, recordViews, recordSize, headBytes, recordBytes, frameOf};
 
@@ -60,10 +63,10 @@ fn put_views(out: &mut [u8], from: &[u8], at: usize, n: usize)
     writer::clear(&mut out[end..RECORD]);
 }
 
-// The record of the message that the bytes are.
+// The record of the message at the front of the bytes.
 fn store(out: &mut [u8], bytes: &[u8])
-    requires { ⌜ (length (now out) ≡ recordSize) × (readOf (now bytes) .verdict ≡ Verdict.Accepted) ⌝ }
-    ensures { λ _. ⌜ now (out .exit) ≡ recordBytes (readOf (now (bytes .entry)) .frame) ⌝ }
+    requires { ⌜ (length (now out) ≡ recordSize) × (readFront (now bytes) .verdict ≡ Verdict.Accepted) ⌝ }
+    ensures { λ _. ⌜ now (out .exit) ≡ recordBytes (readFront (now (bytes .entry)) .frame) ⌝ }
 {
     let g = numbers::get_number(bytes, format::IDENTIFIER_AT, sizes::IDENTIFIER);
     let x = reader::load_number(bytes);
@@ -72,14 +75,38 @@ fn store(out: &mut [u8], bytes: &[u8])
     put_views(out, bytes, format::VIEWS_AT, n);
 }
 
+// The message at the front of the bytes is read into the record; how many bytes it took.
+pub fn read_front(bytes: &[u8], out: &mut [u8]) -> Front
+    requires { ⌜ length (now out) ≡ recordSize ⌝ }
+    ensures { λ r. ⌜ (r ≡ frontOf (now (bytes .entry))) × (now (out .exit)
+        ≡ left (readFront (now (bytes .entry)) .verdict) (recordBytes (readFront (now (bytes .entry)) .frame))
+        (now (out .entry))) ⌝ }
+{
+    let f = reader::front(bytes);
+    let v = f.verdict;
+    match v {
+        Verdict::Refused(r) => Front {
+            verdict: Verdict::Refused(r),
+            taken: 0,
+        },
+        Verdict::Accepted => {
+            store(out, bytes);
+            Front {
+                verdict: Verdict::Accepted,
+                taken: f.taken,
+            }
+        }
+    }
+}
+
 // One message, which the bytes must be as a whole, is read into the record.
 pub fn read(bytes: &[u8], out: &mut [u8]) -> Verdict
     requires { ⌜ length (now out) ≡ recordSize ⌝ }
-    ensures { λ r. ⌜ (r ≡ readOf (now (bytes .entry)) .verdict) × (now (out .exit)
-        ≡ left (readOf (now (bytes .entry)) .verdict) (recordBytes (readOf (now (bytes .entry)) .frame))
+    ensures { λ r. ⌜ (r ≡ readOne (now (bytes .entry)) .verdict) × (now (out .exit)
+        ≡ left (readOne (now (bytes .entry)) .verdict) (recordBytes (readOne (now (bytes .entry)) .frame))
         (now (out .entry))) ⌝ }
 {
-    let v = reader::verdict(bytes);
+    let v = single::verdict(bytes);
     match v {
         Verdict::Refused(r) => Verdict::Refused(r),
         Verdict::Accepted => {

@@ -7,7 +7,7 @@ use Rattle.views.specs.declared.View.{View}
 use Rattle.views.specs.Members.{In}
 use Rattle.views.specs.Sets.{one}
 use Rattle.views.specs.Lists.{idOf, viewOf}
-use Rattle.wire.specs.Reader.{readOf}
+use Rattle.wire.specs.Single.{readOne}
 use Rattle.rules.specs.Data.{Member, Message, Entry, entry, Book, Result, accepted, need}
 use Rattle.rules.specs.Member.{Done, registers, sends, hands, tells, safes, collects, outgoes}
 use Rattle.rules.specs.Alone.{Sent, sentOf, alone, joinAlone, passAlone, deliverAlone, attemptAlone}
@@ -31,7 +31,7 @@ module _ {n p : ℕ} {b : List ℕ} {B : Book} (a : AreBook n p b B) where
   unfolding passCall need
   pass-is room = rw (a .fits, a .members, a .self, a .book)
 
-  pub deliver-is : (bytes : List ℕ) (q : Member) → deliverCall bytes q b ≡ deliverAlone n p (sentOf (readOf bytes)) q B
+  pub deliver-is : (bytes : List ℕ) (q : Member) → deliverCall bytes q b ≡ deliverAlone n p (sentOf (readOne bytes)) q B
   unfolding deliverCall need
   deliver-is bytes q = rw (a .fits, a .members, a .self, a .book)
 
@@ -77,7 +77,7 @@ module _ (n : ℕ) (w : World) (t : R.World ℕ) (s : Same n w t) (p : Member) (
   a = s .book p i
 
   pub next-is : (v : View) (q : Member) (bytes : List ℕ) → H.Next w p v q bytes
-      → (m : Message) × (sentOf (readOf bytes) ≡ accepted (record { view = idOf v; message = m })) × R.Next t p v q m
+      → (m : Message) × (sentOf (readOne bytes) ≡ accepted (record { view = idOf v; message = m })) × R.Next t p v q m
   next-is v q bytes h =
       let place : H.bookOf w p .carrier .taken ≡ B .carrier .taken = ap (λ (x : Book). x .carrier .taken) (a .book) in
       let f = pairs-front _ _ _ (h .0) (h .1) (pairs-drop (H.bookOf w p .carrier .taken) (s .order (idOf v))) in
@@ -85,7 +85,7 @@ module _ (n : ℕ) (w : World) (t : R.World ℕ) (s : Same n w t) (p : Member) (
       let e : drop (H.bookOf w p .carrier .taken) (t .order (idOf v)) ≡ entry q (r .message) ∷ f .rest = f .is ∙ ap (λ (x : Entry). x ∷ f .rest) (r .is) in
       (r .message, r .read, (f .rest, subst (λ (k : ℕ). drop k (t .order (idOf v)) ≡ entry q (r .message) ∷ f .rest) place e))
 
-  in-order : (bytes : List ℕ) (q : Member) → InOrder w p bytes q → R.InOrder t p (sentOf (readOf bytes)) q
+  in-order : (bytes : List ℕ) (q : Member) → InOrder w p bytes q → R.InOrder t p (sentOf (readOne bytes)) q
   in-order bytes q h v m c e =
       let x = next-is v q bytes (h v m (ap (λ (x : Book). x .carrier .view) (a .book) ∙ c) e) in
       let k : x .0 ≡ m = same-message (record { view = idOf v; message = x .0 }) (record { view = idOf v; message = m }) (sym (x .1) ∙ e) in
@@ -117,8 +117,8 @@ module _ (n : ℕ) (w : World) (t : R.World ℕ) (s : Same n w t) (p : Member) (
         book = λ x e. means-book c (join-call d (c .bytes) (viewOf g S) k x e);
       }
   call-ruled (H.deliver bytes q y h) = record {
-    result = deliverAlone n p (sentOf (readOf bytes)) q B;
-    call = R.deliver (sentOf (readOf bytes)) q (in-order bytes q h);
+    result = deliverAlone n p (sentOf (readOne bytes)) q B;
+    call = R.deliver (sentOf (readOne bytes)) q (in-order bytes q h);
     is = deliver-is a bytes q;
     book = λ d e. means-book a (deliver-call (w .books p) (a .bytes) bytes q y d e);
   }

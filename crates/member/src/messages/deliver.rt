@@ -15,13 +15,13 @@ ghost use mathlib.Core.Bool.{true};
 ghost use mathlib.Core.Path.{_≡_};
 ghost use mathlib.Core.Option.{some};
 ghost use Rattle.views.specs.Refusals.{left};
-ghost use Rattle.wire.specs.Reader.{scanOf, frameIn, readOf};
+ghost use Rattle.wire.specs.Reader.{scanOf, frameIn, readFront};
 ghost use Rattle.events.specs.Replies.{replyOf, verdictOf};
-ghost use Rattle.rules.specs.Alone.{sentOf};
+ghost use Rattle.rules.specs.Alone.{sentBy};
 ghost use Rattle.book_bytes.specs.Books.{bookIn, bytesSound, membersIn};
 ghost use Rattle.book_steps.specs.Acts.{takeBytes};
 ghost use Rattle.member.specs.Parts.{frameAnswer, sentIn, arriving, delivering};
-ghost use Rattle.member.specs.Calls.{deliverBytes, Gave, deliverCall};
+ghost use Rattle.member.specs.Calls.{takenBytes, deliverBytes, Gave, deliverCall};
 
 // 7 for any view carried, 41 another view, 42 a sender not in it, 16 after 128 taken.
 fn answer(n: u8, v: View, taken: Position, q: Member, bytes: &[u8]) -> Verdict
@@ -45,10 +45,10 @@ fn answer(n: u8, v: View, taken: Position, q: Member, bytes: &[u8]) -> Verdict
     Verdict::Accepted
 }
 
-// The message that the bytes are is taken, in the carrier view v; 43 comes last.
+// The message at the front of the bytes is taken, in the carrier view v; 43 comes last.
 fn deliver_message(b: &mut [u8], v: View, q: Member, bytes: &[u8]) -> Reply
     requires { ⌜ (bytesSound (now b) ≡ true) × (bookIn (now b) .carrier .view ≡ some v)
-        × (readOf (now bytes) .verdict ≡ Verdict.Accepted) ⌝ }
+        × (readFront (now bytes) .verdict ≡ Verdict.Accepted) ⌝ }
     ensures { λ r. ⌜ (r ≡ replyOf
         (arriving (membersIn (now (b .entry))) v (sentIn (frameIn (now (bytes .entry)))) (q .0)
         (bookIn (now (b .entry)))))
@@ -70,22 +70,22 @@ fn deliver_message(b: &mut [u8], v: View, q: Member, bytes: &[u8]) -> Reply
     }
 }
 
-// The bytes are read for a sound book: 13, then the reader's refusals.
-fn deliver_read(b: &mut [u8], bytes: &[u8], q: Member) -> Reply
-    requires { ⌜ bytesSound (now b) ≡ true ⌝ }
-    ensures { λ r. ⌜ (r ≡ replyOf
-        (delivering (membersIn (now (b .entry))) (sentOf (readOf (now (bytes .entry)))) (q .0)
-        (bookIn (now (b .entry)))))
-        × (now (b .exit) ≡ left
-        (verdictOf (delivering (membersIn (now (b .entry))) (sentOf (readOf (now (bytes .entry)))) (q .0)
-        (bookIn (now (b .entry))))) (deliverBytes (now (bytes .entry)) (q .0) (now (b .entry))) (now (b .entry))) ⌝ }
+// The message at the front of the bytes is taken into a sound book, where `read` is the verdict on it: 13, then its own
+// refusal.
+pub fn deliver_read(b: &mut [u8], bytes: &[u8], read: Verdict, q: Member) -> Reply
+    requires { ⌜ (bytesSound (now b) ≡ true)
+        × (read ≡ Verdict.Accepted → readFront (now bytes) .verdict ≡ Verdict.Accepted) ⌝ }
+    ensures { λ r. ⌜ Gave
+        (delivering (membersIn (now (b .entry))) (sentBy read (frameIn (now (bytes .entry)))) (q .0)
+        (bookIn (now (b .entry))))
+        (takenBytes (sentBy read (frameIn (now (bytes .entry)))) (q .0) (now (b .entry)))
+        (now (b .entry)) (now (b .exit)) r ⌝ }
 {
     let carrier = book_bytes::load_seat(b, book_bytes::CARRIER);
     if !carrier.there {
         return events::refuse(Refusal::NoCarrierView);
     }
-    let verdict = wire::reader::verdict(bytes);
-    match verdict {
+    match read {
         Verdict::Refused(r) => events::refuse(r),
         Verdict::Accepted => {
             let v = carrier.view;
@@ -94,7 +94,7 @@ fn deliver_read(b: &mut [u8], bytes: &[u8], q: Member) -> Reply
     }
 }
 
-// The bytes of a message from the sender q are taken.
+// The bytes of one message from the sender q are taken.
 pub fn deliver(b: &mut [u8], bytes: &[u8], q: Member) -> Reply
     ensures { λ r. ⌜ Gave (deliverCall (now (bytes .entry)) (q .0) (now (b .entry)))
         (deliverBytes (now (bytes .entry)) (q .0) (now (b .entry))) (now (b .entry)) (now (b .exit)) r ⌝ }
@@ -102,6 +102,9 @@ pub fn deliver(b: &mut [u8], bytes: &[u8], q: Member) -> Reply
     let v = admit(b);
     match v {
         Verdict::Refused(r) => events::refuse(r),
-        Verdict::Accepted => deliver_read(b, bytes, q),
+        Verdict::Accepted => {
+            let read = wire::single::verdict(bytes);
+            deliver_read(b, bytes, read, q)
+        }
     }
 }

@@ -15,7 +15,8 @@ use Rattle.views.specs.Lists.{idOf, noView, isRising, risesAbove, listOf}
 use Rattle.wire.specs.declared.Frame.{Frame}
 use Rattle.wire.specs.declared.Reading.{Reading}
 use Rattle.wire.specs.Format.{viewsAllowed, numbersAllowed, toldFits, contentOf}
-use Rattle.wire.specs.Reader.{kindIn, viewCount, numbersPlace, numberCount, viewsIn, numberIn, messageOf as carriedIn, wholeOf, readFront, readOf}
+use Rattle.wire.specs.Reader.{kindIn, viewCount, numbersPlace, numberCount, viewsIn, numberIn, messageOf as carriedIn, wholeOf, readFront}
+use Rattle.wire.specs.Single.{readOne}
 use Rattle.wire.specs.Writer.{numberOf}
 use Rattle.views.proofs.VerdictLaws.{need-accepted}
 use Rattle.wire.proofs.FormatLaws.{views-few}
@@ -24,7 +25,7 @@ use Rattle.wire.proofs.TripViews.{EachFits, AreBytes, get-fits, views-fit}
 use Rattle.wire.proofs.TripMessages.{Kind, client, info, registered, told, told-met}
 use Rattle.wire.proofs.TripRead.{Scanned, scanned, front-met}
 use Rattle.wire.proofs.RoundTrip.{read-takes-all}
-use Rattle.rules.specs.Data.{Message, accepted}
+use Rattle.rules.specs.Data.{Message, Result, accepted}
 use Rattle.rules.specs.Alone.{Sent, viewsOf, carriedOf, messageOf, sentBy, sentOf}
 use Rattle.rules.proofs.TestLaws.{within-says, within-from}
 use Rattle.rules.proofs.Alone.Taken.{Readable}
@@ -78,13 +79,12 @@ record Read (b : List ℕ) (m : Message) : Type 0 where
   content : wholeOf b ≡ Accepted
   message : m ≡ messageOf (carriedIn (kindIn b) (numberIn b)) (viewsIn b 6 (viewCount b))
 
-reads : (b : List ℕ) (x : Sent) → sentOf (readOf b) ≡ accepted x → Read b (x .message)
+reads : (b : List ℕ) (x : Sent) → sentOf (readFront b) ≡ accepted x → Read b (x .message)
 reads b x e =
-    let t = sent-met (readOf b .verdict) (readOf b .frame) x e in
-    let all : readOf b ≡ readFront b = read-takes-all b (t .0) .0 in
-    let met = front-met b (rw all at (t .0)) in
+    let t = sent-met (readFront b .verdict) (readFront b .frame) x e in
+    let met = front-met b (t .0) in
     let s = scanned b (met .0) in
-    let front = all ∙ front-read b _ _ _ (met .0) (met .1) refl refl refl in
+    let front = front-read b _ _ _ (met .0) (met .1) refl refl refl in
     record {
       shape = s;
       content = met .1;
@@ -97,15 +97,28 @@ counted b s = rw (length-viewsIn b 6 (viewCount b)) (s .views)
 
 -- ---- what the reader gives
 
-pub reading-readable : (b : List ℕ) (x : Sent) → sentOf (readOf b) ≡ accepted x → Readable (x .message)
-reading-readable b x e =
-    let r = reads b x e in
-    rw (r .message) (readable (kindIn b) (numberIn b) (viewsIn b 6 (viewCount b)) (r .shape .kind) (counted b (r .shape)) (r .content))
+-- a message, if there is one, that a member can take, within its widths
+pub record Given (read : Result Sent) : Type 0 where
+  pub readable : (x : Sent) → read ≡ accepted x → Readable (x .message)
+  pub fits : (x : Sent) → read ≡ accepted x → Carries (x .message)
 
-pub reading-fits : (b : List ℕ) (x : Sent) → AreBytes b → sentOf (readOf b) ≡ accepted x → Carries (x .message)
+pub front-given : (b : List ℕ) → AreBytes b → Given (sentOf (readFront b))
 unfolding numberIn
-reading-fits b x y e =
-    let r = reads b x e in
-    rw (r .message)
-    (carries (kindIn b) (numberCount b) (numberIn b) (viewsIn b 6 (viewCount b)) (r .shape .kind) (counted b (r .shape)) (r .shape .numbers)
-    (get-fits b (numbersPlace b + 1) (8 * numberCount b) y) (views-fit b 6 (viewCount b) y))
+front-given b y = record {
+  readable = λ x e.
+      let r = reads b x e in
+      rw (r .message) (readable (kindIn b) (numberIn b) (viewsIn b 6 (viewCount b)) (r .shape .kind) (counted b (r .shape)) (r .content));
+  fits = λ x e.
+      let r = reads b x e in
+      rw (r .message)
+      (carries (kindIn b) (numberCount b) (numberIn b) (viewsIn b 6 (viewCount b)) (r .shape .kind) (counted b (r .shape)) (r .shape .numbers)
+      (get-fits b (numbersPlace b + 1) (8 * numberCount b) y) (views-fit b 6 (viewCount b) y));
+}
+
+-- bytes that are one message are what is read at their front
+pub one-given : (b : List ℕ) → AreBytes b → Given (sentOf (readOne b))
+one-given b y =
+    let g = front-given b y in
+    let same : (x : Sent) → sentOf (readOne b) ≡ accepted x → sentOf (readFront b) ≡ accepted x
+    = λ x e. ap sentOf (sym (read-takes-all b (sent-met (readOne b .verdict) (readOne b .frame) x e .0) .0)) ∙ e in
+    record { readable = λ x e. g .readable x (same x e); fits = λ x e. g .fits x (same x e) }

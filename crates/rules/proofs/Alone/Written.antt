@@ -12,7 +12,7 @@ use Rattle.views.proofs.PlaceLaws.{list-placed}
 use Rattle.wire.specs.declared.Message.{Message as Carried}
 use Rattle.wire.specs.declared.Frame.{Frame}
 use Rattle.wire.specs.Widths.{Fits}
-use Rattle.wire.specs.Reader.{readOf}
+use Rattle.wire.specs.Single.{readOne}
 use Rattle.wire.specs.Writer.{frameBytes, frameVerdict}
 use Rattle.wire.proofs.RoundTrip.{written-reads}
 use Rattle.rules.specs.Data.{Message, client, info, registered, told, accepted}
@@ -29,7 +29,7 @@ sentIn g m = record { view = g; message = m }
 
 -- a frame that is within its widths, that the writer accepts, and that carries the message
 pub written-sent : (f : Frame) (m : Message) → Fits f → frameVerdict f ≡ Accepted → f .message ≡ carriedOf m → listOf (f .views) ≡ viewsOf m
-    → sentOf (readOf (frameBytes f)) ≡ accepted (record { view = f .view .0; message = m })
+    → sentOf (readOne (frameBytes f)) ≡ accepted (record { view = f .view .0; message = m })
 written-sent f m fit v carried views =
     let g = f .view .0 in
     let few : length (listOf (f .views)) ≤ maxViews = omega (arith, length-take (f .views .count) (f .views .at), fit .room) in

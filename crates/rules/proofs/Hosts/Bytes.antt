@@ -18,7 +18,7 @@ use Rattle.views.proofs.PlaceLaws.{length-places, list-placed}
 use Rattle.wire.specs.declared.Message.the-variants.{Client}
 use Rattle.wire.specs.declared.Frame.{Frame}
 use Rattle.wire.specs.Format.{bytesOf, viewsAllowed, someEmpty, toldFits, contentOf}
-use Rattle.wire.specs.Reader.{readOf}
+use Rattle.wire.specs.Single.{readOne}
 use Rattle.wire.specs.Widths.{Fits, EachFits}
 use Rattle.wire.specs.Writer.{frameVerdict}
 use Rattle.rules.specs.Data.{Message, client, info, registered, told, entry, accepted}
@@ -44,10 +44,10 @@ is-client (told k) x e = let z : _≡_ {A = ℕ} 0 1 = cc in absurd (omega arith
 
 -- a message that the writer takes
 frame-back : (g : ℕ) (m : Message) → length (viewsOf m) ≤ maxViews → Fits (framed g m) → frameVerdict (framed g m) ≡ Accepted
-    → sentOf (readOf (messageBytes g m)) ≡ accepted (record { view = g; message = m })
+    → sentOf (readOne (messageBytes g m)) ≡ accepted (record { view = g; message = m })
 frame-back g m few f v =
     let back : listOf (placed (viewsOf m)) ≡ viewsOf m = list-placed (viewsOf m) few in
-    ap (λ (l : List View). sentOf (readOf (bytesOf g (carriedOf m) l))) (sym back) ∙ written-sent (framed g m) m f v refl back
+    ap (λ (l : List View). sentOf (readOne (bytesOf g (carriedOf m) l))) (sym back) ∙ written-sent (framed g m) m f v refl back
 
 -- ---- views that are known are within their widths and have members
 
@@ -78,13 +78,13 @@ module _ (n : ℕ) (Known : View → Type 0) (narrow : (v : View) → Known v �
 
   -- a message without views
   plain : (g : ℕ) (m : Message) → g < 256 ^ 4 → ((x : ℕ) → m ≡ client x → x < 256 ^ 8) → viewsOf m ≡ [] → frameVerdict (framed g m) ≡ Accepted
-      → sentOf (readOf (messageBytes g m)) ≡ accepted (record { view = g; message = m })
+      → sentOf (readOne (messageBytes g m)) ≡ accepted (record { view = g; message = m })
   plain g m h x e v =
       let few : length (viewsOf m) ≤ maxViews = rw e (omega arith) in
       frame-back g m few (fits-frame g m h few x (λ w i. absurd (in-nil (subst (λ (l : List View). In w l) e i)))) v
 
   reads-back : (g q : ℕ) (m : Message) → g < 256 ^ 4 → EntryFacts n Known (entry q m) → ((x : ℕ) → m ≡ client x → x < 256 ^ 8)
-      → sentOf (readOf (messageBytes g m)) ≡ accepted (record { view = g; message = m })
+      → sentOf (readOne (messageBytes g m)) ≡ accepted (record { view = g; message = m })
   unfolding frameVerdict contentOf viewsAllowed someEmpty isRising toldFits require
   reads-back g q (client y) h (clientEntry i) x = plain g (client y) h x refl refl
   reads-back g q (info v l) h (infoEntry i s) x =

@@ -28,7 +28,15 @@ module _ {M : Type 0} where
     pub known : (v : View) → c .view ≡ some v → s .known v
     pub from : ItemsFrom (s .members) (c .inward)
 
-  -- the client view is not above the carrier view: without that a join could make a long inward list one of which nothing was taken
+  -- what 4 asks of a book, in parts
+  pub record PartsSound (s : Setting) (b : BookOf M) : Type 0 where
+    pub held : HeldSound (s .known) (b .held)
+    pub carrier : CarrierSound s (b .carrier)
+    pub client : ClientSound s (b .client)
+    pub inward-taken : limitAt (b .carrier .view) (carrierInward b) ≤ b .carrier .taken
+    pub outgoing : QueueFacts (s .members) (s .known) maxOutgoing (b .outgoing)
+
+  -- with one thing more: the client view is not above the carrier view. Without that a join could make a long inward list one of which nothing was taken
   pub record BookKept (s : Setting) (b : BookOf M) : Type 0 where
     pub held : HeldSound (s .known) (b .held)
     pub carrier : CarrierSound s (b .carrier)
@@ -41,9 +49,14 @@ module _ {M : Type 0} where
   abbrev pub Keeps : Setting → Result (DoneOf M) → Type 0
   Keeps s r = Holds (λ (d : DoneOf M). BookKept s (d .book)) r
 
-  pub parts-of : (s : Setting) (b : BookOf M) → BookSound s b → QueueFacts (s .members) (s .known) maxOutgoing (b .outgoing) → rank (b .client .view) ≤ rank (b .carrier .view)
-      → BookKept s b
-  parts-of s b h q l = record {
+  pub parts-in : {s : Setting} {b : BookOf M} → BookKept s b → PartsSound s b
+  parts-in k = record { held = k .held; carrier = k .carrier; client = k .client; inward-taken = k .inward-taken; outgoing = k .outgoing }
+
+  pub kept-with : {s : Setting} {b : BookOf M} → PartsSound s b → rank (b .client .view) ≤ rank (b .carrier .view) → BookKept s b
+  kept-with k l = record { held = k .held; carrier = k .carrier; client = k .client; inward-taken = k .inward-taken; outgoing = k .outgoing; below = l }
+
+  pub parts-sound : (s : Setting) (b : BookOf M) → BookSound s b → QueueFacts (s .members) (s .known) maxOutgoing (b .outgoing) → PartsSound s b
+  parts-sound s b h q = record {
     held = record { short = h .opens-short; rises = h .opens-rise; known = h .held-known };
     carrier = record { short = h .arrived-short; tolds-short = h .tolds-short; taken-in = h .taken-in; known = h .carrier-known; from = h .arrived-from };
     client = record {
@@ -56,11 +69,14 @@ module _ {M : Type 0} where
     };
     inward-taken = h .inward-taken;
     outgoing = q;
-    below = l;
   }
 
-  pub sound-of : (s : Setting) (b : BookOf M) → BookKept s b → BookSound s b
-  sound-of s b k = record {
+  pub parts-of : (s : Setting) (b : BookOf M) → BookSound s b → QueueFacts (s .members) (s .known) maxOutgoing (b .outgoing) → rank (b .client .view) ≤ rank (b .carrier .view)
+      → BookKept s b
+  parts-of s b h q l = kept-with (parts-sound s b h q) l
+
+  pub sound-parts : (s : Setting) (b : BookOf M) → PartsSound s b → BookSound s b
+  sound-parts s b k = record {
     opens-short = k .held .short;
     inward-short = k .client .short;
     arrived-short = k .carrier .short;
@@ -77,3 +93,6 @@ module _ {M : Type 0} where
     inward-from = k .client .from;
     arrived-from = k .carrier .from;
   }
+
+  pub sound-of : (s : Setting) (b : BookOf M) → BookKept s b → BookSound s b
+  sound-of s b k = sound-parts s b (parts-in k)

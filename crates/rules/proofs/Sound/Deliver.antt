@@ -18,7 +18,7 @@ use Rattle.rules.specs.Sound.{limitAt}
 use Rattle.rules.proofs.Sound.Books.{Setting, EntryFacts, entry-from, info-sound, told-sound, ItemsFrom}
 use Rattle.rules.proofs.Sound.HeldLaws.{held-sound, learned-well}
 use Rattle.rules.proofs.Sound.QueueLaws.{length-snoc, items-snoc, limit-le, limit-at, limit-snoc}
-use Rattle.rules.proofs.Sound.BookParts.{CarrierSound, ClientSound, BookKept}
+use Rattle.rules.proofs.Sound.BookParts.{CarrierSound, ClientSound, PartsSound, BookKept, parts-in, kept-with}
 
 module _ {M : Type 0} where
   -- v is the carrier view of b, in whose order a message is left
@@ -27,7 +27,7 @@ module _ {M : Type 0} where
     pub left : b .carrier .taken < s .limit (some v)
     pub short : s .limit (some v) ≤ maxOrdered
 
-  module _ (s : Setting) (b : BookOf M) (v : View) (f : Left s b v) (k : BookKept s b) where
+  module _ (s : Setting) (b : BookOf M) (v : View) (f : Left s b v) (k : PartsSound s b) where
     left-at : b .carrier .taken + 1 ≤ s .limit (b .carrier .view)
     left-at = rw (f .carries) (omega (arith, f .left))
 
@@ -56,7 +56,7 @@ module _ {M : Type 0} where
           from = items-snoc _ _ q x i (c .from);
         }
 
-    took-client : (q : ℕ) (x : M) → q < s .members → BookKept s (delivered q (client x) b)
+    took-client : (q : ℕ) (x : M) → q < s .members → PartsSound s (delivered q (client x) b)
     unfolding delivered received
     took-client q x i =
         ⊎-elim
@@ -71,7 +71,6 @@ module _ {M : Type 0} where
           client = received-sound q x i (room .1);
           inward-taken = rw t now;
           outgoing = k .outgoing;
-          below = k .below;
         }))
         (λ (t : clientIsCarrier b ≡ false).
         let was : limitAt (b .carrier .view) (b .carrier .inward) ≤ b .carrier .taken = rw t at (k .inward-taken) in
@@ -85,36 +84,47 @@ module _ {M : Type 0} where
           client = k .client;
           inward-taken = rw t now;
           outgoing = k .outgoing;
-          below = k .below;
         }))
         (known (clientIsCarrier b))
 
     -- if an info leaves at most 31 views open
-    pub took-kept : (q : Member) (m : MessageOf M) → EntryFacts (s .members) (s .known) (entry q m)
-        → ((x : View) (l : List View) → m ≡ info x l → length (learned x l (b .held) .opens) ≤ maxOpen) → BookKept s (delivered q m b)
+    pub took-sound : (q : Member) (m : MessageOf M) → EntryFacts (s .members) (s .known) (entry q m)
+        → ((x : View) (l : List View) → m ≡ info x l → length (learned x l (b .held) .opens) ≤ maxOpen) → PartsSound s (delivered q m b)
     unfolding delivered
-    took-kept q (client x) e o = took-client q x (entry-from e)
-    took-kept q (info x l) e o = record {
+    took-sound q (client x) e o = took-client q x (entry-from e)
+    took-sound q (info x l) e o = record {
       held = held-sound (s .known) _ (learned-well (s .known) x l (b .held) (info-sound e) (k .held)) (o x l refl);
       carrier = plain-sound _ _ _ (k .carrier .tolds-short);
       client = k .client;
       inward-taken = omega (arith, k .inward-taken);
       outgoing = k .outgoing;
-      below = k .below;
     }
-    took-kept q registered e o = record {
+    took-sound q registered e o = record {
       held = k .held;
       carrier = plain-sound _ _ _ (k .carrier .tolds-short);
       client = k .client;
       inward-taken = omega (arith, k .inward-taken);
       outgoing = k .outgoing;
-      below = k .below;
     }
-    took-kept q (told n) e o = record {
+    took-sound q (told n) e o = record {
       held = k .held;
       carrier = plain-sound _ _ _ (upd-ind q n (b .carrier .tolds) (λ r x. r < s .members → x ≤ maxOrdered) (λ _. told-sound e .1) (λ r _. k .carrier .tolds-short r));
       client = k .client;
       inward-taken = omega (arith, k .inward-taken);
       outgoing = k .outgoing;
-      below = k .below;
     }
+
+  -- and the views that the book is in stay
+  views-stay : (q : Member) (m : MessageOf M) (b : BookOf M) → (delivered q m b .client .view ≡ b .client .view) × (delivered q m b .carrier .view ≡ b .carrier .view)
+  unfolding delivered received
+  views-stay q (client x) b =
+      ⊎-elim (λ (t : clientIsCarrier b ≡ true). rw t (refl, refl)) (λ (t : clientIsCarrier b ≡ false). rw t (refl, refl)) (known (clientIsCarrier b))
+  views-stay q (info x l) b = (refl, refl)
+  views-stay q registered b = (refl, refl)
+  views-stay q (told n) b = (refl, refl)
+
+  pub took-kept : (s : Setting) (b : BookOf M) (v : View) → Left s b v → BookKept s b → (q : Member) (m : MessageOf M) → EntryFacts (s .members) (s .known) (entry q m)
+      → ((x : View) (l : List View) → m ≡ info x l → length (learned x l (b .held) .opens) ≤ maxOpen) → BookKept s (delivered q m b)
+  took-kept s b v f k q m e o =
+      let (own, new) = views-stay q m b in
+      kept-with (took-sound s b v f (parts-in k) q m e o) (rw (own, new) (k .below))

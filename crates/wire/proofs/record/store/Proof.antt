@@ -2,22 +2,22 @@
 use native.Mathlib.Omega.{arith}
 use borrow.Author.Needs.{needs}
 use Rattle.wire.proofs.RecordLaws.{record-stored}
-use Rattle.wire.proofs.FrontLaws.{scan-whole}
+use Rattle.wire.proofs.TripRead.{front-met}
 use Rattle.wire.proofs.ReaderLaws.{shaped}
 use Rattle.wire.proofs.record.store.Statement.{statement}
 use Rattle.wire.proofs.record.store.Tie as tie
 
 get-number-requires : tie.Need-get-number-requires
 get-number-requires c κs =
-    let s = shaped (c .before .before .args .bytes .now) (scan-whole (c .before .before .args .bytes .now) (c .before .before .pre .1)) in
+    let s = shaped (c .before .before .args .bytes .now) (front-met (c .before .before .args .bytes .now) (c .before .before .pre .1) .0) in
     omega arith
 
 load-number-requires : tie.Need-load-number-requires
-load-number-requires c κs = scan-whole (c .before .before .before .args .bytes .now) (c .before .before .before .pre .1)
+load-number-requires c κs = front-met (c .before .before .before .args .bytes .now) (c .before .before .before .pre .1) .0
 
 shared-slice-read-n : tie.Need-shared-slice-read-n
 shared-slice-read-n c =
-    let s = shaped (c .before .before .before .before .before .args .bytes .now) (scan-whole (c .before .before .before .before .before .args .bytes .now) (c .before .before .before .before .before .pre .1)) in
+    let s = shaped (c .before .before .before .before .before .args .bytes .now) (front-met (c .before .before .before .before .before .args .bytes .now) (c .before .before .before .before .before .pre .1) .0) in
     omega arith
 
 cast-n : tie.Need-cast-n
@@ -25,7 +25,7 @@ cast-n c = omega (arith, c .shared-slice-known2 .given 5)
 
 shared-slice-read-put-head : tie.Need-shared-slice-read-put-head
 shared-slice-read-put-head c =
-    let s = shaped (c .before .before .before .before .before .before .before .args .bytes .now) (scan-whole (c .before .before .before .before .before .before .before .args .bytes .now) (c .before .before .before .before .before .before .before .pre .1)) in
+    let s = shaped (c .before .before .before .before .before .before .before .args .bytes .now) (front-met (c .before .before .before .before .before .before .before .args .bytes .now) (c .before .before .before .before .before .before .before .pre .1) .0) in
     omega arith
 
 put-head-requires : tie.Need-put-head-requires
@@ -33,7 +33,7 @@ put-head-requires c κs = search needs
 
 put-views-requires : tie.Need-put-views-requires
 put-views-requires c κs =
-    let s = shaped (c .before .before .before .before .before .before .before .before .before .before .before .args .bytes .now) (scan-whole (c .before .before .before .before .before .before .before .before .before .before .before .args .bytes .now) (c .before .before .before .before .before .before .before .before .before .before .before .pre .1)) in
+    let s = shaped (c .before .before .before .before .before .before .before .before .before .before .before .args .bytes .now) (front-met (c .before .before .before .before .before .before .before .before .before .before .before .args .bytes .now) (c .before .before .before .before .before .before .before .before .before .before .before .pre .1) .0) in
     omega arith
 
 same-length : tie.Need-same-length

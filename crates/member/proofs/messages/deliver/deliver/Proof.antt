@@ -1,9 +1,10 @@
 -- `member::messages::deliver::deliver` meets its contract: 4, 6, then what was read.
-use Rattle.rules.specs.Data.{after}
+use mathlib.Core.Path.{sym, _∙_}
+use Rattle.wire.proofs.FrontLaws.{at-front}
 use Rattle.rules.specs.Alone.{deliverAlone}
-use Rattle.book_steps.specs.Acts.{fewOpen}
 use Rattle.member.specs.Calls.{deliverCall}
-use Rattle.member.proofs.CallLaws.{call-refused, call-sound, call-done}
+use Rattle.member.proofs.CallLaws.{call-refused, call-sound}
+use Rattle.member.proofs.ReadLaws.{one-done}
 use borrow.Author.Needs.{needs}
 use Rattle.member.proofs.messages.deliver.deliver.Statement.{statement}
 use Rattle.member.proofs.messages.deliver.deliver.Tie as tie
@@ -20,8 +21,13 @@ refuse-requires c κs = search needs
 enum-told : tie.Need-enum-told
 enum-told c = search needs
 
+verdict-requires : tie.Need-verdict-requires
+verdict-requires c κs = search needs
+
 deliver-read-requires : tie.Need-deliver-read-requires
-deliver-read-requires c κs = call-sound _ _ (c .before .before .before .admit .ensures) (c .before .enum-told .given .1)
+deliver-read-requires c κs =
+    let admitted = call-sound _ _ (c .before .before .before .before .admit .ensures) (c .before .before .enum-told .given .1) in
+    (admitted, λ e. at-front (c .before .before .before .before .before .before .before .before .args .bytes .now) (sym (c .before .verdict .ensures) ∙ e))
 
 same-length : tie.Need-same-length
 same-length c = search needs
@@ -34,10 +40,9 @@ same-length-2 : tie.Need-same-length-2
 same-length-2 c = search needs
 
 returns-2 : tie.Need-returns-2
-unfolding deliverCall deliverAlone fewOpen after
 returns-2 c =
-    let early = c .before .before .before .before in
-    call-done _ _ _ _ (early .before .before .admit .ensures) (early .enum-told .given .1) _ _ (c .before .before .deliver-read .ensures)
+    let a = c .before .before .before .before .before .before .before .before .before .before .before .args in
+    one-done (a .b .now) (a .bytes .now) (a .q .0) _ (c .before .before .before .before .before .before .before .admit .ensures) (c .before .before .before .before .before .enum-told .given .1) _ (c .before .before .before .before .verdict .ensures) _ _ (c .before .before .deliver-read .ensures)
 
 pub deliver-spec : {M : Type 1} → statement M
 deliver-spec =
@@ -47,6 +52,7 @@ deliver-spec =
     enum-known-v
     refuse-requires
     enum-told
+    verdict-requires
     deliver-read-requires
     same-length
     returns

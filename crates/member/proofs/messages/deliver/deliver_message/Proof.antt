@@ -2,9 +2,10 @@
 use mathlib.Core.Path.{sym, _∙_}
 use native.Mathlib.Omega.{arith}
 use Rattle.wire.specs.Reader.{frameIn}
+use Rattle.wire.proofs.TripRead.{front-met}
 use Rattle.book_steps.proofs.Committed.{sound-size}
 use Rattle.member.proofs.ArriveLaws.{carrier-mark, sender-small, frame-refused, frame-sender, frame-room, frame-taken}
-use Rattle.member.proofs.ReadLaws.{scan-few, scan-size, scan-views, scan-carries, scan-some, read-scan}
+use Rattle.member.proofs.ReadLaws.{scan-few, scan-size, scan-views, scan-carries, scan-some}
 use borrow.Author.Needs.{needs}
 use Rattle.member.proofs.messages.deliver.deliver_message.Statement.{statement}
 use Rattle.member.proofs.messages.deliver.deliver_message.Tie as tie
@@ -16,7 +17,7 @@ slice-read-answer-2 : tie.Need-slice-read-answer-2
 slice-read-answer-2 c = omega (arith, sound-size _ (c .before .before .before .before .pre .0))
 
 answer-requires : tie.Need-answer-requires
-answer-requires c κs = read-scan _ (c .before .before .before .before .pre .2)
+answer-requires c κs = front-met _ (c .before .before .before .before .pre .2) .0
 
 enum-known-verdict : tie.Need-enum-known-verdict
 enum-known-verdict c = search needs
@@ -28,17 +29,17 @@ enum-told : tie.Need-enum-told
 enum-told c = search needs
 
 load-message-requires : tie.Need-load-message-requires
-load-message-requires c κs = read-scan _ (c .before .before .before .before .before .before .before .pre .2)
+load-message-requires c κs = front-met _ (c .before .before .before .before .before .before .before .pre .2) .0
 
 shared-slice-read-count : tie.Need-shared-slice-read-count
-shared-slice-read-count c = omega (arith, scan-size (c .before .before .before .before .before .before .before .before .before .args .bytes .now) (read-scan _ (c .before .before .before .before .before .before .before .before .before .pre .2)))
+shared-slice-read-count c = omega (arith, scan-size (c .before .before .before .before .before .before .before .before .before .args .bytes .now) (front-met _ (c .before .before .before .before .before .before .before .before .before .pre .2) .0))
 
 cast-count : tie.Need-cast-count
-cast-count c = omega (arith, scan-few (c .before .before .before .before .before .before .before .before .before .args .bytes .now) (read-scan _ (c .before .before .before .before .before .before .before .before .before .pre .2)))
+cast-count c = omega (arith, scan-few (c .before .before .before .before .before .before .before .before .before .args .bytes .now) (front-met _ (c .before .before .before .before .before .before .before .before .before .pre .2) .0))
 
 deliver-requires : tie.Need-deliver-requires
 deliver-requires c κs =
-    let a = c .before .before .before .before .before .before .before .before .before .before .args in let pre = c .before .before .before .before .before .before .before .before .before .before .pre in let scan = read-scan (a .bytes .now) (pre .2) in let carried = scan-carries (a .bytes .now) scan in
+    let a = c .before .before .before .before .before .before .before .before .before .before .args in let pre = c .before .before .before .before .before .before .before .before .before .before .pre in let scan = front-met (a .bytes .now) (pre .2) .0 in let carried = scan-carries (a .bytes .now) scan in
     let answered = c .before .before .before .before .before .answer .ensures in
     let passed = c .before .before .before .enum-told .given .1 in
     let f = frameIn (a .bytes .now) in (
@@ -53,7 +54,7 @@ deliver-requires c κs =
 
 returns : tie.Need-returns
 returns c =
-    let a = c .before .before .before .before .before .before .before .before .before .args in let pre = c .before .before .before .before .before .before .before .before .before .pre in let scan = read-scan (a .bytes .now) (pre .2) in let carried = scan-carries (a .bytes .now) scan in
+    let a = c .before .before .before .before .before .before .before .before .before .args in let pre = c .before .before .before .before .before .before .before .before .before .pre in let scan = front-met (a .bytes .now) (pre .2) .0 in let carried = scan-carries (a .bytes .now) scan in
     frame-refused _ _ _ (frameIn (a .bytes .now)) carried _ (c .before .before .before .before .answer .ensures) _ (c .before .before .verdict .given .1) _ (c .refuse .ensures)
 
 same-length : tie.Need-same-length
@@ -61,7 +62,7 @@ same-length c = search needs
 
 returns-2 : tie.Need-returns-2
 returns-2 c =
-    let a = c .before .before .before .before .before .before .before .before .before .before .before .before .before .args in let pre = c .before .before .before .before .before .before .before .before .before .before .before .before .before .pre in let scan = read-scan (a .bytes .now) (pre .2) in let carried = scan-carries (a .bytes .now) scan in
+    let a = c .before .before .before .before .before .before .before .before .before .before .before .before .before .args in let pre = c .before .before .before .before .before .before .before .before .before .before .before .before .before .pre in let scan = front-met (a .bytes .now) (pre .2) .0 in let carried = scan-carries (a .bytes .now) scan in
     frame-taken (a .b .now) (a .v) (a .q .0) (frameIn (a .bytes .now)) carried _ (c .before .before .before .before .before .before .before .before .answer .ensures) (c .before .before .before .before .before .before .enum-told .given .1) _ _
     (rw (← scan-views (a .bytes .now) scan) (rw (c .before .before .before .before .before .load-message .ensures) at (c .before .before .deliver .ensures)))
 

@@ -1,9 +1,9 @@
--- `reader::verdict` meets its contract: by the verdict at the front, and by what is left over.
+-- `single::verdict` meets its contract: by the verdict at the front, and by what is left over.
 use native.Mathlib.Omega.{arith}
 use borrow.Author.Needs.{needs}
 use Rattle.wire.proofs.FrontLaws.{says-refused, says-over, says-all}
-use Rattle.wire.proofs.reader.verdict.Statement.{statement}
-use Rattle.wire.proofs.reader.verdict.Tie as tie
+use Rattle.wire.proofs.single.verdict.Statement.{statement}
+use Rattle.wire.proofs.single.verdict.Tie as tie
 
 front-requires : tie.Need-front-requires
 front-requires c κs = search needs
