@@ -1,5 +1,7 @@
 #include "carrier.hpp"
 
+#include "watch.hpp"
+
 namespace offices {
 
 std::array<dvs::Member, kOffices> everyone() {
@@ -55,8 +57,8 @@ void Carrier::weather(unsigned lost, unsigned late) {
 
 void Carrier::hold(dvs::Member office, bool held) { seat(office).held = held; }
 
-void Carrier::post(dvs::Member office, const dvs::MessageBytes &message) {
-  channels_[*seat(office).view].waiting[dvs::number(office)].push_back(message);
+void Carrier::post(dvs::Member office, dvs::Bytes packet) {
+  channels_[*seat(office).view].waiting[dvs::number(office)].emplace_back(packet.begin(), packet.end());
 }
 
 bool Carrier::reaches_keeper(dvs::Member office, const Channel &channel) const {
@@ -65,17 +67,35 @@ bool Carrier::reaches_keeper(dvs::Member office, const Channel &channel) const {
   return false;
 }
 
+bool Carrier::Channel::put_in_order(dvs::Member office) {
+  std::deque<Packet> &queue = waiting[dvs::number(office)];
+  Packet &first = queue.front();
+  dvs::MessagesIn in = dvs::messages_in(first);
+  std::size_t end = 0;
+  for (const dvs::Message &message : in) {
+    if (full()) break;
+    expect(message.view == view.identifier, "a packet holds messages of its view");
+    end = in.taken();
+    ++messages;
+  }
+  expect(in.refusal() == dvs::Refusal::none && end > 0, "a packet holds messages and nothing else");
+  const auto rest = first.begin() + static_cast<std::ptrdiff_t>(end);
+  order.push_back({office, Packet(first.begin(), rest)});
+  first.erase(first.begin(), rest);
+  if (!first.empty()) return false;
+  queue.pop_front();
+  return true;
+}
+
 void Carrier::carry() {
   for (auto &[identifier, channel] : channels_) {
     for (dvs::Member office : everyone()) {
-      std::deque<dvs::MessageBytes> &waiting = channel.waiting[dvs::number(office)];
-      if (waiting.empty() || channel.order.size() == DVS_ORDERED || !reaches_keeper(office, channel)) continue;
+      if (channel.waiting[dvs::number(office)].empty() || channel.full() || !reaches_keeper(office, channel)) continue;
       if (chance_.percent(percent_lost_)) {
         ++lost_;
         continue;
       }
-      channel.order.push_back({office, waiting.front()});
-      waiting.pop_front();
+      if (!channel.put_in_order(office)) ++cut_;
     }
   }
 }
@@ -93,7 +113,19 @@ std::optional<Letter> Carrier::take(dvs::Member office) {
   return channel.order[at.taken++];
 }
 
-bool Carrier::full(dvs::Member office) const { return seat(office).view && channels_.at(*seat(office).view).order.size() == DVS_ORDERED; }
+bool Carrier::full(dvs::Member office) const { return seat(office).view && channels_.at(*seat(office).view).full(); }
+
+std::size_t Carrier::messages() const {
+  std::size_t sum = 0;
+  for (const auto &[identifier, channel] : channels_) sum += channel.messages;
+  return sum;
+}
+
+std::size_t Carrier::packets() const {
+  std::size_t sum = 0;
+  for (const auto &[identifier, channel] : channels_) sum += channel.order.size();
+  return sum;
+}
 
 bool Carrier::quiet() const {
   for (const Seat &at : seats_)
@@ -101,7 +133,7 @@ bool Carrier::quiet() const {
   for (const auto &[identifier, channel] : channels_) {
     for (dvs::Member office : everyone()) {
       if (!reaches_keeper(office, channel)) continue;
-      if (!channel.waiting[dvs::number(office)].empty() && channel.order.size() < DVS_ORDERED) return false;
+      if (!channel.waiting[dvs::number(office)].empty() && !channel.full()) return false;
       if (seat(office).view == identifier && !seat(office).held && seat(office).taken < channel.order.size()) return false;
     }
   }

@@ -2,7 +2,7 @@
 // this and compares what it prints with expected.txt; a rule that is broken ends it with status 1.
 //
 //   office   what a host has to do with a book, in Office::turn: read this first
-//   carrier  views and one order of messages for each, over bad lines
+//   carrier  views and one order of messages for each, in packets, over bad lines
 //   timber   the register, and its lines as entry numbers
 //   watch    what is checked at every event
 //   towns    the offices by name

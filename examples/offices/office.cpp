@@ -33,23 +33,31 @@ bool Office::turn(Carrier &carrier, Watch &watch) {
   }
   moved |= report_safe(watch);
   moved |= book_.collect().accepted();
-  while (const auto message = book_.pass()) {
-    carrier.post(own_, *message);
-    moved = true;
-  }
-  return moved;
+  return pass_on(carrier) || moved;
 }
 
-// Takes up to two messages. One of a view that this office has left is refused by 41 and dropped.
+// All that is outgoing goes as one packet: there is room for as many messages as can be outgoing, however long.
+bool Office::pass_on(Carrier &carrier) {
+  std::array<std::uint8_t, DVS_OUTGOING * DVS_LONGEST> buffer;
+  dvs::PacketWriter packet(buffer);
+  while (packet.pass(book_)) {
+  }
+  if (packet.empty()) return false;
+  carrier.post(own_, packet.bytes());
+  return true;
+}
+
+// Takes up to two packets. One of a view that this office has left is stopped by 41 at its first message and dropped.
 bool Office::take(Carrier &carrier) {
   bool took = false;
   for (int i = 0; i < 2; ++i) {
     const std::optional<Letter> letter = carrier.take(own_);
     if (!letter) break;
-    const dvs::Result<void> taken = book_.deliver(letter->message.bytes(), letter->sender);
-    expect(taken || taken.refusal() == dvs::Refusal::another_view, "what the carrier brings is taken, or was sent in another view");
-    if (taken) took = true;
-    else ++tally_.too_late;
+    const dvs::Result<dvs::Delivery> taken = book_.deliver_packet(letter->packet, letter->sender);
+    const bool late = taken && taken->delivered == 0 && taken->stopped == dvs::Refusal::another_view;
+    expect(late || (taken && taken->stopped == dvs::Refusal::none), "what the carrier brings is taken whole, or was sent in another view");
+    if (late) ++tally_.too_late;
+    else took = true;
   }
   return took;
 }

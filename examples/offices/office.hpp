@@ -18,7 +18,7 @@ struct Wish {
   Stamp seen;
 };
 
-// Attempts of an office by their answers, and those that the service refused and the old program would have made; messages that came too late.
+// Attempts of an office by their answers, and those that the service refused and the old program would have made; packets that came too late.
 struct Tally {
   unsigned accepted = 0, refused = 0, only_by_old_program = 0, too_late = 0;
 };
@@ -47,6 +47,7 @@ class Office {
 
  private:
   bool take(Carrier &carrier);
+  bool pass_on(Carrier &carrier);
   bool attempt(Watch &watch);
   void bring_marks();
   bool hand_out(Watch &watch);

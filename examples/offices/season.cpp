@@ -44,12 +44,12 @@ void print(const Firm &firm, unsigned changes) {
 
 void season() {
   std::printf("A season\n========\n\n");
-  std::printf("The lines fail and return %u times by chance, often before the offices have come to rest; messages are lost and late.\n"
+  std::printf("The lines fail and return %u times by chance, often before the offices have come to rest; packets are lost and late.\n"
               "At every event it is checked that attempted views share an office unless a registered one lies between, that every view\n"
               "hands out one order, that what is safe is in every office of its view, and that no safe line is lost; after every change\n"
               "of the lines, that all who work then work in one view.\n\n",
               kChanges);
-  std::printf("    %7s %10s %10s %8s %12s %12s %9s   %s\n", "changes", "primary", "attempts", "refused", "of them old", "lines that", "refused",
+  std::printf("    %7s %10s %10s %8s %12s %12s %9s   %s\n", "changes", "primary", "attempts", "refused", "of them old", "lines that", "stopped",
               "work now");
   std::printf("    %7s %10s %10s %8s %12s %12s %9s\n", "of line", "views", "accepted", "by 21", "rule passes", "became safe", "by 41");
 

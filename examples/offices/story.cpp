@@ -176,21 +176,30 @@ void half(Firm &firm) {
 }
 
 void end(Firm &firm) {
-  heading("8. All lines are back for good. Twelve changes of rafter R3 follow each other through the day. A view has 128 messages; when\n"
-          "   view 11 has had them, its offices go on in a new one, and what found no place is made good there.");
+  heading("8. All lines are back for good. Twelve changes of rafter R3 follow each other through the day; from the fourth on B12 and C4\n"
+          "   are re-sized with it, three changes in one packet. A view has 128 messages: of one such packet view 11 has room for the\n"
+          "   first change alone. The offices go on in a new view, and the two that found no place are made good there.");
   firm.connect({kAll});
   firm.run();
   expect(firm.primaries().size() == 1 && firm.primaries()[0].identifier == dvs::Identifier{11}, "all work in view 11");
   expect_safe(firm, kAll, kColumn, {120, 120}, Verdict::resized);
   for (unsigned i = 1; i <= 12; ++i) {
-    firm[i % kOffices].wish(kRafter, {50, 175 + 5 * i}, Verdict::resized);
+    Office &office = firm[i % kOffices];
+    const unsigned more = i > 3 ? 5 * i : 0;
+    office.wish(kRafter, {50, 175 + 5 * i}, Verdict::resized);
+    if (more > 0) office.wish(kBeam, {75, 225 + more}, Verdict::resized);
+    if (more > 0) office.wish(kColumn, {120, 120 + more}, Verdict::resized);
     firm.run();
     expect_safe(firm, kAll, kRafter, {50, 175 + 5 * i}, Verdict::resized);
+    expect_safe(firm, kAll, kBeam, {75, 225 + more}, Verdict::resized);
+    expect_safe(firm, kAll, kColumn, {120, 120 + more}, Verdict::resized);
   }
+  expect(firm.carrier().cut() == 1, "one packet had room in part");
   expect(firm.working() == kAll && firm.primaries()[0].identifier == dvs::Identifier{12}, "all work in view 12");
   firm.print();
-  std::printf("   %u messages were lost on a line and sent again. %u came to an office that had left their view, and were refused by 41.\n\n",
-              firm.carrier().lost(), firm.tally().too_late);
+  std::printf("   %zu messages went out in %zu packets. %u packets were lost on a line and sent again. %u came to an office that had left\n"
+              "   their view, and were stopped by 41 at their first message.\n\n",
+              firm.carrier().messages(), firm.carrier().packets(), firm.carrier().lost(), firm.tally().too_late);
 }
 
 }  // namespace
