@@ -31,6 +31,7 @@ use Rattle.rules.proofs.Alone.Taken.{deliver-sound}
 use Rattle.rules.proofs.Alone.Readable.{Given, front-given}
 use Rattle.rules.proofs.Alone.Packets.{Each, Fine, each-fine, deliver-stops}
 use Rattle.events.specs.Replies.{verdictOf}
+use Rattle.events.proofs.ReplyLaws.{accepts}
 use Rattle.book_bytes.specs.Books.{bookIn, layoutFits, bytesSound, membersIn, selfIn}
 use Rattle.book_bytes.proofs.LayoutLaws.{layout-from}
 use Rattle.book_steps.proofs.Committed.{sound-layout}
@@ -99,10 +100,6 @@ module _ (read : Result Sent) (given : Given read) (q : ℕ) (b : List ℕ) (byt
 verdict-refused : {A : Type 0} (x : Result A) (r : Refusal) → verdictOf x ≡ Refused r → x ≡ refused r
 verdict-refused (refused z) r e = let k : z ≡ r = cc in ap (λ (w : Refusal). refused w) k
 verdict-refused (accepted y) r e = absurd (never r (sym e))
-
-verdict-accepted : {A : Type 0} (x : Result A) → verdictOf x ≡ Accepted → (y : A) × (x ≡ accepted y)
-verdict-accepted (refused z) e = absurd (never z e)
-verdict-accepted (accepted y) e = (y, refl)
 
 -- a message that was taken had been read
 sent-read : (v : Verdict) (f : Frame) (x : Sent) → sentBy v f ≡ accepted x → v ≡ Accepted
@@ -281,7 +278,7 @@ module _ (b₀ s : List ℕ) (q : ℕ) (b : List ℕ) (at n : ℕ) (y : AreBytes
 
   module _ (e : f .verdict ≡ Accepted) where
     taken : (x : Done) × (messageCall (sentOf (readFront rest)) q b ≡ accepted x)
-    taken = verdict-accepted _ (call-verdict Accepted e)
+    taken = accepts _ (call-verdict Accepted e)
 
     -- the reader had accepted it
     front : readFront rest .verdict ≡ Accepted

@@ -74,6 +74,11 @@ arriving n v x q b =
 abbrev pub delivering : ℕ → Result Sent → Member → Ruled → Result Done
 delivering n read q b = withView (b .carrier .view) NoCarrierView (λ v. after read (λ x. arriving n v x q b))
 
+-- what the reader gave is taken after 4 and 6; r is the verdict
+pub record Took (sent : Result Sent) (q : Member) (entry exit : List ℕ) (r : Verdict) : Type 0 where
+  pub verdict : r ≡ verdictOf (delivering (membersIn entry) sent q (bookIn entry))
+  pub book : exit ≡ left r (takenBytes sent q entry) entry
+
 -- 7, 41, 42, 16 of a frame
 unfoldable pub frameAnswer : ℕ → View → ℕ → Member → Frame → Verdict
 frameAnswer n v taken q f =

@@ -20,8 +20,8 @@ ghost use Rattle.events.specs.Replies.{replyOf, verdictOf};
 ghost use Rattle.rules.specs.Alone.{sentBy};
 ghost use Rattle.book_bytes.specs.Books.{bookIn, bytesSound, membersIn};
 ghost use Rattle.book_steps.specs.Acts.{takeBytes};
-ghost use Rattle.member.specs.Parts.{frameAnswer, sentIn, arriving, delivering};
-ghost use Rattle.member.specs.Calls.{takenBytes, deliverBytes, Gave, deliverCall};
+ghost use Rattle.member.specs.Parts.{frameAnswer, sentIn, arriving, Took};
+ghost use Rattle.member.specs.Calls.{deliverBytes, Gave, deliverCall};
 
 // 7 for any view carried, 41 another view, 42 a sender not in it, 16 after 128 taken.
 fn answer(n: u8, v: View, taken: Position, q: Member, bytes: &[u8]) -> Verdict
@@ -65,31 +65,33 @@ fn deliver_message(b: &mut [u8], v: View, q: Member, bytes: &[u8]) -> Reply
             let message = wire::reader::load_message(bytes);
             let e = Entry { sender: q, message };
             let count = bytes[format::COUNT_AT] as usize;
-            book_steps::messages::deliver(b, e, bytes, format::VIEWS_AT, count)
+            // The bytes go on as a slice made here: one that came in would be copied whole, and the copy waited for.
+            book_steps::messages::deliver(b, e, &bytes[0..bytes.len()], format::VIEWS_AT, count)
         }
     }
 }
 
 // The message at the front of the bytes is taken into a sound book, where `read` is the verdict on it: 13, then its own
 // refusal.
-pub fn deliver_read(b: &mut [u8], bytes: &[u8], read: Verdict, q: Member) -> Reply
+pub fn deliver_read(b: &mut [u8], bytes: &[u8], read: Verdict, q: Member) -> Verdict
     requires { ⌜ (bytesSound (now b) ≡ true)
         × (read ≡ Verdict.Accepted → readFront (now bytes) .verdict ≡ Verdict.Accepted) ⌝ }
-    ensures { λ r. ⌜ Gave
-        (delivering (membersIn (now (b .entry))) (sentBy read (frameIn (now (bytes .entry)))) (q .0)
-        (bookIn (now (b .entry))))
-        (takenBytes (sentBy read (frameIn (now (bytes .entry)))) (q .0) (now (b .entry)))
-        (now (b .entry)) (now (b .exit)) r ⌝ }
+    ensures { λ r. ⌜ Took (sentBy read (frameIn (now (bytes .entry)))) (q .0) (now (b .entry)) (now (b .exit)) r ⌝ }
 {
     let carrier = book_bytes::load_seat(b, book_bytes::CARRIER);
     if !carrier.there {
-        return events::refuse(Refusal::NoCarrierView);
+        return Verdict::Refused(Refusal::NoCarrierView);
     }
     match read {
-        Verdict::Refused(r) => events::refuse(r),
+        Verdict::Refused(r) => Verdict::Refused(r),
         Verdict::Accepted => {
             let v = carrier.view;
-            deliver_message(b, v, q, bytes)
+            let r = deliver_message(b, v, q, bytes);
+            let taken = r.verdict;
+            match taken {
+                Verdict::Refused(x) => Verdict::Refused(x),
+                Verdict::Accepted => Verdict::Accepted,
+            }
         }
     }
 }
@@ -104,7 +106,14 @@ pub fn deliver(b: &mut [u8], bytes: &[u8], q: Member) -> Reply
         Verdict::Refused(r) => events::refuse(r),
         Verdict::Accepted => {
             let read = wire::single::verdict(bytes);
-            deliver_read(b, bytes, read, q)
+            let taken = deliver_read(b, bytes, read, q);
+            match taken {
+                Verdict::Refused(r) => events::refuse(r),
+                Verdict::Accepted => Reply {
+                    verdict: Verdict::Accepted,
+                    event: events::no_event(),
+                },
+            }
         }
     }
 }

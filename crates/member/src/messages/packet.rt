@@ -26,8 +26,7 @@ fn deliver_front(b: &mut [u8], bytes: &[u8], q: Member) -> Front
     }
     let f = wire::reader::front(bytes);
     let read = f.verdict;
-    let r = deliver::deliver_read(b, bytes, read, q);
-    let verdict = r.verdict;
+    let verdict = deliver::deliver_read(b, bytes, read, q);
     Front {
         verdict,
         taken: f.taken,

@@ -1,7 +1,9 @@
 -- `member::messages::deliver::deliver` meets its contract: 4, 6, then what was read.
-use mathlib.Core.Path.{sym, _∙_}
+use mathlib.Core.Path.{sym, ap, _∙_}
+use Rattle.views.specs.declared.refusal.Verdict.{Verdict}
 use Rattle.wire.proofs.FrontLaws.{at-front}
 use Rattle.rules.specs.Alone.{deliverAlone}
+use Rattle.events.specs.Replies.{noEvent, replied}
 use Rattle.member.specs.Calls.{deliverCall}
 use Rattle.member.proofs.CallLaws.{call-refused, call-sound}
 use Rattle.member.proofs.ReadLaws.{one-done}
@@ -29,6 +31,18 @@ deliver-read-requires c κs =
     let admitted = call-sound _ _ (c .before .before .before .before .admit .ensures) (c .before .before .enum-told .given .1) in
     (admitted, λ e. at-front (c .before .before .before .before .before .before .before .before .args .bytes .now) (sym (c .before .verdict .ensures) ∙ e))
 
+enum-known-taken : tie.Need-enum-known-taken
+enum-known-taken c = search needs
+
+refuse-requires-2 : tie.Need-refuse-requires-2
+refuse-requires-2 c κs = search needs
+
+enum-told-2 : tie.Need-enum-told-2
+enum-told-2 c = search needs
+
+no-event-requires : tie.Need-no-event-requires
+no-event-requires c κs = search needs
+
 same-length : tie.Need-same-length
 same-length c = search needs
 
@@ -40,9 +54,20 @@ same-length-2 : tie.Need-same-length-2
 same-length-2 c = search needs
 
 returns-2 : tie.Need-returns-2
+unfolding replied
 returns-2 c =
-    let a = c .before .before .before .before .before .before .before .before .before .before .before .args in
-    one-done (a .b .now) (a .bytes .now) (a .q .0) _ (c .before .before .before .before .before .before .before .admit .ensures) (c .before .before .before .before .before .enum-told .given .1) _ (c .before .before .before .before .verdict .ensures) _ _ (c .before .before .deliver-read .ensures)
+    let a = c .before .before .before .before .before .before .before .before .before .before .before .before .before .before .before .args in
+    one-done (a .b .now) (a .bytes .now) (a .q .0) _ (c .before .before .before .before .before .before .before .before .before .before .before .admit .ensures) (c .before .before .before .before .before .before .before .before .before .enum-told .given .1) _ (c .before .before .before .before .before .before .before .before .verdict .ensures) _ _ (c .before .before .before .before .before .before .deliver-read .ensures) _
+    (c .refuse2 .ensures ∙ ap (λ (v : Verdict). record { verdict = v; event = noEvent }) (sym (c .before .before .taken .given .1)))
+
+same-length-3 : tie.Need-same-length-3
+same-length-3 c = search needs
+
+returns-3 : tie.Need-returns-3
+returns-3 c =
+    let a = c .before .before .before .before .before .before .before .before .before .before .before .before .before .before .args in
+    one-done (a .b .now) (a .bytes .now) (a .q .0) _ (c .before .before .before .before .before .before .before .before .before .before .admit .ensures) (c .before .before .before .before .before .before .before .before .enum-told .given .1) _ (c .before .before .before .before .before .before .before .verdict .ensures) _ _ (c .before .before .before .before .before .deliver-read .ensures) _
+    (λ i. record { verdict = sym (c .before .enum-told2 .given .1) i; event = c .no-event .ensures i })
 
 pub deliver-spec : {M : Type 1} → statement M
 deliver-spec =
@@ -54,7 +79,13 @@ deliver-spec =
     enum-told
     verdict-requires
     deliver-read-requires
+    enum-known-taken
+    refuse-requires-2
+    enum-told-2
+    no-event-requires
     same-length
     returns
     same-length-2
-    returns-2)
+    returns-2
+    same-length-3
+    returns-3)

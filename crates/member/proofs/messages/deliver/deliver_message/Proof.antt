@@ -5,7 +5,7 @@ use Rattle.wire.specs.Reader.{frameIn}
 use Rattle.wire.proofs.TripRead.{front-met}
 use Rattle.book_steps.proofs.Committed.{sound-size}
 use Rattle.member.proofs.ArriveLaws.{carrier-mark, sender-small, frame-refused, frame-sender, frame-room, frame-taken}
-use Rattle.member.proofs.ReadLaws.{scan-few, scan-size, scan-views, scan-carries, scan-some}
+use Rattle.member.proofs.ReadLaws.{all-of, scan-few, scan-size, scan-views, scan-carries, scan-some}
 use borrow.Author.Needs.{needs}
 use Rattle.member.proofs.messages.deliver.deliver_message.Statement.{statement}
 use Rattle.member.proofs.messages.deliver.deliver_message.Tie as tie
@@ -37,19 +37,28 @@ shared-slice-read-count c = omega (arith, scan-size (c .before .before .before .
 cast-count : tie.Need-cast-count
 cast-count c = omega (arith, scan-few (c .before .before .before .before .before .before .before .before .before .args .bytes .now) (front-met _ (c .before .before .before .before .before .before .before .before .before .pre .2) .0))
 
+sub-deliver : tie.Need-sub-deliver
+sub-deliver c = search needs
+
+part-deliver-start : tie.Need-part-deliver-start
+part-deliver-start c = search needs
+
+part-deliver-end : tie.Need-part-deliver-end
+part-deliver-end c = search needs
+
 deliver-requires : tie.Need-deliver-requires
 deliver-requires c κs =
-    let a = c .before .before .before .before .before .before .before .before .before .before .args in let pre = c .before .before .before .before .before .before .before .before .before .before .pre in let scan = front-met (a .bytes .now) (pre .2) .0 in let carried = scan-carries (a .bytes .now) scan in
-    let answered = c .before .before .before .before .before .answer .ensures in
-    let passed = c .before .before .before .enum-told .given .1 in
+    let a = c .before .before .before .before .before .before .before .before .before .before .before .args in let pre = c .before .before .before .before .before .before .before .before .before .before .before .pre in let scan = front-met (a .bytes .now) (pre .2) .0 in let carried = scan-carries (a .bytes .now) scan in
+    let answered = c .before .before .before .before .before .before .answer .ensures in
+    let passed = c .before .before .before .before .enum-told .given .1 in
     let f = frameIn (a .bytes .now) in (
       pre .0,
       frame-room (a .b .now) (a .v) (a .q .0) f carried _ answered passed,
       carrier-mark _ _ (pre .1),
       sender-small _ _ _ (pre .0) (pre .1) (frame-sender (a .b .now) (a .v) (a .q .0) f carried _ answered passed),
-      omega (arith, scan-size (a .bytes .now) scan),
+      rw (all-of (a .bytes .now)) (omega (arith, scan-size (a .bytes .now) scan)),
       scan-few (a .bytes .now) scan,
-      λ e. scan-some (a .bytes .now) scan (sym (c .before .before .load-message .ensures) ∙ e),
+      λ e. scan-some (a .bytes .now) scan (sym (c .before .before .before .load-message .ensures) ∙ e),
     )
 
 returns : tie.Need-returns
@@ -62,9 +71,9 @@ same-length c = search needs
 
 returns-2 : tie.Need-returns-2
 returns-2 c =
-    let a = c .before .before .before .before .before .before .before .before .before .before .before .before .before .args in let pre = c .before .before .before .before .before .before .before .before .before .before .before .before .before .pre in let scan = front-met (a .bytes .now) (pre .2) .0 in let carried = scan-carries (a .bytes .now) scan in
-    frame-taken (a .b .now) (a .v) (a .q .0) (frameIn (a .bytes .now)) carried _ (c .before .before .before .before .before .before .before .before .answer .ensures) (c .before .before .before .before .before .before .enum-told .given .1) _ _
-    (rw (← scan-views (a .bytes .now) scan) (rw (c .before .before .before .before .before .load-message .ensures) at (c .before .before .deliver .ensures)))
+    let a = c .before .before .before .before .before .before .before .before .before .before .before .before .before .before .args in let pre = c .before .before .before .before .before .before .before .before .before .before .before .before .before .before .pre in let scan = front-met (a .bytes .now) (pre .2) .0 in let carried = scan-carries (a .bytes .now) scan in
+    frame-taken (a .b .now) (a .v) (a .q .0) (frameIn (a .bytes .now)) carried _ (c .before .before .before .before .before .before .before .before .before .answer .ensures) (c .before .before .before .before .before .before .before .enum-told .given .1) _ _
+    (rw (← scan-views (a .bytes .now) scan) (rw (all-of (a .bytes .now), c .before .before .before .before .before .before .load-message .ensures) at (c .before .before .deliver .ensures)))
 
 pub deliver-message-spec : {M : Type 1} → statement M
 deliver-message-spec =
@@ -79,6 +88,9 @@ deliver-message-spec =
     load-message-requires
     shared-slice-read-count
     cast-count
+    sub-deliver
+    part-deliver-start
+    part-deliver-end
     deliver-requires
     returns
     same-length
