@@ -6,13 +6,10 @@ use Rattle.views.specs.Refusals.{codeOf, left}
 use Rattle.rules.specs.Data.{Book as Ruled, Result, refused, accepted}
 use Rattle.rules.specs.Member.{Done}
 use Rattle.events.specs.declared.Reply.{Reply}
-use Rattle.events.specs.Replies.{replyOf, verdictOf}
+use Rattle.events.specs.Replies.{verdictOf}
 use Rattle.member.specs.Calls.{Gave, startReply}
+use Rattle.member.proofs.ReadLaws.{reply-verdict}
 use Rattle.dvs.specs.BookCalls.{Gives}
-
-pub reply-verdict : (result : Result Done) → replyOf result .verdict ≡ verdictOf result
-reply-verdict (refused r) = refl
-reply-verdict (accepted d) = refl
 
 start-verdict : (result : Result Ruled) → startReply result .verdict ≡ verdictOf result
 start-verdict (refused r) = refl

@@ -11,7 +11,7 @@ use Rattle.events.specs.Replies.{replyOf, verdictOf}
 use Rattle.member.specs.Calls.{Gave}
 use Rattle.c_answers.specs.Answers.{eventSize, eventBytes}
 use Rattle.c_answers.proofs.AnswerLaws.{sized-met, sized-unmet}
-use Rattle.dvs.proofs.BookLaws.{reply-verdict}
+use Rattle.member.proofs.ReadLaws.{reply-verdict}
 use Rattle.dvs.specs.EventCalls.{Shows}
 
 pub shows-unsized : (result : Result Done) (new b e : List ℕ) (x : ℕ) → (length e ≡ eventSize → ⊥) → x ≡ 4 → Shows result new b b e e x

@@ -124,7 +124,7 @@ one-sent b =
 
 -- ---- the answer, with the carrier view as it was loaded
 
-reply-verdict : (r : Result Done) → replyOf r .verdict ≡ verdictOf r
+pub reply-verdict : (r : Result Done) → replyOf r .verdict ≡ verdictOf r
 reply-verdict (refused x) = refl
 reply-verdict (accepted d) = refl
 
