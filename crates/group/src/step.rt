@@ -153,3 +153,23 @@ pub fn step(
     }
     dispatch(list, all, queues, kind, first, second)
 }
+
+// The same step. If the ranges are known to be a sound group, 4 is not checked again.
+pub fn next(
+    list: &mut [u8],
+    all: &mut [u8],
+    queues: &mut [u8],
+    known: bool,
+    kind: u8,
+    first: u32,
+    second: u64,
+) -> Reply
+    requires { ⌜ (known ≡ true → rangesSound (ranges (now list) (now all) (now queues)) ≡ true) ⌝ }
+    ensures { λ r. ⌜ Went (ranges (now (list .entry)) (now (all .entry)) (now (queues .entry)))
+        (asked kind first second) (ranges (now (list .exit)) (now (all .exit)) (now (queues .exit))) r ⌝ }
+{
+    if known {
+        return dispatch(list, all, queues, kind, first, second);
+    }
+    step(list, all, queues, kind, first, second)
+}

@@ -1,4 +1,4 @@
--- Steps after steps, put to the three ranges; and that the steps of the driver can be given, whatever the view's servers are.
+-- Steps after steps, applied to the three ranges; and that the steps of the driver can be given, whatever the view's servers are.
 use mathlib.Core.Path.{_≡_, refl, ap}
 use mathlib.Core.Logic.{⊎-elim}
 use mathlib.Core.List.{List, [], _∷_, _++_}
@@ -31,8 +31,11 @@ replies-append r (c ∷ l) m = ap (λ (k : List Reply). stepReply r c ∷ k) (re
 pub none-given : AllGiven []
 none-given c i = absurd (in-nil i)
 
+pub given-first : (c : Step) (l : List Step) → Given c → AllGiven l → AllGiven (c ∷ l)
+given-first c l h k d i = ⊎-elim (λ (e : d ≡ c). rw e h) (k d) (in-cons i)
+
 pub one-given : (c : Step) → Given c → AllGiven (c ∷ [])
-one-given c h d i = ⊎-elim (λ (e : d ≡ c). rw e h) (λ (j : In d []). absurd (in-nil j)) (in-cons i)
+one-given c h = given-first c [] h none-given
 
 pub given-append : (l m : List Step) → AllGiven l → AllGiven m → AllGiven (l ++ m)
 given-append = every-append Given
