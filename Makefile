@@ -37,7 +37,7 @@ target/unproved/libdvs.a: $(SOURCES)
 # a package. The version stands here alone; tests/checks/header_check.py holds the header and the library to it.
 .PHONY: install
 PREFIX ?= /usr/local
-VERSION := 0.4.0
+VERSION := 0.5.0
 HOST_DOCUMENTS := $(wildcard $(addprefix docs/,HOST.md LAYOUT.md REFUSALS.md SPEC.md))
 CMAKE_FILES := dvsConfig.cmake dvsConfigVersion.cmake
 install: $(LIBRARY)

@@ -1,10 +1,11 @@
 /*
  * dvs.h: primary views for up to eight register servers, after the service DVS of MIT-LCS-TR-873.
  *
- * The library keeps no memory of its own, calls nothing but C's memcpy, memmove and memset, and never blocks. 8 KB of stack are enough for any call
- * but dvs_group_form, for which 88 KB are: it keeps there what it may have to put back. Its time is bounded by what the ranges hold: some microseconds
- * for a call on a book, some tens for a packet of 128 messages; a step of a group looks at all of its group, microseconds for a fresh one and
- * milliseconds for one whose queues are full; dvs_group_run and dvs_group_form take the time of their steps.
+ * The library keeps no memory of its own, calls nothing but C's memcpy, memmove and memset, and never blocks. 8 KB of stack are enough for any call on
+ * ranges that calls lead to. On any other ranges dvs_group_form may take 88 KB, since it keeps there what it may have to put back. The time of a call is
+ * bounded by what the ranges hold: some microseconds for a call on a book, some tens for a packet of 128 messages. A call on a group first looks at all of
+ * its group: microseconds for a fresh one, milliseconds for one whose queues are full. dvs_group_run, dvs_group_steps and dvs_group_form do so once, and
+ * then take the time of their steps, which is much less.
  *
  * The host lends byte ranges, each as a pointer and a length in bytes, and gives plain numbers. A call answers any bytes, any lengths and any numbers:
  *
@@ -31,7 +32,7 @@ extern "C" {
 
 /* ---- the version: major * 10000 + minor * 100 + patch; dvs_version() gives the library's, which a host compares with this once */
 
-#define DVS_VERSION 400u
+#define DVS_VERSION 500u
 
 /* ---- limits */
 
@@ -329,6 +330,13 @@ uint32_t dvs_group_form(uint8_t *list, size_t list_size, uint8_t *books, size_t 
  * dvs_group_start. */
 uint32_t dvs_group_run(uint8_t *list, size_t list_size, uint8_t *books, size_t books_size, uint8_t *queues, size_t queues_size, uint32_t members,
                        uint32_t first_set, const uint8_t *steps, size_t steps_size, uint8_t *answers, size_t answers_size);
+
+/* A list of steps for a group that exists: every step of `steps` in turn, each with its answer in `answers`, in records as for dvs_group_run. A step does
+ * what dvs_group_step does, and its answer holds the number and the event that dvs_group_step gives. A refused step does not end the list. A group
+ * that calls lead to is checked once for the whole list, so two steps or more take less time than one by one. 4 if the records do not pair, then 4 if the
+ * ranges are not a sound group. */
+uint32_t dvs_group_steps(uint8_t *list, size_t list_size, uint8_t *books, size_t books_size, uint8_t *queues, size_t queues_size,
+                         const uint8_t *steps, size_t steps_size, uint8_t *answers, size_t answers_size);
 
 /* Whether the three ranges are a sound group, which every step takes: nothing changes. 4. */
 uint32_t dvs_group_check(const uint8_t *list, size_t list_size, const uint8_t *books, size_t books_size, const uint8_t *queues, size_t queues_size);

@@ -40,7 +40,7 @@ wanted = {
     'The list': [behind(view, 0), behind(view, identifier)],
     'The queues': [group['MADE'], 1, at(group['HEAD'], order), at(waits, order, waiting)]
     + [at(waits + 1, order, waiting, (slot['SLOT'], 'k'))],
-    'A run: steps and answers': [behind(run['STEP'], 0), behind(run['STEP'], run['FIRST']), behind(run['STEP'], run['SECOND'])]
+    'A list of steps and its answers': [behind(run['STEP'], 0), behind(run['STEP'], run['FIRST']), behind(run['STEP'], run['SECOND'])]
     + [behind(run['ANSWER'], 0), behind(run['ANSWER'], run['SHOWN'])],
     'An event': [event['KIND'], event['MEMBER'], event['VIEW'], event['VIEW'] + identifier, event['SENDER'], event['ENTRY']],
     'A delivery': [event['COUNT'], event['STOPPED']],

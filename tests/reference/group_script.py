@@ -9,11 +9,13 @@ first. Numbers are decimal.
     group N S         start: members, first set
     step KIND X Y     a step of any kind number and operands, each within its width
     list              the lent view records: identifier and set of each
-    run N S HEX       in ranges of its own, with as many view records as are lent: start, then
-                      the steps of the records HEX, at most 40 and perhaps none, each kind 1
-                      byte, first operand 4, second 8. It is answered by a record for each: the
+    run N S K HEX     in ranges of its own, with as many view records as are lent: start, then
+                      the first K steps of the records HEX, at most 40 and perhaps none, each kind
+                      1 byte, first operand 4, second 8. It is answered by a record for each: the
                       verdict's number 1 byte, then the event, its kind 1, member 1, identifier
-                      4, set 1, sender 1, entry number 8, and what it has not is 0
+                      4, set 1, sender 1, entry number 8, and what it has not is 0. Steps after
+                      the first K are a second list, for the group that the run left, answered
+                      after the word then
     put AT I S        the view record at the place AT, 0 to 32, becomes this view
     create MADE I S N create in the list by itself, with so many views made of so many members
     lookup MADE I     lookup in the list by itself among the views made: the view found, or missing
@@ -135,23 +137,31 @@ class Table:
     def listed(self):
         return [part for record in self.records[: self.room] for part in record]
 
-    def run(self, members, first_set, data):
-        """Steps that are no whole records get 4 before anything else."""
-        if len(data) % STEP != 0:
+    @staticmethod
+    def steps(group, word, data):
+        """Each step of a list in turn. Steps that are not whole records get 4 before anything else, then what is no group."""
+        if len(data) % STEP != 0 or group is None:
             return UNSOUND
-        begun = start(members, first_set, self.room)
-        if not isinstance(begun, Group):
-            return begun
         records = [data[i: i + STEP] for i in range(0, len(data), STEP)]
         steps = [[int.from_bytes(part, "big") for part in (r[:1], r[1:5], r[5:])] for r in records]
-        return ("run", b"".join(event_bytes(begun.step(*operands)) for operands in steps).hex())
+        return (word, b"".join(event_bytes(group.step(*operands)) for operands in steps).hex())
+
+    def run(self, members, first_set, first, later):
+        """A list that is refused by itself starts nothing."""
+        if len(first) % STEP != 0:
+            group, answer = None, UNSOUND
+        else:
+            begun = start(members, first_set, self.room)
+            group, answer = (begun, self.steps(begun, "run", first)) if isinstance(begun, Group) else (None, begun)
+        return answer if not later else (*answer, "then", *self.steps(group, "steps", later))
 
     def read_run(self, words):
-        hexes = words[3] if len(words) == 4 else ""
+        hexes = words[4] if len(words) == 5 else ""
         data = bytes.fromhex(hexes)
-        readable_if(3 <= len(words) <= 4 and data.hex() == hexes and len(data) <= STEP * MOST_STEPS, words)
-        readable_if(all(0 <= int(w) < 256 for w in words[1:3]), words)
-        return self.run(int(words[1]), int(words[2]), data)
+        readable_if(4 <= len(words) <= 5 and data.hex() == hexes and len(data) <= STEP * MOST_STEPS, words)
+        readable_if(all(0 <= int(w) < 256 for w in words[1:4]), words)
+        cut = STEP * int(words[3])
+        return self.run(int(words[1]), int(words[2]), data[:cut], data[cut:])
 
     def answer(self, words):
         word = words[0]

@@ -9,17 +9,17 @@ pub use Rattle.rules.proofs.Flat.RunMoves.{runs}
 pub use Rattle.rules.proofs.Demand3.{demand3}
 -- 5. The ranges that a step leaves are the group that the rules give.
 pub use Rattle.group_bytes.proofs.StepGroup.{step-means}
--- 6. Demand 3 of the three ranges, by 4 and 5.
-pub use Rattle.group_bytes.proofs.GroupRuns.{demand3-ranges}
+-- 6. Demand 3 of the three ranges, by 4 and 5; and that no steps lead to ranges that 4 refuses.
+pub use Rattle.group_bytes.proofs.GroupRuns.{demand3-ranges, never-wedged-ranges}
 -- 7. What a call of the driver takes are steps that can be given: all that it sets out to take, or none.
 pub use Rattle.group_bytes.proofs.GroupForms.{taken-given, all-or-none}
--- 8. The contracts of `dvs_group_start`, `dvs_group_step` and `dvs_group_form` say `Begins`, `Steps` and `Forms` of the ranges: the checker holds
--- their code to that.
--- 9. Demand 3 of a host's calls, by 6, 7 and 8: `demand3-calls` below.
+-- 8. The contracts of `dvs_group_start`, `dvs_group_step`, `dvs_group_steps` and `dvs_group_form` say `Begins`, `Steps`, `GoesOn` and `Forms` of the
+-- ranges: the checker holds their code to that.
+-- 9. Demand 3 and never wedged of a host's calls, by 6, 7 and 8: `demand3-calls` and `never-wedged-calls` below.
 use mathlib.Core.Path.{_≡_, refl, sym, ap, _∙_, subst}
 use mathlib.Core.Bool.{Bool, true, false}
-use mathlib.Core.List.{List, [], _∷_, _++_}
-use Prim.Native.Nat.{ℕ, _^_, _<_}
+use mathlib.Core.List.{List, [], _∷_, _++_, append-nil}
+use Prim.Native.Nat.{ℕ, zero, suc, _+_, _*_, _/_, _^_, _<_}
 use borrow.Author.Tests.{eqb-true, eqb-false}
 use lib.Dec.{eqb}
 use lib.ListN.{length}
@@ -27,71 +27,114 @@ use Rattle.views.specs.declared.refusal.Refusal.the-variants.{RecordsUnsound}
 use Rattle.views.specs.declared.refusal.Verdict.{Verdict}
 use Rattle.views.specs.declared.refusal.Verdict.the-variants.{Accepted, Refused}
 use Rattle.views.specs.Refusals.{numberOf, left}
-use Rattle.views.specs.Members.{In, top, pop}
 use Rattle.views.specs.Sets.{one}
-use Rattle.views.proofs.Members.{in-nil}
 use Rattle.views.proofs.Numbers.{never-0}
+use Rattle.wire.proofs.TripViews.{AreBytes, get-fits}
 use Rattle.rules.specs.Data.{Identifier, Step, Event as Outward, Group, Result, refused, accepted}
 use Rattle.rules.specs.Promise.{Promised}
-use Rattle.group_bytes.specs.Groups.{Ranges}
+use Rattle.group_bytes.specs.Groups.{Ranges, rangesSound}
 use Rattle.group_bytes.specs.Starts.{startRanges}
 use Rattle.group_bytes.specs.Steps.{startResult, stepRanges, stepReply, lastRanges, repliesOf}
 use Rattle.group_bytes.specs.Forming.{formVerdict, formTaken}
 use Rattle.events.specs.Shown.{shownBy, eventsShown}
 use Rattle.group_bytes.specs.Promises.{Given, AllGiven}
 use Rattle.group_bytes.proofs.RangesLaws.{same-ranges}
-use Rattle.group_bytes.proofs.GivenSteps.{replies-append, given-append}
+use Rattle.group_bytes.proofs.GivenSteps.{last-append, replies-append, none-given, given-first, one-given, given-append}
 use Rattle.group_bytes.proofs.GroupForms.{refused-none}
 use Rattle.events.proofs.ShownLaws.{shown-append}
 use Rattle.c_answers.specs.Answers.{eventSize, lengthSize}
 use Rattle.c_answers.proofs.AnswerLaws.{sized-met, sized-unmet}
-use Rattle.dvs.specs.GroupCalls.{Begins, Steps, stepping, Forms, forming}
-use Rattle.dvs.specs.Promises.{Called, none, call, form, Demand3}
+use Rattle.group_run.specs.Records.{stepSize, stepAt, stepsFrom, stepsIn, eventsIn}
+use Rattle.group_run.specs.Runs.{goOnVerdict}
+use Rattle.dvs.specs.GroupCalls.{Begins, Steps, stepping, GoesOn, Forms, forming}
+use Rattle.dvs.specs.Promises.{Called, none, call, list, form, Demand3, NeverWedged}
 use Rattle.dvs.proofs.GroupLaws.{step-left}
 use Rattle.dvs.proofs.FormLaws.{form-left}
 
--- steps from the ranges r that show the events l
-abbrev Shown : Ranges → List (Outward ℕ) → Type 0
-Shown r l = (steps : List Step) × AllGiven steps × (eventsShown (repliesOf r steps) ≡ l)
+-- steps that lead from the ranges r to f and show the events l
+abbrev Led : Ranges → List (Outward ℕ) → Ranges → Type 0
+Led r l f = (steps : List Step) × AllGiven steps × (eventsShown (repliesOf r steps) ≡ l) × (lastRanges r steps ≡ f)
 
--- ---- a call is its step, or none where the event range is not of its length
+-- ---- a call in front of others
 
-module _ (r d : Ranges) (c : Step) (e e' : List ℕ) (x : ℕ) (l : List (Outward ℕ)) (g : Given c) (s : Steps r c d e e' x) where
+module _ (r : Ranges) {d f : Ranges} {l : List (Outward ℕ)} (t : Led d l f) where
+  -- it takes these steps
+  taking : (steps : List Step) → AllGiven steps → d ≡ lastRanges r steps → Led r (eventsShown (repliesOf r steps) ++ l) f
+  taking steps g same =
+      let m = t .0 in
+      let rest : eventsShown (repliesOf (lastRanges r steps) m) ≡ l = subst (λ (z : Ranges). eventsShown (repliesOf z m) ≡ l) same (t .2) in
+      let last : lastRanges (lastRanges r steps) m ≡ f = subst (λ (z : Ranges). lastRanges z m ≡ f) same (t .3) in (
+        steps ++ m,
+        given-append steps m g (t .1),
+        ap eventsShown (replies-append r steps m) ∙ shown-append (repliesOf r steps) (repliesOf (lastRanges r steps) m)
+            ∙ ap (λ (k : List (Outward ℕ)). eventsShown (repliesOf r steps) ++ k) rest,
+        last-append r steps m ∙ last,
+      )
+
+  -- it is refused
+  leaving : d ≡ r → Led r l f
+  leaving same = subst (λ (z : Ranges). Led z l f) same t
+
+-- ---- a call of step is its step, or none if the event range is not of its length
+
+module _ (r d f : Ranges) (c : Step) (e e' : List ℕ) (x : ℕ) (l : List (Outward ℕ)) (g : Given c) (s : Steps r c d e e' x) where
   abbrev shown : List (Outward ℕ)
   shown = shownBy (stepping r c e) (stepReply r c .event)
 
-  call-shows : Shown d l → Shown r (shown ++ l)
-  unfolding left eventsShown repliesOf
-  call-shows t = go (eqb (length e) eventSize) refl
+  call-led : Led d l f → Led r (shown ++ l) f
+  unfolding left eventsShown repliesOf lastRanges
+  call-led t = go (eqb (length e) eventSize) refl
     where
-      given : (k : Step) → In k (c ∷ t .0) → Given k
-      given k top = g
-      given k (pop h) = t .1 k h
-
-      go : (b : Bool) → eqb (length e) eventSize ≡ b → Shown r (shown ++ l)
+      go : (b : Bool) → eqb (length e) eventSize ≡ b → Led r (shown ++ l) f
       go true h =
           let v : stepping r c e ≡ stepReply r c .verdict = sized-met e eventSize (stepReply r c .verdict) (eqb-true _ _ h) in
           let list : d .list ≡ stepRanges r c .list = rw v at (s .list) ∙ sym (step-left r c (λ (z : Ranges). z .list)) in
           let books : d .books ≡ stepRanges r c .books = rw v at (s .books) ∙ sym (step-left r c (λ (z : Ranges). z .books)) in
           let queues : d .queues ≡ stepRanges r c .queues = rw v at (s .queues) ∙ sym (step-left r c (λ (z : Ranges). z .queues)) in
-          let rest : eventsShown (repliesOf (stepRanges r c) (t .0)) ≡ l
-          = subst (λ (z : Ranges). eventsShown (repliesOf z (t .0)) ≡ l) (same-ranges d (stepRanges r c) list books queues) (t .2) in
-          (c ∷ t .0, given, rw (v, rest))
+          let one = taking r t (c ∷ []) (one-given c g) (same-ranges d (stepRanges r c) list books queues) in
+          let events : shownBy (stepReply r c .verdict) (stepReply r c .event) ++ [] ≡ shown
+          = append-nil _ ∙ ap (λ (w : Verdict). shownBy w (stepReply r c .event)) (sym v) in
+          subst (λ (k : List (Outward ℕ)). Led r (k ++ l) f) events one
       go false h =
           let v : stepping r c e ≡ Refused RecordsUnsound = sized-unmet e eventSize (stepReply r c .verdict) (eqb-false _ _ h) in
-          let same : d ≡ r = same-ranges d r (rw v at (s .list)) (rw v at (s .books)) (rw v at (s .queues)) in
-          let rest : eventsShown (repliesOf r (t .0)) ≡ l = subst (λ (z : Ranges). eventsShown (repliesOf z (t .0)) ≡ l) same (t .2) in
-          (t .0, t .1, rw v rest)
+          rw v (leaving r t (same-ranges d r (rw v at (s .list)) (rw v at (s .books)) (rw v at (s .queues))))
 
--- a call of the driver is its steps, or none where it is refused or the count is not of its length
+-- ---- a call of a list is its steps, or none if it is refused
 
-module _ (r d : Ranges) (g : Identifier) (c c' : List ℕ) (x : ℕ) (l : List (Outward ℕ)) (w : g < 256 ^ 4) (s : Forms r g d c c' x) where
+-- bytes hold operands within their widths
+listed-given : (b : List ℕ) → AreBytes b → (n i : ℕ) → AllGiven (stepsFrom b n i)
+unfolding stepsFrom stepAt
+listed-given b w zero i = none-given
+listed-given b w (suc n) i = given-first (stepAt b (stepSize * i)) (stepsFrom b n (i + 1))
+    (record { first = get-fits b (stepSize * i + 1) 4 w; second = get-fits b (stepSize * i + 5) 8 w }) (listed-given b w n (i + 1))
+
+module _ (r d f : Ranges) (b a a' : List ℕ) (x : ℕ) (l : List (Outward ℕ)) (w : AreBytes b) (s : GoesOn r b a d a' x) where
+  abbrev listed : List (Outward ℕ)
+  listed = left (goOnVerdict r b a) (eventsIn a') []
+
+  list-led : Led d l f → Led r (listed ++ l) f
+  unfolding left stepsIn
+  list-led t = go (goOnVerdict r b a) refl
+    where
+      steps : List Step
+      steps = stepsIn b
+
+      go : (v : Verdict) → goOnVerdict r b a ≡ v → Led r (listed ++ l) f
+      go Accepted v =
+          let same : d ≡ lastRanges r steps = same-ranges d (lastRanges r steps) (rw v at (s .went .list)) (rw v at (s .went .books)) (rw v at (s .went .queues)) in
+          let all = taking r t steps (listed-given b w (length b / stepSize) 0) same in
+          rw v (subst (λ (k : List (Outward ℕ)). Led r (k ++ l) f) (sym (s .went .shown v)) all)
+      go (Refused q) v = rw v (leaving r t (same-ranges d r (rw v at (s .went .list)) (rw v at (s .went .books)) (rw v at (s .went .queues))))
+
+-- ---- a call of form is its steps, or none if it is refused or the count range is not of its length
+
+module _ (r d f : Ranges) (g : Identifier) (c c' : List ℕ) (x : ℕ) (l : List (Outward ℕ)) (w : g < 256 ^ 4) (s : Forms r g d c c' x) where
   abbrev formed : List (Outward ℕ)
   formed = left (forming r g c) (eventsShown (repliesOf r (formTaken r g))) []
 
-  form-shows : Shown d l → Shown r (formed ++ l)
+  form-led : Led d l f → Led r (formed ++ l) f
   unfolding left eventsShown repliesOf
-  form-shows t = go (eqb (length c) lengthSize) refl
+  form-led t = go (eqb (length c) lengthSize) refl
     where
       steps : List Step
       steps = formTaken r g
@@ -99,31 +142,28 @@ module _ (r d : Ranges) (g : Identifier) (c c' : List ℕ) (x : ℕ) (l : List (
       -- a refused call has no step to show
       shown-left : (v : Verdict) → formVerdict r g ≡ v → left v (eventsShown (repliesOf r steps)) [] ≡ eventsShown (repliesOf r steps)
       shown-left Accepted h = refl
-      shown-left (Refused f) h = ap (λ (k : List Step). eventsShown (repliesOf r k)) (sym (refused-none r g f h))
+      shown-left (Refused q) h = ap (λ (k : List Step). eventsShown (repliesOf r k)) (sym (refused-none r g q h))
 
-      go : (b : Bool) → eqb (length c) lengthSize ≡ b → Shown r (formed ++ l)
+      go : (b : Bool) → eqb (length c) lengthSize ≡ b → Led r (formed ++ l) f
       go true h =
           let v : forming r g c ≡ formVerdict r g = sized-met c lengthSize (formVerdict r g) (eqb-true _ _ h) in
           let list : d .list ≡ lastRanges r steps .list = rw v at (s .list) ∙ sym (form-left r g (λ (z : Ranges). z .list)) in
           let books : d .books ≡ lastRanges r steps .books = rw v at (s .books) ∙ sym (form-left r g (λ (z : Ranges). z .books)) in
           let queues : d .queues ≡ lastRanges r steps .queues = rw v at (s .queues) ∙ sym (form-left r g (λ (z : Ranges). z .queues)) in
-          let rest : eventsShown (repliesOf (lastRanges r steps) (t .0)) ≡ l
-          = subst (λ (z : Ranges). eventsShown (repliesOf z (t .0)) ≡ l) (same-ranges d (lastRanges r steps) list books queues) (t .2) in
-          let all : eventsShown (repliesOf r (steps ++ t .0)) ≡ eventsShown (repliesOf r steps) ++ l
-          = ap eventsShown (replies-append r steps (t .0)) ∙ shown-append (repliesOf r steps) (repliesOf (lastRanges r steps) (t .0))
-          ∙ ap (λ (k : List (Outward ℕ)). eventsShown (repliesOf r steps) ++ k) rest in
-          (steps ++ t .0, given-append steps (t .0) (taken-given r g w) (t .1), rw (v, shown-left (formVerdict r g) refl) all)
+          let all = taking r t steps (taken-given r g w) (same-ranges d (lastRanges r steps) list books queues) in
+          rw (v, shown-left (formVerdict r g) refl) all
       go false h =
           let v : forming r g c ≡ Refused RecordsUnsound = sized-unmet c lengthSize (formVerdict r g) (eqb-false _ _ h) in
-          let same : d ≡ r = same-ranges d r (rw v at (s .list)) (rw v at (s .books)) (rw v at (s .queues)) in
-          let rest : eventsShown (repliesOf r (t .0)) ≡ l = subst (λ (z : Ranges). eventsShown (repliesOf z (t .0)) ≡ l) same (t .2) in
-          (t .0, t .1, rw v rest)
+          rw v (leaving r t (same-ranges d r (rw v at (s .list)) (rw v at (s .books)) (rw v at (s .queues))))
 
-called-shows : {r f : Ranges} {l : List (Outward ℕ)} → Called r l f → Shown r l
-unfolding eventsShown repliesOf
-called-shows none = ([], λ c h. absurd (in-nil h), refl)
-called-shows (call {r} {d} {f} {l} c e e' x g s k) = call-shows r d c e e' x l g s (called-shows k)
-called-shows (form {r} {d} {f} {l} g c c' x w s k) = form-shows r d g c c' x l w s (called-shows k)
+-- ---- any calls
+
+called-led : {r f : Ranges} {l : List (Outward ℕ)} → Called r l f → Led r l f
+unfolding eventsShown repliesOf lastRanges
+called-led none = ([], none-given, refl, refl)
+called-led (call {r} {d} {f} {l} c e e' x g s k) = call-led r d f c e e' x l g s (called-led k)
+called-led (list {r} {d} {f} {l} b a a' x w s k) = list-led r d f b a a' x l w s (called-led k)
+called-led (form {r} {d} {f} {l} g c c' x w s k) = form-led r d f g c c' x l w s (called-led k)
 
 -- ---- a start that gave 0 was accepted
 
@@ -135,10 +175,17 @@ begun n S r d b = go (startResult n S r) refl
     go (refused q) h = absurd (eqb-false (numberOf q) 0 (never-0 q) (sym (rw h at (b .number))))
     go (accepted s) h = (s, h, same-ranges d (startRanges n S r) (rw h at (b .list)) (rw h at (b .books)) (rw h at (b .queues)))
 
+-- what the calls show and lead to is what steps from the start do
+from-start : (n S : ℕ) (r d f : Ranges) (l : List (Outward ℕ)) → Begins r n S d 0 → Called d l f
+    → (s : Group) × (startResult n S r ≡ accepted s) × Led (startRanges n S r) l f
+from-start n S r d f l b k = let t = begun n S r d b in (t .0, t .1, leaving (startRanges n S r) (called-led k) (t .2))
+
 pub demand3-calls : Demand3
 demand3-calls n S r d f l b k =
-    let t = begun n S r d b in
-    let u = called-shows k in
-    let shown : eventsShown (repliesOf (startRanges n S r) (u .0)) ≡ l
-    = subst (λ (z : Ranges). eventsShown (repliesOf z (u .0)) ≡ l) (t .2) (u .2) in
-    subst (λ (m : List (Outward ℕ)). Promised one S m) shown (demand3-ranges n S r (t .0) (t .1) (u .0) (u .1))
+    let (s, e, (steps, given, shown, _)) = from-start n S r d f l b k in
+    subst (λ (m : List (Outward ℕ)). Promised one S m) shown (demand3-ranges n S r s e steps given)
+
+pub never-wedged-calls : NeverWedged
+never-wedged-calls n S r d f l b k =
+    let (s, e, (steps, given, _, last)) = from-start n S r d f l b k in
+    subst (λ (z : Ranges). rangesSound z ≡ true) last (never-wedged-ranges n S r s e steps given)

@@ -17,10 +17,10 @@ use Rattle.rules.specs.Group.{start}
 use Rattle.rules.proofs.TestLaws.{within-says}
 use Rattle.group_bytes.specs.Groups.{Ranges}
 use Rattle.group_bytes.specs.Steps.{startResult}
-use Rattle.group_run.specs.Runs.{paired, runVerdict, Ran}
+use Rattle.group_run.specs.Runs.{paired, runVerdict, Ran, WentOn}
 use Rattle.c_answers.specs.Answers.{narrowed}
 use Rattle.c_answers.proofs.StandIns.{RefusedAlike, need-alike, unmet-alike, by-width, within-large, fits-none, fits-large}
-use Rattle.dvs.specs.GroupCalls.{Runs}
+use Rattle.dvs.specs.GroupCalls.{Runs, GoesOn}
 
 -- the refusal of a run whose start is refused
 stops : (t : Bool) (x : Refusal) → (y : Refusal) × (require t RecordsUnsound (Refused x) ≡ Refused y)
@@ -89,4 +89,12 @@ runs-call n S r steps a d a' v x h e =
         promise = λ k. h .promise (h .verdict ∙ k);
         sound = λ k. h .sound (h .verdict ∙ k);
       };
+    }
+
+-- the same of a list of steps
+pub goes-call : (r : Ranges) (steps a : List ℕ) (d : Ranges) (a' : List ℕ) (v : Verdict) (x : ℕ) → WentOn r steps a d a' v → x ≡ codeOf v → GoesOn r steps a d a' x
+goes-call r steps a d a' v x h e =
+    record {
+      number = rw (h .verdict) at e;
+      went = record { verdict = refl; list = h .list; books = h .books; queues = h .queues; answers = h .answers; shown = λ k. h .shown (h .verdict ∙ k) };
     }

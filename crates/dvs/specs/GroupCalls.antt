@@ -15,7 +15,7 @@ use Rattle.group_bytes.specs.Starts.{startRanges}
 use Rattle.group_bytes.specs.Steps.{startResult, stepRanges, stepReply, lastRanges}
 use Rattle.group_bytes.specs.Forming.{formVerdict, formTaken}
 use Rattle.c_answers.specs.Answers.{eventSize, eventBytes, lengthSize, lengthBytes, sized}
-use Rattle.group_run.specs.Runs.{runVerdict, Ran}
+use Rattle.group_run.specs.Runs.{runVerdict, Ran, goOnVerdict, WentOn}
 
 -- a start with n members and the first set S
 pub record Begins (r : Ranges) (n S : ℕ) (d : Ranges) (x : ℕ) : Type 0 where
@@ -39,6 +39,11 @@ pub record Steps (r : Ranges) (c : Step) (d : Ranges) (e e' : List ℕ) (x : ℕ
 pub record Runs (n S : ℕ) (r : Ranges) (steps a : List ℕ) (d : Ranges) (a' : List ℕ) (x : ℕ) : Type 0 where
   pub number : x ≡ codeOf (runVerdict n S r steps a)
   pub ran : Ran n S r steps a d a' (runVerdict n S r steps a)
+
+-- a list of steps applied to the group, one after another: it makes the answers a into a'
+pub record GoesOn (r : Ranges) (steps a : List ℕ) (d : Ranges) (a' : List ℕ) (x : ℕ) : Type 0 where
+  pub number : x ≡ codeOf (goOnVerdict r steps a)
+  pub went : WentOn r steps a d a' (goOnVerdict r steps a)
 
 -- 4 for a count range of another length, then the driver's own verdict
 abbrev pub forming : Ranges → Identifier → List ℕ → Verdict

@@ -1,7 +1,8 @@
--- Demand 3 of a host's calls: a start of a group that gave 0, then calls of step and of form in any order, each on the
--- ranges left before.
+-- Demand 3 and never wedged of a host's calls: a start of a group that gave 0, then calls of step, of a list of steps
+-- and of form in any order, each on the ranges left before.
 -- Demand 2 of its messages: what is read is written again, and what is written is read again.
 use mathlib.Core.Path.{_≡_}
+use mathlib.Core.Bool.{true}
 use mathlib.Core.List.{List, [], _++_}
 use Prim.Native.Nat.{ℕ, _^_, _<_, _≤_}
 use lib.ListN.{length, take}
@@ -14,29 +15,41 @@ use Rattle.wire.specs.Records.{recordSize, recordBytes, frameOf}
 use Rattle.wire.specs.Promises.{canonical}
 use Rattle.rules.specs.Data.{Identifier, Step, Event as Outward}
 use Rattle.rules.specs.Promise.{Promised}
-use Rattle.group_bytes.specs.Groups.{Ranges}
+use Rattle.group_bytes.specs.Groups.{Ranges, rangesSound}
 use Rattle.group_bytes.specs.Steps.{stepReply, repliesOf}
 use Rattle.group_bytes.specs.Forming.{formTaken}
 use Rattle.events.specs.Shown.{shownBy, eventsShown}
 use Rattle.group_bytes.specs.Promises.{Given}
 use Rattle.c_answers.specs.Answers.{lengthSize, lengthBytes}
+use Rattle.group_run.specs.Records.{eventsIn}
+use Rattle.group_run.specs.Runs.{goOnVerdict}
 use Rattle.dvs.specs.MessageCalls.{Reads, ReadsFront, Writes}
-use Rattle.dvs.specs.GroupCalls.{Begins, Steps, stepping, Forms, forming}
+use Rattle.dvs.specs.GroupCalls.{Begins, Steps, stepping, GoesOn, Forms, forming}
 
--- from the ranges r to f by calls of dvs_group_step and dvs_group_form, each as its contract has it, and the events
--- that they show in order: those of a form are the events of its steps
+-- from the ranges r to f by calls of dvs_group_step, dvs_group_steps and dvs_group_form, each as its contract has it,
+-- and the events that they show in order: those of a list are in its answers, those of a form are the events of its
+-- steps
 pub data Called : Ranges → List (Outward ℕ) → Ranges → Type 0 where
   none : {r : Ranges} → Called r [] r
   call : {r d f : Ranges} {l : List (Outward ℕ)} (c : Step) (e e' : List ℕ) (x : ℕ)
       → Given c → Steps r c d e e' x → Called d l f
       → Called r (shownBy (stepping r c e) (stepReply r c .event) ++ l) f
+  list : {r d f : Ranges} {l : List (Outward ℕ)} (steps a a' : List ℕ) (x : ℕ)
+      → AreBytes steps → GoesOn r steps a d a' x → Called d l f
+      → Called r (left (goOnVerdict r steps a) (eventsIn a') [] ++ l) f
   form : {r d f : Ranges} {l : List (Outward ℕ)} (g : Identifier) (c c' : List ℕ) (x : ℕ)
       → g < 256 ^ 4 → Forms r g d c c' x → Called d l f
       → Called r (left (forming r g c) (eventsShown (repliesOf r (formTaken r g))) [] ++ l) f
 
--- any operands that can be given, with event and count ranges of any bytes and lengths, refused calls among them
+-- any operands that can be given, with event, step, answer and count ranges of any bytes and lengths, refused calls
+-- among them
 abbrev pub Demand3 : Type 0
 Demand3 = (n S : ℕ) (r d f : Ranges) (l : List (Outward ℕ)) → Begins r n S d 0 → Called d l f → Promised one S l
+
+-- such calls lead to no ranges that 4 refuses
+abbrev pub NeverWedged : Type 0
+NeverWedged =
+    (n S : ℕ) (r d f : Ranges) (l : List (Outward ℕ)) → Begins r n S d 0 → Called d l f → rangesSound f ≡ true
 
 -- s are bytes over the line, m a message's record, o a buffer and l the bytes of a length, each before a call, and with
 -- a ' after it

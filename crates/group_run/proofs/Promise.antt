@@ -1,5 +1,5 @@
--- A run's verdict by its tests in order, and the promises of an accepted run.
-use mathlib.Core.Path.{_≡_, sym, _∙_}
+-- The verdict of a run and of a list of steps by its tests in order, and the promises of an accepted run.
+use mathlib.Core.Path.{_≡_, sym, ap, _∙_}
 use mathlib.Core.Bool.{Bool, true, false}
 use mathlib.Core.List.{List}
 use Prim.Native.Nat.{ℕ, _*_, _/_, _%_}
@@ -18,14 +18,14 @@ use Rattle.rules.proofs.TestLaws.{conditions-say}
 use Rattle.rules.proofs.Truth.{both-unit}
 use Rattle.events.specs.Replies.{verdictOf}
 use Rattle.events.proofs.ReplyLaws.{accepts}
-use Rattle.group_bytes.specs.Groups.{Ranges}
+use Rattle.group_bytes.specs.Groups.{Ranges, rangesSound}
 use Rattle.group_bytes.specs.Starts.{startRanges}
 use Rattle.group_bytes.specs.Steps.{startResult, lastRanges, repliesOf}
 use Rattle.group_bytes.proofs.RangesLaws.{same-ranges}
 use Rattle.group_bytes.proofs.GroupRuns.{demand3-ranges, never-wedged-ranges}
 use Rattle.group.specs.StartCalls.{Began}
-use Rattle.group_run.specs.Records.{stepSize, stepsIn, answerSize}
-use Rattle.group_run.specs.Runs.{paired, runVerdict, Ran}
+use Rattle.group_run.specs.Records.{stepSize, stepsIn, answerSize, eventsIn}
+use Rattle.group_run.specs.Runs.{paired, runVerdict, Ran, goOnVerdict, WentOn}
 use Rattle.group_run.specs.Parts.{Turns}
 use Rattle.group_run.proofs.Shown.{events-back}
 
@@ -89,3 +89,30 @@ module _ (n S : ℕ) (r : Ranges) (steps a : List ℕ) where
           sound = λ _. rw (same-ranges d (lastRanges (startRanges n S r) (stepsIn steps)) (t .list) (t .books) (t .queues))
               (never-wedged-ranges n S r (s .0) (s .1) (stepsIn steps) (t .given));
         }
+
+-- ---- steps applied to a group that exists
+
+module _ (r : Ranges) (steps a : List ℕ) where
+  pub refused-on : goOnVerdict r steps a ≡ Refused RecordsUnsound → WentOn r steps a r a (Refused RecordsUnsound)
+  unfolding left
+  refused-on e = record { verdict = sym e; list = rw e; books = rw e; queues = rw e; answers = rw e; shown = λ k. absurd (never RecordsUnsound k) }
+
+  pub unpaired-on : paired (length steps) (length a) ≡ false → WentOn r steps a r a (Refused RecordsUnsound)
+  unfolding goOnVerdict require
+  unpaired-on e = refused-on (rw e)
+
+  module _ (pair : paired (length steps) (length a) ≡ true) where
+    pub unsound-on : rangesSound r ≡ false → WentOn r steps a r a (Refused RecordsUnsound)
+    unfolding goOnVerdict require
+    unsound-on e = refused-on (rw (pair, e))
+
+    pub all-on : rangesSound r ≡ true → (d : Ranges) (e : List ℕ) → Turns r steps d e → WentOn r steps a d e Accepted
+    unfolding goOnVerdict require left
+    all-on h d e t = record {
+      verdict = rw (pair, h);
+      list = rw (pair, h) (t .list);
+      books = rw (pair, h) (t .books);
+      queues = rw (pair, h) (t .queues);
+      answers = rw (pair, h) (t .answers);
+      shown = λ _. ap eventsIn (t .answers) ∙ events-back (repliesOf r (stepsIn steps)) (t .fits);
+    }

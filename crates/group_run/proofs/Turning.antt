@@ -1,5 +1,6 @@
--- The steps of a run, one turn after another: what is done so far, and what it leaves to do.
+-- The steps of a list, one turn after another: what is done so far, and what it leaves to do.
 use mathlib.Core.Path.{_≡_, sym, ap, _∙_}
+use mathlib.Core.Bool.{Bool, true}
 use mathlib.Core.List.{List, _∷_, _++_, append-assoc, append-nil}
 use Prim.Native.Nat.{ℕ, suc, _+_, _-_, _*_, _/_, _^_, _<_, _≤_}
 use native.Mathlib.Omega.{arith}
@@ -13,7 +14,10 @@ use Rattle.group_bytes.specs.Groups.{Ranges}
 use Rattle.group_bytes.specs.Steps.{stepRanges, stepReply, lastRanges, repliesOf}
 use Rattle.group_bytes.specs.Promises.{Given, AllGiven}
 use Rattle.group_bytes.proofs.RangesLaws.{same-ranges}
+use Rattle.group_bytes.proofs.GivenSteps.{given-first}
 use Rattle.group.specs.StepCalls.{asked, Went}
+use Rattle.group.specs.StaysSoundParts.{StaysSound}
+use Rattle.group.proofs.StaysSoundLaws.{stays-after}
 use Rattle.group_run.specs.Records.{stepSize, stepAt, stepsFrom, stepsIn, answerSize, answerBytes, answersBytes}
 use Rattle.group_run.specs.Parts.{answered, Fits, AllFit, Wrote, Asked, Turned, Turns}
 use Rattle.group_run.proofs.Answers.{length-answer, length-answered}
@@ -66,33 +70,30 @@ module _ (d e : Ranges) (c : Step) (l : List Step) (same : e ≡ stepRanges d c)
       in
       rw (t, same) (sym (append-assoc p x (answersBytes (repliesOf (stepRanges d c) l))))
 
-next-given : (c : Step) (l : List Step) → Given c → AllGiven l → AllGiven (c ∷ l)
-next-given c l g k d top = g
-next-given c l g k d (pop i) = k d i
-
 -- ---- all of them
 
--- the steps s put to the ranges r: i of them are done, which left the ranges d and the answers a
-pub record Under (r : Ranges) (s : List ℕ) (d : Ranges) (a : List ℕ) (i : ℕ) : Type 0 where
+-- the steps s applied to the ranges r: i of them are done, which left the ranges d and the answers a; what is known to stay sound does so
+pub record Under (known : Bool) (r : Ranges) (s : List ℕ) (d : Ranges) (a : List ℕ) (i : ℕ) : Type 0 where
   pub within : i ≤ length s / stepSize
   pub room : length a ≡ answerSize * (length s / stepSize)
   pub ranges : lastRanges r (stepsIn s) ≡ lastRanges d (stepsFrom s (length s / stepSize - i) i)
   pub answers : answersBytes (repliesOf r (stepsIn s)) ≡ take (answerSize * i) a ++ answersBytes (repliesOf d (stepsFrom s (length s / stepSize - i) i))
   pub given : AllGiven (stepsFrom s (length s / stepSize - i) i) → AllGiven (stepsIn s)
   pub fits : AllFit (repliesOf d (stepsFrom s (length s / stepSize - i) i)) → AllFit (repliesOf r (stepsIn s))
+  pub stays : known ≡ true → StaysSound d
 
-module _ (r : Ranges) (s : List ℕ) where
+module _ (known : Bool) (r : Ranges) (s : List ℕ) where
   abbrev count : ℕ
   count = length s / stepSize
 
-  pub under-begins : (a : List ℕ) → length a ≡ answerSize * count → Under r s r a 0
+  pub under-begins : (a : List ℕ) → (known ≡ true → StaysSound r) → length a ≡ answerSize * count → Under known r s r a 0
   unfolding stepsIn
-  under-begins a n =
+  under-begins a h n =
       let z : count - 0 ≡ count = omega arith in
-      record { within = omega arith; room = n; ranges = rw z; answers = rw z; given = rw z (λ k. k); fits = rw z (λ k. k) }
+      record { within = omega arith; room = n; ranges = rw z; answers = rw z; given = rw z (λ k. k); fits = rw z (λ k. k); stays = h }
 
-  module _ (d : Ranges) (a : List ℕ) (i : ℕ) (u : Under r s d a i) where
-    pub under-turns : (e : Ranges) (b : List ℕ) → i < count → Turned d (stepAt s (stepSize * i)) a (answerSize * i) e b → Under r s e b (i + 1)
+  module _ (d : Ranges) (a : List ℕ) (i : ℕ) (u : Under known r s d a i) where
+    pub under-turns : (e : Ranges) (b : List ℕ) → i < count → Turned d (stepAt s (stepSize * i)) a (answerSize * i) e b → Under known r s e b (i + 1)
     unfolding stepsFrom
     under-turns e b h t =
         let c = stepAt s (stepSize * i) in
@@ -105,8 +106,9 @@ module _ (r : Ranges) (s : List ℕ) where
           room = ap length (t .answers) ∙ length-answered a (answerSize * i) (stepReply d c) fit ∙ u .room;
           ranges = rw k at (u .ranges) ∙ next-ranges d e c l same;
           answers = rw k at (u .answers) ∙ next-answers d e c l same a b i fit (t .answers);
-          given = λ g. (rw k at (u .given)) (next-given c l (t .given) g);
+          given = λ g. (rw k at (u .given)) (given-first c l (t .given) g);
           fits = λ f. (rw k at (u .fits)) (next-fits d e c l same (t .fits) f);
+          stays = λ k. stays-after d c e same (t .given) (u .stays k);
         }
 
     pub under-ends : count ≤ i → Turns r s d a

@@ -1,5 +1,5 @@
--- What a run gives and leaves: every lent byte of it, and what is promised of the answers that the host sees and of the
--- ranges.
+-- What a list of steps gives and leaves, after a start or applied to a group that exists: every lent byte. Of a run
+-- also what is promised of the answers that the host sees and of the ranges.
 use mathlib.Core.Path.{_≡_}
 use mathlib.Core.Bool.{Bool, true}
 use mathlib.Core.List.{List, [], _∷_}
@@ -14,6 +14,7 @@ use Rattle.views.specs.Sets.{one}
 use Rattle.rules.specs.Sound.{conditions}
 use Rattle.rules.specs.Promise.{Promised}
 use Rattle.events.specs.Replies.{verdictOf}
+use Rattle.events.specs.Shown.{eventsShown}
 use Rattle.group_bytes.specs.Groups.{Ranges, rangesSound}
 use Rattle.group_bytes.specs.Starts.{startRanges}
 use Rattle.group_bytes.specs.Steps.{startResult, lastRanges, repliesOf}
@@ -47,3 +48,23 @@ pub record Ran (n S : ℕ) (r : Ranges) (steps a : List ℕ) (d : Ranges) (e : L
   pub promise : v ≡ Accepted → Promised one S (eventsIn e)
   -- never wedged: the ranges are a sound group, which 4 does not refuse
   pub sound : v ≡ Accepted → rangesSound d ≡ true
+
+-- ---- steps applied to a group that exists
+
+-- 4 for records that do not pair, then 4 for unsound ranges; what a step is refused by is in its answer
+unfoldable pub goOnVerdict : Ranges → List ℕ → List ℕ → Verdict
+goOnVerdict r steps answers =
+    require (paired (length steps) (length answers)) RecordsUnsound (require (rangesSound r) RecordsUnsound Accepted)
+
+-- these steps, applied to the ranges r one after another, gave the verdict v; they left the ranges d, and made the
+-- answers a into e
+pub record WentOn (r : Ranges) (steps a : List ℕ) (d : Ranges) (e : List ℕ) (v : Verdict) : Type 0 where
+  pub verdict : v ≡ goOnVerdict r steps a
+  -- the ranges that the steps lead to, one by one; a refused call changes nothing
+  pub list : d .list ≡ left (goOnVerdict r steps a) (lastRanges r (stepsIn steps)) r .list
+  pub books : d .books ≡ left (goOnVerdict r steps a) (lastRanges r (stepsIn steps)) r .books
+  pub queues : d .queues ≡ left (goOnVerdict r steps a) (lastRanges r (stepsIn steps)) r .queues
+  -- each step's reply, as the step by itself would get it, in its record
+  pub answers : e ≡ left (goOnVerdict r steps a) (answersBytes (repliesOf r (stepsIn steps))) a
+  -- the events that the answers show are those of the replies
+  pub shown : v ≡ Accepted → eventsIn e ≡ eventsShown (repliesOf r (stepsIn steps))

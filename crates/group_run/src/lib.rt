@@ -1,5 +1,5 @@
-// A run: a start, and a list of steps put to the group one after another, with an answer to each. What is promised of
-// the answers, demand 3, is part of its contract.
+// Lists of steps, applied to a group one after another, with an answer to each: after a start, as a run whose contract
+// has demand 3 of the answers, and to a group that exists.
 mod turns;
 
 use views::refusal::Refusal;
@@ -7,7 +7,7 @@ use views::refusal::Verdict;
 use views::sizes;
 ghost use mathlib.Core.Path.{_≡_};
 ghost use Rattle.group_bytes.specs.Groups.{ranges};
-ghost use Rattle.group_run.specs.Runs.{paired, Ran};
+ghost use Rattle.group_run.specs.Runs.{paired, Ran, WentOn};
 
 // Where the operands stand in a step's record, behind its kind: the first as an identifier, the second as an entry
 // number.
@@ -58,8 +58,32 @@ pub fn run(
     match v {
         Verdict::Refused(r) => Verdict::Refused(r),
         Verdict::Accepted => {
-            crate::turns::each(list, all, queues, steps, answers);
+            crate::turns::each(list, all, queues, true, steps, answers);
             Verdict::Accepted
         }
     }
+}
+
+// A group that exists takes every step in turn; each has its answer. 4 is checked once for the whole list, unless some
+// client view is above its carrier view, which no steps lead to: it is then checked in every step.
+pub fn go_on(
+    list: &mut [u8],
+    books: &mut [u8],
+    queues: &mut [u8],
+    steps: &[u8],
+    answers: &mut [u8],
+) -> Verdict
+    ensures { λ r. ⌜ WentOn (ranges (now (list .entry)) (now (books .entry)) (now (queues .entry)))
+        (now (steps .entry)) (now (answers .entry))
+        (ranges (now (list .exit)) (now (books .exit)) (now (queues .exit))) (now (answers .exit)) r ⌝ }
+{
+    if !pair(steps.len(), answers.len()) {
+        return Verdict::Refused(Refusal::RecordsUnsound);
+    }
+    if !group_sound::sound(list, books, queues) {
+        return Verdict::Refused(Refusal::RecordsUnsound);
+    }
+    let known = group::stays_sound::none_above(books);
+    crate::turns::each(list, books, queues, known, steps, answers);
+    Verdict::Accepted
 }

@@ -1,4 +1,5 @@
-// A run: a start and steps in records, with an answer to each. It has ranges of its own, the list as bytes.
+// A run: a start and steps in records, with an answer to each. The steps may be two lists, the second for the group
+// that the first one left. A run has ranges of its own, the list of views as bytes.
 use crate::QUEUES;
 use crate::listed::LONGEST;
 use views::refusal::Verdict;
@@ -8,7 +9,7 @@ ghost use mathlib.Core.Path.{_≡_};
 ghost use Rattle.io.specs.Counts.{Counts};
 ghost use Rattle.group_bytes.specs.Places.{queuesSize};
 
-// How many steps a run can have.
+// How many steps a line can have.
 const STEPS: usize = 40;
 
 const LIST: usize = group_bytes::VIEW * LONGEST;
@@ -53,15 +54,24 @@ fn table(
     steps(line, list, books, queues, room);
 }
 
-// The steps' records are the fourth word, in hexadecimal.
+// The steps' records are the fifth word, in hexadecimal.
 fn steps(line: &[u8], list: &mut [u8], books: &mut [u8], queues: &mut [u8], room: usize)
     requires { ⌜ room ≤ 33 ⌝ }
 {
     let mut steps = [0u8; group_run::STEP * STEPS];
-    let n = test_script::parse::unhex(line, test_script::parse::word(line, 3), &mut steps);
+    let n = test_script::parse::unhex(line, test_script::parse::word(line, 4), &mut steps);
     let e = list_lent(list, room);
     let f = queues_lent(queues, room);
-    answers(line, &mut list[..e], books, &mut queues[..f], &steps[..n]);
+    lists(line, &mut list[..e], books, &mut queues[..f], &steps[..n]);
+}
+
+// So many steps as the fourth word says are those of the run; the others, if there are any, are the second list.
+fn lists(line: &[u8], list: &mut [u8], books: &mut [u8], queues: &mut [u8], steps: &[u8]) {
+    let k = test_script::operand::byte(line, 3);
+    let at = test_script::parse::front(k as u64 * group_run::STEP as u64, steps);
+    begin(line, list, books, queues, &steps[..at]);
+    then(list, books, queues, &steps[at..]);
+    test_script::show::end();
 }
 
 // Room for an answer to each whole record.
@@ -72,13 +82,13 @@ fn answers_for(steps: &[u8], b: &[u8]) -> usize
     test_script::parse::front(n as u64 * group_run::ANSWER as u64, b)
 }
 
-fn answers(line: &[u8], list: &mut [u8], books: &mut [u8], queues: &mut [u8], steps: &[u8]) {
+fn begin(line: &[u8], list: &mut [u8], books: &mut [u8], queues: &mut [u8], steps: &[u8]) {
     let mut answers = [0u8; group_run::ANSWER * STEPS];
     let m = answers_for(steps, &answers);
-    put(line, list, books, queues, steps, &mut answers[..m]);
+    run_steps(line, list, books, queues, steps, &mut answers[..m]);
 }
 
-fn put(
+fn run_steps(
     line: &[u8],
     list: &mut [u8],
     books: &mut [u8],
@@ -89,17 +99,38 @@ fn put(
     let members = test_script::operand::byte(line, 1);
     let first = test_script::operand::byte(line, 2);
     let v = group_run::run(list, books, queues, members, first, steps, answers);
-    show(v, answers);
+    show(v, b"run ", answers);
 }
 
-// The answers' records, in hexadecimal.
-fn show(v: Verdict, answers: &[u8]) {
+// The second list.
+fn then(list: &mut [u8], books: &mut [u8], queues: &mut [u8], steps: &[u8]) {
+    if steps.len() == 0 {
+        return;
+    }
+    io::write_all(1, b" then ");
+    let mut answers = [0u8; group_run::ANSWER * STEPS];
+    let m = answers_for(steps, &answers);
+    more_steps(list, books, queues, steps, &mut answers[..m]);
+}
+
+fn more_steps(
+    list: &mut [u8],
+    books: &mut [u8],
+    queues: &mut [u8],
+    steps: &[u8],
+    answers: &mut [u8],
+) {
+    let v = group_run::go_on(list, books, queues, steps, answers);
+    show(v, b"steps ", answers);
+}
+
+// A word and the answers' records in hexadecimal, or the refusal.
+fn show(v: Verdict, word: &[u8], answers: &[u8]) {
     match v {
         Verdict::Refused(x) => test_script::show::refused(x),
         Verdict::Accepted => {
-            io::write_all(1, b"run ");
+            io::write_all(1, word);
             test_script::show::hex(answers);
         }
     }
-    test_script::show::end();
 }

@@ -2,6 +2,7 @@
 use mathlib.Core.Path.{sym, _∙_}
 use borrow.Author.Tests.{not-true, not-false}
 use Rattle.group_bytes.specs.Groups.{ranges}
+use Rattle.group.proofs.StaysSoundLaws.{stays-begun}
 use Rattle.group_run.proofs.Promise.{paired-long, unpaired-ran, unstarted-ran, all-ran}
 use borrow.Author.Needs.{needs}
 use Rattle.group_run.proofs.run.Statement.{statement}
@@ -27,7 +28,7 @@ enum-told c = search needs
 each-requires : tie.Need-each-requires
 each-requires c κs =
     let early = c .before .before .before .before .before .before .before .before .before .before .before .before .before .before .before .before in
-    paired-long _ _ (sym (early .before .pair .ensures) ∙ not-false _ (early .if1 .left))
+    ((λ _. stays-begun _ _ _ _ _ (c .before .before .before .before .before .before .before .before .before .before .before .before .start .ensures) (c .before .before .before .before .enum-told .given .1)), paired-long _ _ (sym (early .before .pair .ensures) ∙ not-false _ (early .if1 .left)))
 
 same-length : tie.Need-same-length
 same-length c = search needs

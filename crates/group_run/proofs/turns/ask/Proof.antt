@@ -22,8 +22,8 @@ add-get-number-2 c = search needs
 get-number-requires-2 : tie.Need-get-number-requires-2
 get-number-requires-2 c κs = search needs
 
-step-requires : tie.Need-step-requires
-step-requires c κs = search needs
+next-requires : tie.Need-next-requires
+next-requires c κs = c .before .before .before .before .before .before .before .before .before .before .pre .0
 
 same-length : tie.Need-same-length
 same-length c = search needs
@@ -39,7 +39,7 @@ returns c =
     let a = c .before .before .before .before .before .before .before .before .before .before .before .before .before .before .before .before .before .args in
     let first = c .before .before .before .before .before .before .before .before .before .before .before .get-number .ensures in
     let second = c .before .before .before .before .before .before .before .before .before .before .get-number2 .ensures in
-    asked-as-held (a .steps .now) (a .at) _ _ (first .0) (second .0) (first .1) (second .1) _ _ _ (c .before .before .before .before .before .before .step .ensures)
+    asked-as-held (a .steps .now) (a .at) _ _ (first .0) (second .0) (first .1) (second .1) _ _ _ (c .before .before .before .before .before .before .next .ensures)
 
 pub ask-spec : {M : Type 1} → statement M
 ask-spec =
@@ -51,7 +51,7 @@ ask-spec =
     cast-first
     add-get-number-2
     get-number-requires-2
-    step-requires
+    next-requires
     same-length
     same-length-2
     same-length-3
