@@ -7,6 +7,8 @@ use bench_session::showing::Bench;
 ghost use lib.ListN.{length};
 ghost use Prim.Native.Nat.{_≤_};
 ghost use Rattle.bench_lines.specs.ReplyLines.{longestReply};
+ghost use Rattle.group_bytes.specs.Groups.{ranges};
+ghost use Rattle.bench_session.specs.NextParts.{BenchStaysSound};
 
 // The bench lends 8 view records, and the books and queues that go with them.
 const ROOM: usize = 8;
@@ -68,12 +70,13 @@ fn finish(
     line: &[u8],
     out: &mut [u8],
 )
-    requires { ⌜ longestReply ≤ length (now out) ⌝ }
+    requires { ⌜ (longestReply ≤ length (now out))
+        × BenchStaysSound bench (ranges (now list) (now all) (now queues)) ⌝ }
 {
     if line.len() == 0 {
         return;
     }
-    let h = bench_session::showing::hear(list, all, queues, bench, line);
+    let h = bench_session::showing::hear_next(list, all, queues, bench, line);
     if !h.shown {
         return;
     }
@@ -100,8 +103,10 @@ fn answer_all(
     input: &[u8],
     out: &mut [u8],
 ) -> Turn
-    requires { ⌜ longestReply ≤ length (now out) ⌝ }
-    ensures { λ r. ⌜ r .at ≤ length (now (input .entry)) ⌝ }
+    requires { ⌜ (longestReply ≤ length (now out))
+        × BenchStaysSound before (ranges (now list) (now all) (now queues)) ⌝ }
+    ensures { λ r. ⌜ (r .at ≤ length (now (input .entry)))
+        × BenchStaysSound (r .bench) (ranges (now (list .exit)) (now (all .exit)) (now (queues .exit))) ⌝ }
 {
     let mut bench = before;
     let mut at: usize = 0;
@@ -111,7 +116,7 @@ fn answer_all(
         if end == input.len() {
             break;
         }
-        let h = bench_session::showing::hear(list, all, queues, bench, &input[at..end]);
+        let h = bench_session::showing::hear_next(list, all, queues, bench, &input[at..end]);
         bench = h.bench;
         if h.shown {
             let reply = h.reply;

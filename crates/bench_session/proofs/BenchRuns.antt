@@ -6,7 +6,6 @@ use Prim.Native.Nat.{ℕ}
 use native.Mathlib.Omega.{arith}
 use Rattle.views.specs.declared.refusal.Verdict.{Verdict}
 use Rattle.views.specs.declared.refusal.Verdict.the-variants.{Accepted, Refused}
-use Rattle.views.specs.Members.{top, pop}
 use Rattle.views.specs.Sets.{one}
 use Rattle.views.proofs.SetLaws.{both-true}
 use Rattle.views.specs.Refusals.{left}
@@ -17,7 +16,8 @@ use Rattle.group_bytes.specs.Groups.{Ranges}
 use Rattle.group_bytes.specs.Starts.{startRanges}
 use Rattle.group_bytes.specs.Steps.{startResult, stepRanges, stepReply, repliesOf}
 use Rattle.events.specs.Shown.{shownBy, eventsShown}
-use Rattle.group_bytes.specs.Promises.{Given, AllGiven}
+use Rattle.group_bytes.specs.Promises.{AllGiven}
+use Rattle.group_bytes.proofs.GivenSteps.{none-given, given-first}
 use Rattle.group_bytes.proofs.GroupRuns.{demand3-ranges}
 use Rattle.group.specs.StepCalls.{asked}
 use Rattle.bench_lines.specs.declared.lines.Line.{Line}
@@ -60,18 +60,11 @@ steps-shown r (Step c ∷ l) h =
 
 -- ---- they can be given
 
-pub given-more : (c : Asked) (l : List Asked) → Given c → AllGiven l → AllGiven (c ∷ l)
-given-more c l g a d top = g
-given-more c l g a d (pop i) = a d i
-
 given-by : (x : Line) (l : List Line) → lineWide x ≡ true → AllGiven (stepsOf l) → AllGiven (stepsOf (x ∷ l))
 unfolding stepsOf lineWide
 given-by Unreadable l w a = a
 given-by (Group s) l w a = a
-given-by (Step c) l w a = given-more (asked (c .kind) (c .first) (c .second)) (stepsOf l) (wide-given (c .kind) (c .first) (c .second) w) a
-
-pub none-given : AllGiven []
-none-given c = elim [ ]
+given-by (Step c) l w a = given-first (asked (c .kind) (c .first) (c .second)) (stepsOf l) (wide-given (c .kind) (c .first) (c .second) w) a
 
 steps-given : (m : List (List ℕ)) → AllGiven (stepsOf (linesOf m))
 unfolding linesOf stepsOf

@@ -31,7 +31,7 @@ use Rattle.bench_session.specs.Sessions.{groupLine, stepLine, answerTo}
 use Rattle.bench_session.specs.Scripts.{linesOf, repliesTo, acceptedAmong, beginsWithAll}
 use Rattle.bench_session.specs.Cases.{benchViews, OfBench, wholeCase, input, output, WholeCase}
 use Rattle.bench_session.proofs.Widths.{wide-given}
-use Rattle.bench_session.proofs.BenchRuns.{given-more, none-given}
+use Rattle.group_bytes.proofs.GivenSteps.{none-given, given-first}
 use Rattle.bench_session.proofs.ShownReplies.{all-shown, accepted-shown}
 
 -- ---- the lines
@@ -50,12 +50,12 @@ lines-are = refl
 steps-given : AllGiven steps
 unfolding steps
 steps-given =
-    given-more _ _ (wide-given 8 0 5 refl) (
-    given-more _ _ (wide-given 3 0 0 refl) (
-    given-more _ _ (wide-given 4 0 0 refl) (
-    given-more _ _ (wide-given 5 1 0 refl) (
-    given-more _ _ (wide-given 9 1 0 refl) (
-    given-more _ _ (wide-given 6 1 0 refl) none-given)))))
+    given-first _ _ (wide-given 8 0 5 refl) (
+    given-first _ _ (wide-given 3 0 0 refl) (
+    given-first _ _ (wide-given 4 0 0 refl) (
+    given-first _ _ (wide-given 5 1 0 refl) (
+    given-first _ _ (wide-given 9 1 0 refl) (
+    given-first _ _ (wide-given 6 1 0 refl) none-given)))))
 
 -- ---- the start
 

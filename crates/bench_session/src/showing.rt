@@ -1,10 +1,12 @@
-// Which replies a bench shows: a line put to it gets its reply, and whether that is shown.
+// Which replies a bench shows: a line that is given to it gets its reply, and whether that is shown.
 use events::Reply;
 use views::refusal::Verdict;
+ghost use mathlib.Core.Bool.{true};
 ghost use mathlib.Core.Path.{_≡_};
-ghost use Rattle.group_bytes.specs.Groups.{ranges};
+ghost use Rattle.group_bytes.specs.Groups.{ranges, rangesSound};
 ghost use Rattle.bench_session.specs.Sessions.{accepts};
 ghost use Rattle.bench_session.specs.Showing.{idle, shows, decidedBy, Hears};
+ghost use Rattle.bench_session.specs.NextParts.{BenchStaysSound, HearsNext};
 
 // What the first line decides: replies to accepted lines are shown, or all of them.
 pub enum Output {
@@ -73,12 +75,22 @@ fn decided_by(output: Output, line: &[u8]) -> Output
     }
 }
 
-// A line of any bytes, without the byte 10 that ends it: it is answered, whether or not that is shown.
-pub fn hear(list: &mut [u8], all: &mut [u8], queues: &mut [u8], bench: Bench, line: &[u8]) -> Heard
+// A line of any bytes, without the byte 10 that ends it: it is answered, whether or not that is shown. 4 is checked
+// unless a running group is known to be sound.
+fn hear_line(
+    list: &mut [u8],
+    all: &mut [u8],
+    queues: &mut [u8],
+    bench: Bench,
+    known: bool,
+    line: &[u8],
+) -> Heard
+    requires { ⌜ (known ≡ true → bench .running ≡ true
+        → rangesSound (ranges (now list) (now all) (now queues)) ≡ true) ⌝ }
     ensures { λ r. ⌜ Hears bench (ranges (now (list .entry)) (now (all .entry)) (now (queues .entry)))
         (now (line .entry)) (ranges (now (list .exit)) (now (all .exit)) (now (queues .exit))) r ⌝ }
 {
-    let a = crate::answer(list, all, queues, bench.running, line);
+    let a = crate::answer_line(list, all, queues, bench.running, known, line);
     let reply = a.reply;
     let verdict = reply.verdict;
     let output = bench.output;
@@ -92,4 +104,28 @@ pub fn hear(list: &mut [u8], all: &mut [u8], queues: &mut [u8], bench: Bench, li
             output: decided,
         },
     }
+}
+
+// The same with any ranges: 4 is checked in every step.
+pub fn hear(list: &mut [u8], all: &mut [u8], queues: &mut [u8], bench: Bench, line: &[u8]) -> Heard
+    ensures { λ r. ⌜ Hears bench (ranges (now (list .entry)) (now (all .entry)) (now (queues .entry)))
+        (now (line .entry)) (ranges (now (list .exit)) (now (all .exit)) (now (queues .exit))) r ⌝ }
+{
+    hear_line(list, all, queues, bench, false, line)
+}
+
+// The same for the bench's own loop, in which nothing changes the ranges between two lines. A running group stays sound
+// there, so 4 is not checked.
+pub fn hear_next(
+    list: &mut [u8],
+    all: &mut [u8],
+    queues: &mut [u8],
+    bench: Bench,
+    line: &[u8],
+) -> Heard
+    requires { ⌜ BenchStaysSound bench (ranges (now list) (now all) (now queues)) ⌝ }
+    ensures { λ r. ⌜ HearsNext bench (ranges (now (list .entry)) (now (all .entry)) (now (queues .entry)))
+        (now (line .entry)) (ranges (now (list .exit)) (now (all .exit)) (now (queues .exit))) r ⌝ }
+{
+    hear_line(list, all, queues, bench, true, line)
 }

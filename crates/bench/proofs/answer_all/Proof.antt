@@ -6,13 +6,16 @@ use native.Mathlib.Omega.{arith}
 use borrow.Author.Needs.{needs}
 use lib.ListN.{length}
 use Rattle.bench_lines.proofs.WordLaws.{find-le, find-from}
+use Rattle.group_bytes.specs.Groups.{ranges}
+use Rattle.bench_session.specs.NextParts.{BenchStaysSound}
 use Rattle.bench.proofs.PieceLaws.{said-within}
 use Rattle.bench.proofs.answer_all.Statement.{statement}
 use Rattle.bench.proofs.answer_all.Tie as tie
 
 abbrev Inv-loop : tie.InvT-loop
 Inv-loop list₀ all₀ queues₀ input out₀ bench₀ at₀ filled₀ list all queues out bench at filled =
-    (at ≤ length input) × (filled ≤ length out) × (length list ≡ length list₀) × (length all ≡ length all₀) × (length queues ≡ length queues₀) × (length out ≡ length out₀)
+    BenchStaysSound bench (ranges list all queues)
+    × ((at ≤ length input) × (filled ≤ length out) × (length list ≡ length list₀) × (length all ≡ length all₀) × (length queues ≡ length queues₀) × (length out ≡ length out₀))
 
 abbrev μ-loop : tie.MeasureT-loop
 μ-loop list₀ all₀ queues₀ input out₀ bench₀ at₀ filled₀ list all queues out bench at filled =
@@ -24,26 +27,26 @@ loop-holds c = search needs
 line-end-requires : tie.Need-line-end-requires Inv-loop μ-loop
 line-end-requires c κs = search needs
 
-sub-hear : tie.Need-sub-hear Inv-loop μ-loop
-sub-hear c =
+sub-hear-next : tie.Need-sub-hear-next Inv-loop μ-loop
+sub-hear-next c =
     let l = c .before .before .before .before .before .before .loop in
     let a = c .before .before .before .before .before .before .before .before .before .before .before .before .args in
-    omega (arith, c .before .before .before .before .line-end .ensures, find-le 10 (a .input .now) (l .at), find-from 10 (a .input .now) (l .at) (l .inv .0))
+    omega (arith, c .before .before .before .before .line-end .ensures, find-le 10 (a .input .now) (l .at), find-from 10 (a .input .now) (l .at) (l .inv .1 .0))
 
-part-hear-start : tie.Need-part-hear-start Inv-loop μ-loop
-part-hear-start c =
+part-hear-next-start : tie.Need-part-hear-next-start Inv-loop μ-loop
+part-hear-next-start c =
     let l = c .before .before .before .before .before .before .loop in
     let a = c .before .before .before .before .before .before .before .before .before .before .before .before .args in
-    omega (arith, c .before .before .before .before .line-end .ensures, find-le 10 (a .input .now) (l .at), find-from 10 (a .input .now) (l .at) (l .inv .0))
+    omega (arith, c .before .before .before .before .line-end .ensures, find-le 10 (a .input .now) (l .at), find-from 10 (a .input .now) (l .at) (l .inv .1 .0))
 
-part-hear-end : tie.Need-part-hear-end Inv-loop μ-loop
-part-hear-end c =
+part-hear-next-end : tie.Need-part-hear-next-end Inv-loop μ-loop
+part-hear-next-end c =
     let l = c .before .before .before .before .before .before .loop in
     let a = c .before .before .before .before .before .before .before .before .before .before .before .before .args in
-    omega (arith, c .before .before .before .before .line-end .ensures, find-le 10 (a .input .now) (l .at), find-from 10 (a .input .now) (l .at) (l .inv .0))
+    omega (arith, c .before .before .before .before .line-end .ensures, find-le 10 (a .input .now) (l .at), find-from 10 (a .input .now) (l .at) (l .inv .1 .0))
 
-hear-requires : tie.Need-hear-requires Inv-loop μ-loop
-hear-requires c κs = search needs
+hear-next-requires : tie.Need-hear-next-requires Inv-loop μ-loop
+hear-next-requires c κs = search needs
 
 say-requires : tie.Need-say-requires Inv-loop μ-loop
 say-requires c κs = search needs
@@ -70,7 +73,7 @@ loop-less : tie.Need-loop-less Inv-loop μ-loop
 loop-less c =
     let l = c .before .before .before .before .before .before .before .before .before .before .before .before .before .before .before .before .before .loop in
     let a = c .before .before .before .before .before .before .before .before .before .before .before .before .before .before .before .before .before .before .before .before .before .before .before .args in
-    omega (arith, c .before .before .before .before .before .before .before .before .before .before .before .before .before .before .before .line-end .ensures, find-le 10 (a .input .now) (l .at), find-from 10 (a .input .now) (l .at) (l .inv .0))
+    omega (arith, c .before .before .before .before .before .before .before .before .before .before .before .before .before .before .before .line-end .ensures, find-le 10 (a .input .now) (l .at), find-from 10 (a .input .now) (l .at) (l .inv .1 .0))
 
 loop-again : tie.Need-loop-again Inv-loop μ-loop
 loop-again c =
@@ -78,9 +81,10 @@ loop-again c =
     let a = c .before .before .before .before .before .before .before .before .before .before .before .before .before .before .before .before .before .before .before .before .before .before .before .args in
     let e = c .before .before .before .before .before .before .before .before .before .before .before .before .before .before .before .line-end .ensures in
     let u = find-le 10 (a .input .now) (l .at) in
-    let v = find-from 10 (a .input .now) (l .at) (l .inv .0) in
-    ⊎-elim (λ w. let k = said-within _ (l .out) _ (l .filled) _ (l .inv .1) (w .3 .ensures) in omega (arith, e, u, v, ap length (w .7), w .8))
-    (λ w. omega (arith, e, u, v, ap length (w .1), w .2)) (c .before .if2 .came)
+    let v = find-from 10 (a .input .now) (l .at) (l .inv .1 .0) in
+    let stays = c .before .before .before .before .before .before .before .before .before .hear-next .ensures .stays in
+    ⊎-elim (λ w. let k = said-within _ (l .out) _ (l .filled) _ (l .inv .1 .1) (w .3 .ensures) in (stays, omega (arith, e, u, v, ap length (w .7), w .8)))
+    (λ w. (stays, omega (arith, e, u, v, ap length (w .1), w .2))) (c .before .if2 .came)
 
 send-requires : tie.Need-send-requires Inv-loop μ-loop
 send-requires c κs = search needs
@@ -108,10 +112,10 @@ answer-all-spec =
     μ-loop
     loop-holds
     line-end-requires
-    sub-hear
-    part-hear-start
-    part-hear-end
-    hear-requires
+    sub-hear-next
+    part-hear-next-start
+    part-hear-next-end
+    hear-next-requires
     say-requires
     same-length
     same-length-2

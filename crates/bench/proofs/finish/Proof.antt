@@ -8,8 +8,8 @@ use Rattle.bench.proofs.finish.Tie as tie
 returns : tie.Need-returns
 returns c = search needs
 
-hear-requires : tie.Need-hear-requires
-hear-requires c κs = search needs
+hear-next-requires : tie.Need-hear-next-requires
+hear-next-requires c κs = search needs
 
 same-length : tie.Need-same-length
 same-length c = search needs
@@ -67,7 +67,7 @@ finish-spec =
     tie.close
     (tie.spec
     returns
-    hear-requires
+    hear-next-requires
     same-length
     same-length-2
     same-length-3

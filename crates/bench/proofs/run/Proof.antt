@@ -1,16 +1,26 @@
 -- What is held lies within the input, round after round.
-use mathlib.Core.Path.{_≡_, sym}
+use mathlib.Core.Path.{_≡_, sym, ap, _∙_}
+use mathlib.Core.Bool.{true, true≢false}
 use Prim.Native.Nat.{_≤_}
 use native.Mathlib.Omega.{arith}
 use borrow.Author.Needs.{needs}
 use lib.ListN.{length}
 use lib.Seq.{length-take-le}
+use Rattle.group_bytes.specs.Groups.{Ranges, ranges}
+use Rattle.bench_session.specs.declared.showing.Bench.{Bench}
+use Rattle.bench_session.specs.Showing.{idle}
+use Rattle.bench_session.specs.NextParts.{BenchStaysSound}
 use Rattle.bench.proofs.run.Statement.{statement}
 use Rattle.bench.proofs.run.Tie as tie
 
+-- no group is running
+idle-stays : (b : Bench) → b ≡ idle → (r : Ranges) → BenchStaysSound b r
+idle-stays b e r h = absurd (true≢false (sym h ∙ ap (λ (x : Bench). x .running) e))
+
 abbrev Inv-loop : tie.InvT-loop
 Inv-loop list₀ all₀ queues₀ input₀ out₀ bench₀ held₀ turns₀ list all queues input out bench held turns =
-    (held ≤ length input) × (length list ≡ length list₀) × (length all ≡ length all₀) × (length queues ≡ length queues₀) × (length input ≡ length input₀) × (length out ≡ length out₀)
+    BenchStaysSound bench (ranges list all queues)
+    × ((held ≤ length input) × (length list ≡ length list₀) × (length all ≡ length all₀) × (length queues ≡ length queues₀) × (length input ≡ length input₀) × (length out ≡ length out₀))
 
 abbrev μ-loop : tie.MeasureT-loop
 μ-loop list₀ all₀ queues₀ input₀ out₀ bench₀ held₀ turns₀ list all queues input out bench held turns =
@@ -20,7 +30,7 @@ idle-requires : tie.Need-idle-requires Inv-loop μ-loop
 idle-requires c κs = search needs
 
 loop-holds : tie.Need-loop-holds Inv-loop μ-loop
-loop-holds c = search needs
+loop-holds c = (idle-stays _ (c .idle .ensures) _, search needs)
 
 fill-requires : tie.Need-fill-requires Inv-loop μ-loop
 fill-requires c κs = search needs
@@ -113,7 +123,7 @@ loop-less : tie.Need-loop-less Inv-loop μ-loop
 loop-less c = search needs
 
 loop-again : tie.Need-loop-again Inv-loop μ-loop
-loop-again c = search needs
+loop-again c = (c .before .before .before .before .before .before .before .before .before .before .before .before .before .before .answer-all .ensures .1, search needs)
 
 same-length-16 : tie.Need-same-length-16 Inv-loop μ-loop
 same-length-16 c = search needs

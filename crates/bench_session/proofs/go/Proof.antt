@@ -12,8 +12,8 @@ returns c =
     let a = c .before .before .before .before .before .args in
     rw (not-true (a .running) (c .before .if1 .taken), c .unread .ensures) (idle-answers (record { list = a .list .now; books = a .all .now; queues = a .queues .now }) (a .kind) (a .first) (a .second))
 
-step-requires : tie.Need-step-requires
-step-requires c κs = search needs
+next-requires : tie.Need-next-requires
+next-requires c κs k = c .before .before .before .before .before .before .before .pre k (not-false _ (c .before .before .before .if1 .left))
 
 same-length : tie.Need-same-length
 same-length c = search needs
@@ -28,7 +28,7 @@ returns-2 : tie.Need-returns-2
 returns-2 c =
     let a = c .before .before .before .before .before .before .before .before .before .before .before .before .before .before .args in
     let early = c .before .before .before .before .before .before in
-    rw (not-false (a .running) (early .before .before .before .before .if1 .left)) (step-answers (record { list = a .list .now; books = a .all .now; queues = a .queues .now }) (a .kind) (a .first) (a .second) _ _ (early .step .ensures))
+    rw (not-false (a .running) (early .before .before .before .before .if1 .left)) (step-answers (record { list = a .list .now; books = a .all .now; queues = a .queues .now }) (a .kind) (a .first) (a .second) _ _ (early .next .ensures))
 
 pub go-spec : {M : Type 1} → statement M
 go-spec =
@@ -36,7 +36,7 @@ go-spec =
     (tie.spec
     unread-requires
     returns
-    step-requires
+    next-requires
     same-length
     same-length-2
     same-length-3
