@@ -1,5 +1,5 @@
 -- What the driver asks of the bytes is what the rule asks of the group: the last view of the list is the newest, the books are the group's, each refusal is at its place.
-use mathlib.Core.Path.{_≡_, sym, ap, _∙_}
+use mathlib.Core.Path.{_≡_, sym, ap, subst, _∙_}
 use mathlib.Core.Logic.{_≢_, ⊎-elim}
 use mathlib.Core.Bool.{Bool, true, false, not}
 use mathlib.Core.List.{List, [], _∷_}
@@ -35,7 +35,7 @@ use Rattle.group_bytes.specs.Groups.{Ranges, membersOf, madeOf, viewsMade, plac
 use Rattle.group_bytes.proofs.PlaceLaws.{length-made, place-found}
 use Rattle.group_steps.proofs.Found.{found-at, missing-at}
 use Rattle.group_steps.proofs.Rows.{made-rise}
-use Rattle.group_form.specs.Parts.{noneAt, passesAt, newestOf, Asks}
+use Rattle.group_form.specs.Parts.{noneAt, passesAt, newestOf, Fresh, Asks}
 
 -- ---- the newest view
 
@@ -85,7 +85,7 @@ abbrev pub passed : List ℕ → View → ℕ → Bool
 passed books v p = all (passes one v) (heldIn (bookBytes books p) .settled ∷ listOf (heldIn (bookBytes books p) .opens))
 
 -- the part of the books that is the book of p
-part-is : (books : List ℕ) (p : ℕ) → take (bookSize * p + bookSize - bookSize * p) (drop (bookSize * p) books) ≡ bookBytes books p
+pub part-is : (books : List ℕ) (p : ℕ) → take (bookSize * p + bookSize - bookSize * p) (drop (bookSize * p) books) ≡ bookBytes books p
 unfolding bookBytes
 part-is books p = let e : bookSize * p + bookSize - bookSize * p ≡ bookSize = omega arith in rw e
 
@@ -129,7 +129,7 @@ module _ (r : Ranges) where
   module _ (g : Identifier) (i : ℕ) (place : i ≡ placeOf g (viewsMade r)) where
     pub no-view : madeOf r ≤ i → Asks r g (Refused NoSuchView)
     unfolding formOf groupIn withListed
-    no-view h = record { verdict = rw (missing-at r g (rw (← place) h)); newest = λ e. absurd (never NoSuchView e) }
+    no-view h = record { verdict = rw (missing-at r g (rw (← place) h)); newest = λ e. absurd (never NoSuchView e); fresh = λ e. absurd (never NoSuchView e) }
 
     module _ (s : rangesSound r ≡ true) (there : i < madeOf r) where
       here : (v : View) × (findOf g (viewsMade r) ≡ Found v)
@@ -148,7 +148,7 @@ module _ (r : Ranges) where
       unfolding need
       not-last h =
           let past = older g (viewsMade r) (made-rise r s) (omega (arith, length-made r, h)) in
-          record { verdict = rw (by-tests, past); newest = λ e. absurd (never ViewNotFresh e) }
+          record { verdict = rw (by-tests, past); newest = λ e. absurd (never ViewNotFresh e); fresh = λ e. absurd (never ViewNotFresh e) }
 
       module _ (last : i + 1 ≡ madeOf r) where
         new : isNewest g (viewsMade r) ≡ true
@@ -156,7 +156,7 @@ module _ (r : Ranges) where
 
         pub joined : noneAt (r .books) g ≡ false → Asks r g (Refused ViewNotFresh)
         unfolding need
-        joined h = record { verdict = rw (by-tests, new, h); newest = λ e. absurd (never ViewNotFresh e) }
+        joined h = record { verdict = rw (by-tests, new, h); newest = λ e. absurd (never ViewNotFresh e); fresh = λ e. absurd (never ViewNotFresh e) }
 
         -- the view found is the last of the list
         found-last : here .0 ≡ newestOf r
@@ -171,10 +171,16 @@ module _ (r : Ranges) where
 
           pub fails : passesAt (r .books) v ≡ false → Asks r g (Refused FormTestFailed)
           unfolding need
-          fails h = record { verdict = rw (by-tests, new, free, ← same, h); newest = λ e. absurd (never FormTestFailed e) }
+          fails h = record { verdict = rw (by-tests, new, free, ← same, h); newest = λ e. absurd (never FormTestFailed e); fresh = λ e. absurd (never FormTestFailed e) }
 
           pub takes : passesAt (r .books) v ≡ true → Asks r g Accepted
           unfolding need
           takes h =
               let e : formOf one (groupIn r) g ≡ accepted (formSteps (here .0)) = by-tests ∙ rw (new, free, ← same, h) in
-              record { verdict = rw e; newest = λ a. e ∙ ap (λ (x : View). accepted (formSteps x)) found-last }
+              let is : v ≡ newestOf r = same ∙ found-last in
+              let id : idOf v ≡ g = ap idOf same ∙ find-in g (viewsMade r) (here .0) (here .1) .1 in
+              record {
+                verdict = rw e;
+                newest = λ a. e ∙ ap (λ (x : View). accepted (formSteps x)) found-last;
+                fresh = λ a. subst (Fresh r) is (record { free = rw id free; passing = h });
+              }

@@ -24,14 +24,17 @@ use Rattle.events.specs.declared.Reply.{Reply}
 use Rattle.group_bytes.specs.Groups.{Ranges}
 use Rattle.group_bytes.specs.Steps.{stepRanges, stepReply, repliesOf}
 use Rattle.group_bytes.specs.Forming.{firstRefusal}
+use Rattle.group_bytes.specs.Promises.{Given}
 use Rattle.group_bytes.proofs.RangesLaws.{same-ranges}
 use Rattle.group_bytes.proofs.Demand2.{step-refused}
 use Rattle.group.specs.StepCalls.{asked, Went}
+use Rattle.group.specs.StaysSoundParts.{StaysSound}
+use Rattle.group.proofs.StaysSoundLaws.{stays-after}
 use Rattle.group_form.specs.Parts.{untilRefused, Drove}
 
 -- what steps gave, by the whole ranges that they left
-drove-by : (r : Ranges) (l : List Step) (d : Ranges) (v : Verdict) → v ≡ firstRefusal (repliesOf r l) → d ≡ untilRefused r l → Drove r l d v
-drove-by r l d v e k = record { verdict = e; list = ap (λ (x : Ranges). x .list) k; books = ap (λ (x : Ranges). x .books) k; queues = ap (λ (x : Ranges). x .queues) k }
+drove-by : (r : Ranges) (l : List Step) (d : Ranges) (v : Verdict) → v ≡ firstRefusal (repliesOf r l) → d ≡ untilRefused r l → (StaysSound r → StaysSound d) → Drove r l d v
+drove-by r l d v e k s = record { verdict = e; list = ap (λ (x : Ranges). x .list) k; books = ap (λ (x : Ranges). x .books) k; queues = ap (λ (x : Ranges). x .queues) k; stays = s }
 
 left-by : (r : Ranges) (l : List Step) (d : Ranges) (v : Verdict) → Drove r l d v → d ≡ untilRefused r l
 left-by r l d v h = same-ranges d (untilRefused r l) (h .list) (h .books) (h .queues)
@@ -40,13 +43,16 @@ left-by r l d v h = same-ranges d (untilRefused r l) (h .list) (h .books) (h .qu
 
 pub drove-none : (r : Ranges) → Drove r [] r Accepted
 unfolding repliesOf firstRefusal untilRefused
-drove-none r = drove-by r [] r Accepted refl refl
+drove-none r = drove-by r [] r Accepted refl refl (λ h. h)
 
-pub drove-one : (r : Ranges) (c : Step) (d : Ranges) (x : Reply) → Went r c d x → Drove r (c ∷ []) d (x .verdict)
+pub went-stays : (r : Ranges) (c : Step) (d : Ranges) (x : Reply) → Given c → Went r c d x → StaysSound r → StaysSound d
+went-stays r c d x g w = stays-after r c d (same-ranges d (stepRanges r c) (w .list) (w .books) (w .queues)) g
+
+pub drove-one : (r : Ranges) (c : Step) (d : Ranges) (x : Reply) → Given c → Went r c d x → Drove r (c ∷ []) d (x .verdict)
 unfolding repliesOf firstRefusal untilRefused andThen left
-drove-one r c d x w =
+drove-one r c d x g w =
     drove-by r (c ∷ []) d (x .verdict) (verdict (x .verdict) gave)
-    (same-ranges d (stepRanges r c) (w .list) (w .books) (w .queues) ∙ ranges (stepReply r c .verdict) refl)
+    (same-ranges d (stepRanges r c) (w .list) (w .books) (w .queues) ∙ ranges (stepReply r c .verdict) refl) (went-stays r c d x g w)
   where
     gave : x .verdict ≡ stepReply r c .verdict
     gave = ap (λ (y : Reply). y .verdict) (w .reply)
@@ -95,13 +101,13 @@ module _ {r : Ranges} {l : List Step} {d : Ranges} {v : Verdict} (h : Drove r l 
   pub drove-stops : {f : Refusal} → v ≡ Refused f → (m : List Step) → Drove r (l ++ m) d v
   drove-stops {f} k m =
       let a = after-refused r l m f (sym (h .verdict) ∙ k) in
-      drove-by r (l ++ m) d v (k ∙ sym (a .0)) (left-by r l d v h ∙ sym (a .1))
+      drove-by r (l ++ m) d v (k ∙ sym (a .0)) (left-by r l d v h ∙ sym (a .1)) (h .stays)
 
   pub drove-then : v ≡ Accepted → {m : List Step} {e : Ranges} {w : Verdict} → Drove d m e w → Drove r (l ++ m) e w
   drove-then k {m} {e} {w} next =
       let a = after-accepted r l m (sym (h .verdict) ∙ k) in
       let n : Drove (untilRefused r l) m e w = rw (left-by r l d v h) at next in
-      drove-by r (l ++ m) e w (n .verdict ∙ sym (a .0)) (left-by (untilRefused r l) m e w n ∙ sym (a .1))
+      drove-by r (l ++ m) e w (n .verdict ∙ sym (a .0)) (left-by (untilRefused r l) m e w n ∙ sym (a .1)) (λ k. next .stays (h .stays k))
 
 -- ---- what is still to be done
 
@@ -137,15 +143,15 @@ module _ (r : Ranges) (c : Step) (k : ℕ) where
     pub repeats-end : k ≤ i → Drove r (replicate k c) d Accepted
     repeats-end h = let z : k - i ≡ 0 = omega arith in under-ends d (rw z at u)
 
-    module _ (e : Ranges) (x : Reply) (h : i < k) (w : Went d c e x) where
+    module _ (e : Ranges) (x : Reply) (h : i < k) (g : Given c) (w : Went d c e x) where
       next : Under r (replicate k c) d ((c ∷ []) ++ replicate (k - (i + 1)) c)
       next = let s : k - i ≡ suc (k - (i + 1)) = omega arith in rw s at u
 
       pub repeats-go : x .verdict ≡ Accepted → Repeats e (i + 1)
-      repeats-go = under-goes (c ∷ []) (replicate (k - (i + 1)) c) next (drove-one d c e x w)
+      repeats-go = under-goes (c ∷ []) (replicate (k - (i + 1)) c) next (drove-one d c e x g w)
 
       pub repeats-stop : {f : Refusal} → x .verdict ≡ Refused f → Drove r (replicate k c) e (x .verdict)
-      repeats-stop = under-stops (c ∷ []) (replicate (k - (i + 1)) c) next (drove-one d c e x w)
+      repeats-stop = under-stops (c ∷ []) (replicate (k - (i + 1)) c) next (drove-one d c e x g w)
 
 -- ---- by each server of a set
 

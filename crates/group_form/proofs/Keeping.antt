@@ -63,6 +63,18 @@ module _ {r : Ranges} {v : View} {i : ℕ} (s : Stands r v i) where
   pub stands-books : length (r .books) ≡ booksSize
   stands-books = fits .books
 
+  -- ---- if none is refused
+
+  pub all-taken : {d : Ranges} {x : Verdict} → Drove r (formSteps v) d x → firstRefusal (repliesOf r (formSteps v)) ≡ Accepted → AllKept r (formSteps v) d x
+  all-taken h a =
+      let e = all-of r (formSteps v) a in
+      record {
+        verdict = h .verdict;
+        list = h .list ∙ ap (λ (x : Ranges). x .list) (sym e);
+        books = h .books ∙ ap (λ (x : Ranges). x .books) (sym e);
+        queues = h .queues ∙ ap (λ (x : Ranges). x .queues) (sym e);
+      }
+
   -- ---- the queues
 
   module _ {d : Ranges} {x : Verdict} where

@@ -4,3 +4,4 @@ pub mod Undone
 pub mod Restored
 pub mod Keeping
 pub mod NewestLaws
+pub mod Untouched

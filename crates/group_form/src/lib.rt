@@ -14,7 +14,7 @@ ghost use Rattle.views.specs.Sets.{size};
 ghost use Rattle.rules.specs.Forming.{formSteps, formCount};
 ghost use Rattle.group_bytes.specs.Groups.{ranges, rangesSound};
 ghost use Rattle.group_form.specs.FormCalls.{Formed};
-ghost use Rattle.group_form.specs.Parts.{newestOf, FormedAs};
+ghost use Rattle.group_form.specs.Parts.{newestOf, Fresh, FormedAs};
 
 // What the driver gives: the verdict, and how many steps it took.
 pub struct Taken {
@@ -40,16 +40,17 @@ fn count(set: u8) -> u32
     2 * (k * k) + 8 * k
 }
 
-// All the steps that form the newest view of a sound group, or none.
+// All the steps that form the newest view of a sound group, which nobody joined and which passes the test, or none.
 fn whole(list: &mut [u8], all: &mut [u8], queues: &mut [u8]) -> Taken
-    requires { ⌜ rangesSound (ranges (now list) (now all) (now queues)) ≡ true ⌝ }
+    requires { ⌜ (rangesSound (ranges (now list) (now all) (now queues)) ≡ true)
+        × Fresh (ranges (now list) (now all) (now queues)) (newestOf (ranges (now list) (now all) (now queues))) ⌝ }
     ensures { λ r. ⌜ FormedAs (ranges (now (list .entry)) (now (all .entry)) (now (queues .entry)))
         (formSteps (newestOf (ranges (now (list .entry)) (now (all .entry)) (now (queues .entry)))))
         (ranges (now (list .exit)) (now (all .exit)) (now (queues .exit))) (r .verdict) (r .steps) ⌝ }
 {
     let i = queues[group_bytes::MADE] - 1;
     let v = wire::reader::load_view(list, group_bytes::VIEW * (i as usize));
-    let x = crate::undo::keeping_books(list, all, queues, v, i);
+    let x = crate::undo::all_or_none(list, all, queues, v, i);
     match x {
         Verdict::Refused(r) => refuse(r),
         Verdict::Accepted => Taken {

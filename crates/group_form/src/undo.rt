@@ -1,5 +1,5 @@
-// The driver's steps, or none of them: what they can change is kept in copies beside them and put back after a refusal.
-// They change the books, the queues of the newest view, and the queues' head.
+// The driver's steps, or none of them. If it is certain that none is refused, they are just taken. Otherwise what they
+// can change is kept in copies and put back after a refusal: the books, the newest view's queues, and the queues' head.
 use views::View;
 use views::refusal::Verdict;
 ghost use mathlib.Core.Path.{_≡_};
@@ -8,8 +8,8 @@ ghost use lib.ListN.{length};
 ghost use Rattle.views.specs.Limits.{maxViews};
 ghost use Rattle.rules.specs.Forming.{formSteps};
 ghost use Rattle.group_bytes.specs.Places.{headSize, tableSize, orderAt};
-ghost use Rattle.group_bytes.specs.Groups.{ranges};
-ghost use Rattle.group_form.specs.Parts.{keptOf, putBack, Stands, QueuesKept, AllKept};
+ghost use Rattle.group_bytes.specs.Groups.{ranges, madeOf};
+ghost use Rattle.group_form.specs.Parts.{keptOf, putBack, Fresh, Stands, QueuesKept, AllKept};
 
 // What the copy of the queues holds: the head, then the queues of one view.
 const KEPT: usize = group_bytes::HEAD + group_bytes::TABLE;
@@ -25,7 +25,7 @@ fn save(kept: &mut [u8], queues: &[u8], i: u8)
     wire::writer::copy(kept, group_bytes::HEAD, queues, at, group_bytes::TABLE);
 }
 
-// They are put back.
+// The copies of the head and of the queues are put back.
 fn restore(queues: &mut [u8], kept: &[u8], i: u8)
     requires { ⌜ (length (now kept) ≡ headSize + tableSize) × (i ≤ maxViews)
         × (orderAt i + tableSize ≤ length (now queues)) ⌝ }
@@ -44,7 +44,7 @@ fn keeping_queues(list: &mut [u8], all: &mut [u8], queues: &mut [u8], v: View, i
 {
     let mut kept = [0u8; KEPT];
     save(&mut kept, queues, i);
-    let x = crate::drive::steps(list, all, queues, v);
+    let x = crate::drive::steps(list, all, queues, false, v);
     let Verdict::Accepted = x else {
         restore(queues, &kept, i);
         return x;
@@ -53,7 +53,7 @@ fn keeping_queues(list: &mut [u8], all: &mut [u8], queues: &mut [u8], v: View, i
 }
 
 // The steps; after a refusal the books too are as they were.
-pub fn keeping_books(list: &mut [u8], all: &mut [u8], queues: &mut [u8], v: View, i: u8) -> Verdict
+fn keeping_books(list: &mut [u8], all: &mut [u8], queues: &mut [u8], v: View, i: u8) -> Verdict
     requires { ⌜ Stands (ranges (now list) (now all) (now queues)) v i ⌝ }
     ensures { λ r. ⌜ AllKept (ranges (now (list .entry)) (now (all .entry)) (now (queues .entry))) (formSteps v)
         (ranges (now (list .exit)) (now (all .exit)) (now (queues .exit))) r ⌝ }
@@ -66,4 +66,24 @@ pub fn keeping_books(list: &mut [u8], all: &mut [u8], queues: &mut [u8], v: View
         return x;
     };
     Verdict::Accepted
+}
+
+// All the steps that form the newest view, at the last place, or none of them. If no client view is above its carrier
+// view, the group stays sound; if the view is untouched too, no step is refused. So it is of all groups that steps lead
+// to. For any other group copies are kept. The function that keeps them is called from two places, so that the compiler
+// does not make it, with its 75 KB of stack, a part of this one.
+pub fn all_or_none(list: &mut [u8], all: &mut [u8], queues: &mut [u8], v: View, i: u8) -> Verdict
+    requires { ⌜ Stands (ranges (now list) (now all) (now queues)) v i
+        × (i + 1 ≡ madeOf (ranges (now list) (now all) (now queues)))
+        × Fresh (ranges (now list) (now all) (now queues)) v ⌝ }
+    ensures { λ r. ⌜ AllKept (ranges (now (list .entry)) (now (all .entry)) (now (queues .entry))) (formSteps v)
+        (ranges (now (list .exit)) (now (all .exit)) (now (queues .exit))) r ⌝ }
+{
+    if !group::stays_sound::none_above(all) {
+        return keeping_books(list, all, queues, v, i);
+    }
+    if !crate::asks::untouched(all, queues, v.id, i) {
+        return keeping_books(list, all, queues, v, i);
+    }
+    crate::drive::steps(list, all, queues, true, v)
 }

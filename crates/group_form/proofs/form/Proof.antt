@@ -38,7 +38,8 @@ enum-told : tie.Need-enum-told
 enum-told c = search needs
 
 whole-requires : tie.Need-whole-requires
-whole-requires c κs = sym (c .before .before .before .before .before .before .before .before .before .before .sound .ensures) ∙ not-false _ (c .before .before .before .before .before .before .before .before .before .if1 .left)
+whole-requires c κs =
+    (sym (c .before .before .before .before .before .before .before .before .before .before .sound .ensures) ∙ not-false _ (c .before .before .before .before .before .before .before .before .before .if1 .left), c .before .before .before .before .before .ask .ensures .fresh (c .before .before .before .enum-told .given .1))
 
 same-length-4 : tie.Need-same-length-4
 same-length-4 c = search needs

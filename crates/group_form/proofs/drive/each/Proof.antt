@@ -1,5 +1,6 @@
 -- `group_form::drive::each` meets its contract. The invariant: the steps of the servers below p are done, and what they left leads to where all of them lead.
 use mathlib.Core.Path.{_≡_, refl, sym, _∙_}
+use mathlib.Core.Bool.{true}
 use mathlib.Core.Logic.{⊎-elim}
 use Prim.Native.Nat.{_-_}
 use native.Mathlib.Omega.{arith}
@@ -7,28 +8,30 @@ use borrow.Author.Needs.{needs}
 use lib.ListN.{length}
 use Rattle.views.specs.Limits.{maxMembers}
 use Rattle.group_bytes.specs.Groups.{ranges}
+use Rattle.group.specs.StaysSoundParts.{StaysSound}
 use Rattle.group_form.proofs.Driving.{Eaches, eaches-begin, eaches-end, eaches-pass, eaches-go, eaches-stop}
 use Rattle.group_form.proofs.drive.each.Statement.{statement}
 use Rattle.group_form.proofs.drive.each.Tie as tie
 
 abbrev Inv-loop : tie.InvT-loop
-Inv-loop list₀ all₀ queues₀ kind v k p₀ list all queues p =
+Inv-loop list₀ all₀ queues₀ known kind v k p₀ list all queues p =
     Eaches (ranges list₀ all₀ queues₀) kind k v (ranges list all queues) p
     × (length list ≡ length list₀) × (length all ≡ length all₀) × (length queues ≡ length queues₀)
+    × (known ≡ true → StaysSound (ranges list all queues))
 
 abbrev μ-loop : tie.MeasureT-loop
-μ-loop list₀ all₀ queues₀ kind v k p₀ list all queues p = maxMembers - p
+μ-loop list₀ all₀ queues₀ known kind v k p₀ list all queues p = maxMembers - p
 
 loop-holds : tie.Need-loop-holds Inv-loop μ-loop
 loop-holds c =
     let a = c .before .before .before .args in
-    (eaches-begin (ranges (a .list .now) (a .all .now) (a .queues .now)) (a .kind) (a .k) (a .v), refl, refl, refl)
+    (eaches-begin (ranges (a .list .now) (a .all .now) (a .queues .now)) (a .kind) (a .k) (a .v), refl, refl, refl, c .before .before .before .pre)
 
 contains-requires : tie.Need-contains-requires Inv-loop μ-loop
 contains-requires c κs = search needs
 
 repeat-requires : tie.Need-repeat-requires Inv-loop μ-loop
-repeat-requires c κs = search needs
+repeat-requires c κs = c .before .before .before .before .before .before .loop .inv .4
 
 enum-told : tie.Need-enum-told Inv-loop μ-loop
 enum-told c = search needs
@@ -70,8 +73,8 @@ loop-again c =
     let inside = sym (c .before .contains .ensures) in
     ⊎-elim
     (λ w. rw (w .13, w .14, w .15)
-    (eaches-go r (a .kind) (a .k) (a .v) d (l .p) (l .inv .0) (omega arith) (inside ∙ w .0 .taken) _ _ (w .4 .ensures) (w .12 .given .1), search needs, search needs, search needs))
-    (λ w. rw (w .1, w .2, w .3) (eaches-pass r (a .kind) (a .k) (a .v) d (l .p) (l .inv .0) (omega arith) (inside ∙ w .0 .left), l .inv .1, l .inv .2, l .inv .3))
+    (eaches-go r (a .kind) (a .k) (a .v) d (l .p) (l .inv .0) (omega arith) (inside ∙ w .0 .taken) _ _ (w .4 .ensures) (w .12 .given .1), search needs, search needs, search needs, λ k. w .4 .ensures .stays (l .inv .4 k)))
+    (λ w. rw (w .1, w .2, w .3) (eaches-pass r (a .kind) (a .k) (a .v) d (l .p) (l .inv .0) (omega arith) (inside ∙ w .0 .left), l .inv .1, l .inv .2, l .inv .3, l .inv .4))
     (c .if1 .came)
 
 same-length-4 : tie.Need-same-length-4 Inv-loop μ-loop

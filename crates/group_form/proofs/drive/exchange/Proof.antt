@@ -31,7 +31,9 @@ unfolding exchangeSteps
 returns c = drove-stops (c .before .before .before .before .before .before .before .before .each .ensures) (c .enum-told2 .given .1) _
 
 each-requires-2 : tie.Need-each-requires-2
-each-requires-2 c κs = search needs
+each-requires-2 c κs k =
+    let one = c .before .before .before in
+    one .before .before .before .before .before .before .before .before .each .ensures .stays (one .before .before .before .before .before .before .before .before .before .before .before .before .before .before .before .pre k)
 
 enum-told-3 : tie.Need-enum-told-3
 enum-told-3 c = search needs
@@ -59,7 +61,10 @@ cast-k : tie.Need-cast-k
 cast-k c = omega (arith, ones-le maxMembers _ (c .struct-known .given .1 .0 .fits))
 
 each-requires-3 : tie.Need-each-requires-3
-each-requires-3 c κs = search needs
+each-requires-3 c κs k =
+    let two = c .before .before .before .before in
+    let one = two .before .before .before .before .before .before .before .before .before .before .before .before in
+    two .before .before .before .before .before .before .before .before .each2 .ensures .stays (one .before .before .before .before .before .before .before .before .each .ensures .stays (one .before .before .before .before .before .before .before .before .before .before .before .before .before .before .before .pre k))
 
 same-length-7 : tie.Need-same-length-7
 same-length-7 c = search needs

@@ -28,7 +28,9 @@ unfolding roundSteps
 returns c = drove-stops (c .before .before .before .before .before .before .before .before .each .ensures) (c .enum-told2 .given .1) _
 
 exchange-requires : tie.Need-exchange-requires
-exchange-requires c κs = search needs
+exchange-requires c κs k =
+    let one = c .before .before .before in
+    one .before .before .before .before .before .before .before .before .each .ensures .stays (one .before .before .before .before .before .before .before .before .before .before .before .before .before .before .before .pre k)
 
 enum-told-3 : tie.Need-enum-told-3
 enum-told-3 c = search needs
@@ -53,7 +55,10 @@ returns-2 c =
     (drove-stops (c .before .before .before .before .before .before .before .before .exchange .ensures) (c .enum-told4 .given .1) _)
 
 each-requires-2 : tie.Need-each-requires-2
-each-requires-2 c κs = search needs
+each-requires-2 c κs k =
+    let two = c .before .before .before in
+    let one = two .before .before .before .before .before .before .before .before .before .before .before .before in
+    two .before .before .before .before .before .before .before .before .exchange .ensures .stays (one .before .before .before .before .before .before .before .before .each .ensures .stays (one .before .before .before .before .before .before .before .before .before .before .before .before .before .before .before .pre k))
 
 same-length-7 : tie.Need-same-length-7
 same-length-7 c = search needs

@@ -28,7 +28,9 @@ unfolding formSteps
 returns c = drove-stops (c .before .before .before .before .before .before .before .before .round .ensures) (c .enum-told2 .given .1) _
 
 round-requires-2 : tie.Need-round-requires-2
-round-requires-2 c κs = search needs
+round-requires-2 c κs k =
+    let one = c .before .before .before in
+    one .before .before .before .before .before .before .before .before .round .ensures .stays (one .before .before .before .before .before .before .before .before .before .before .before .before .before .before .before .pre k)
 
 same-length-4 : tie.Need-same-length-4
 same-length-4 c = search needs

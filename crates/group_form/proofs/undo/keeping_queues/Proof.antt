@@ -1,6 +1,7 @@
 -- `group_form::undo::keeping_queues` meets its contract: after a refusal the queues' head and the view's queues are put back, and nothing else of them
 -- changed.
-use mathlib.Core.Path.{ap, _∙_}
+use mathlib.Core.Path.{sym, ap, _∙_}
+use mathlib.Core.Bool.{true≢false}
 use Prim.Native.Nat.{ℕ}
 use native.Mathlib.Omega.{arith}
 use borrow.Author.Needs.{needs}
@@ -21,7 +22,7 @@ save-requires c κs =
     (length-replicate {A = ℕ} 32905 0, omega (arith, stands-low s), omega (arith, stands-inside s))
 
 steps-requires : tie.Need-steps-requires
-steps-requires c κs = search needs
+steps-requires c κs e = absurd (true≢false (sym e))
 
 enum-told : tie.Need-enum-told
 enum-told c = search needs
