@@ -3,6 +3,7 @@ pub mod Walks
 pub mod Infos
 pub mod OrderLaws
 pub mod Tests
+pub mod SeatLaws
 pub mod GroupParts
 pub mod Parted
 pub mod Whole

@@ -1,9 +1,8 @@
--- The parts, by the tests that the code asks one after another.
+-- The parts, by the tests that the code makes one after another.
 use mathlib.Core.Path.{_≡_, refl}
-use mathlib.Core.Bool.{Bool, true, false, cond}
-use mathlib.Core.Option.{none, some}
+use mathlib.Core.Bool.{Bool, true, false}
 use mathlib.Core.List.{List, [], _∷_}
-use Prim.Native.Nat.{ℕ, _+_, _-_, _*_, _%_, _/_, _<_, _≤_}
+use Prim.Native.Nat.{ℕ, _+_, _-_, _*_, _%_, _/_, _≤_}
 use native.Mathlib.Omega.{arith}
 use borrow.Author.Tests.{eqb-true}
 use lib.Dec.{eqb, leb}
@@ -12,14 +11,13 @@ use Rattle.views.specs.declared.View.{View}
 use Rattle.views.specs.Limits.{maxMembers, maxViews, maxOpen}
 use Rattle.views.specs.Sizes.{viewSize}
 use Rattle.views.specs.Sets.{both}
-use Rattle.views.specs.Lists.{idOf, isRising, listOf}
+use Rattle.views.specs.Lists.{isRising, listOf}
 use Rattle.views.proofs.SetLaws.{both-true}
 use Rattle.wire.specs.Reader.{viewIn, viewsIn}
 use Rattle.rules.specs.Member.{all}
 use Rattle.rules.specs.Sound.{conditions, setFits, opensRise, listed, listedIf}
 use Rattle.rules.specs.Alone.{bookSound}
-use Rattle.rules.proofs.TestLaws.{within-says, conditions-say, listed-in}
-use Rattle.book_bytes.specs.declared.Seat.{Seat}
+use Rattle.rules.proofs.TestLaws.{within-says, conditions-say}
 use Rattle.book_bytes.specs.declared.Record.{Record}
 use Rattle.book_bytes.specs.Places.{bookSize, settledAt, carrierAt, clientAt, opensAt}
 use Rattle.book_bytes.specs.Records.{seated, seatIn, recordIn}
@@ -27,9 +25,8 @@ use Rattle.book_bytes.specs.Books.{outgoingIn, bookIn, layoutFits, bytesSound}
 use Rattle.book_bytes.proofs.Opens.{opens-in}
 use Rattle.rules.proofs.Truth.{both-unit}
 use Rattle.group_bytes.specs.Places.{roomOf, booksSize, bookBytes, orderAt, queuesSize}
-use Rattle.group_bytes.specs.Groups.{Ranges, membersOf, madeOf, placeOf}
-use Rattle.group_sound.specs.Parts.{sizesFit, numbersFit, listSound, viewsKnown, recordListed, orderedIn, memberSound}
-use Rattle.group_bytes.proofs.PlaceLaws.{place-in}
+use Rattle.group_bytes.specs.Groups.{Ranges, membersOf, madeOf}
+use Rattle.group_sound.specs.Parts.{sizesFit, numbersFit, listSound, viewsKnown, recordListed, memberSound}
 
 sizes-order : (z a b c d : Bool) → conditions (z ∷ both a b ∷ c ∷ d ∷ []) ≡ both z (both a (both b (both c d)))
 unfolding conditions
@@ -106,11 +103,6 @@ module _ (r : Ranges) (sizes : sizesFit (length (r .list)) (length (r .books)) (
     pub queues-hold : orderAt (madeOf r) ≤ length (r .queues)
     queues-hold = omega (arith, queues-long, made-few)
 
--- the carrier view of a record whose views are listed
-pub record-carrier : (views : List View) (h : Record) → recordListed views h ≡ true → listedIf views (seated (h .carrier)) ≡ true
-unfolding recordListed
-record-carrier views h t = let (_, (x, _)) = conditions-say _ t in x
-
 -- a sound book has its layout
 pub fits-layout : (b : List ℕ) → bytesSound b ≡ true → layoutFits b ≡ true
 unfolding bytesSound
@@ -123,18 +115,6 @@ infos-rise b h =
     let (_, (whole, _)) = conditions-say _ h in
     let (_, (_, (_, (_, (_, (_, (_, (_, (_, (rise, _)))))))))) = conditions-say _ whole in
     rise
-
--- ---- the order of a listed view
-
-there-listed : (views : List View) (t : Bool) (v : View) → t ≡ true → listedIf views (cond t (some v) none) ≡ true → listed views v ≡ true
-there-listed views t v e h = rw e at h
-
-pub ordered-place : (views : List View) (s : Seat) → s .there ≡ true → listedIf views (seated s) ≡ true → placeOf (idOf (s .view)) views < length views
-ordered-place views s e h = place-in (s .view) views (listed-in views (s .view) (there-listed views (s .there) (s .view) e h))
-
-pub ordered-there : (views : List View) (q : List ℕ) (s : Seat) → s .there ≡ true → getD q (orderAt (placeOf (idOf (s .view)) views)) 0 ≡ orderedIn views q (seated s)
-unfolding orderedIn
-ordered-there views q s e = rw e
 
 -- ---- the part of the books that is the book of p
 

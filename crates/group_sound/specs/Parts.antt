@@ -17,8 +17,8 @@ use Rattle.rules.specs.Sound.{within, conditions, setFits, opensRise, listed, l
 use Rattle.slots.specs.Slots.{slotSize, entryIn, queueIn, slotFits, slotsFit}
 use Rattle.slots.specs.Columns.{entriesOrdered, orderFits}
 use Rattle.book_bytes.specs.declared.Record.{Record}
-use Rattle.book_bytes.specs.Places.{membersAt, selfAt}
-use Rattle.book_bytes.specs.Records.{seated, recordIn}
+use Rattle.book_bytes.specs.Places.{membersAt, selfAt, carrierAt, clientAt, takenAt}
+use Rattle.book_bytes.specs.Records.{seated, seatIn, recordIn}
 use Rattle.book_bytes.specs.Books.{outgoingIn, bytesSound}
 use Rattle.book_sound.specs.EntryParts.{entrySound}
 use Rattle.group_bytes.specs.Places.{roomOf, booksSize, bookBytes, orderAt, waitingAt, queuesSize}
@@ -61,6 +61,15 @@ recordListed views h = conditions (
 unfoldable pub orderedIn : List View → List ℕ → Option View → ℕ
 orderedIn views q none = 0
 orderedIn views q (some v) = getD q (orderAt (placeOf (idOf v) views)) 0
+
+-- the carrier view and the client view of the book b are listed, if there are any, and no more was taken than is
+-- ordered
+unfoldable pub seatsKnown : List View → List ℕ → List ℕ → Bool
+seatsKnown views q b = conditions (
+    listedIf views (seated (seatIn b carrierAt))
+    ∷ leb (getD b takenAt 0) (orderedIn views q (seated (seatIn b carrierAt)))
+    ∷ listedIf views (seated (seatIn b clientAt))
+    ∷ [])
 
 -- what a book of a group is asked beyond what a member by itself is
 unfoldable pub bookKnown : List View → List ℕ → List ℕ → Bool

@@ -1,4 +1,6 @@
 // Whether views are among those made, identifier and set. The views made are the first of the list, and they rise.
+use views::View;
+use views::ViewId;
 use views::sizes;
 use wire::format;
 ghost use mathlib.Core.Bool.{true};
@@ -7,14 +9,39 @@ ghost use Prim.Native.Nat.{_+_, _*_, _≤_, _<_};
 ghost use lib.ListN.{length, getD};
 ghost use Rattle.views.specs.Sizes.{viewSize};
 ghost use Rattle.views.specs.Limits.{maxOpen};
-ghost use Rattle.views.specs.Lists.{isRising};
+ghost use Rattle.views.specs.Lists.{idOf, isRising};
 ghost use Rattle.wire.specs.Reader.{viewIn, viewsIn};
-ghost use Rattle.rules.specs.Sound.{listed, listedIf};
+ghost use Rattle.rules.specs.Sound.{listed};
 ghost use Rattle.rules.specs.Member.{all};
 ghost use Rattle.slots.specs.Slots.{slotSize, entryIn, slotFits, entriesIn, slotsFit};
-ghost use Rattle.book_bytes.specs.Places.{seatSize, bookSize, opensAt};
-ghost use Rattle.book_bytes.specs.Records.{seated, seatIn, recordIn};
-ghost use Rattle.group_sound.specs.Parts.{viewsKnown, infoKnown, recordListed};
+ghost use Rattle.book_bytes.specs.Places.{bookSize, opensAt};
+ghost use Rattle.group_bytes.specs.Groups.{placeOf};
+ghost use Rattle.group_sound.specs.Parts.{viewsKnown, infoKnown};
+
+// The view whose place is i is listed.
+pub fn is_at(list: &[u8], made: u8, v: View, i: u8) -> bool
+    requires { ⌜ (viewSize * made ≤ length (now list)) × (isRising (viewsIn (now list) 0 made) ≡ true)
+        × (i ≡ placeOf (idOf v) (viewsIn (now list) 0 made)) ⌝ }
+    ensures { λ r. ⌜ r ≡ listed (viewsIn (now (list .entry)) 0 made) v ⌝ }
+{
+    if made <= i {
+        return false;
+    }
+    list[sizes::VIEW * (i as usize) + sizes::IDENTIFIER] == v.set
+}
+
+// The place of the view with the identifier. Nothing is sought if it is the view with the identifier w, whose place is
+// i, as it often is.
+pub fn place_near(list: &[u8], made: u8, id: ViewId, w: ViewId, i: u8) -> u8
+    requires { ⌜ (viewSize * made ≤ length (now list)) × (isRising (viewsIn (now list) 0 made) ≡ true)
+        × (i ≡ placeOf (w .0) (viewsIn (now list) 0 made)) ⌝ }
+    ensures { λ r. ⌜ r ≡ placeOf (id .0) (viewsIn (now (list .entry)) 0 made) ⌝ }
+{
+    if id.0 == w.0 {
+        return i;
+    }
+    group_bytes::place(list, made, id)
+}
 
 // The view at a place.
 pub fn view_listed(list: &[u8], b: &[u8], made: u8, at: usize) -> bool
@@ -24,10 +51,7 @@ pub fn view_listed(list: &[u8], b: &[u8], made: u8, at: usize) -> bool
 {
     let v = wire::reader::load_view(b, at);
     let i = group_bytes::place(list, made, v.id);
-    if made <= i {
-        return false;
-    }
-    list[sizes::VIEW * (i as usize) + sizes::IDENTIFIER] == v.set
+    is_at(list, made, v, i)
 }
 
 // The views from a place on, one or more, rise and each is listed: as both lists rise, one walk along the list meets
@@ -60,38 +84,18 @@ pub fn views_known(list: &[u8], b: &[u8], made: u8, from: usize, count: usize) -
     true
 }
 
-// The view at a place of a book, if there is one.
-fn seat_listed(list: &[u8], b: &[u8], made: u8, at: usize) -> bool
-    requires { ⌜ (viewSize * made ≤ length (now list)) × (at + seatSize ≤ length (now b))
-        × (isRising (viewsIn (now list) 0 made) ≡ true) ⌝ }
-    ensures { λ r. ⌜ r ≡ listedIf (viewsIn (now (list .entry)) 0 made) (seated (seatIn (now (b .entry)) at)) ⌝ }
-{
-    if b[at] == 1 {
-        return view_listed(list, b, made, at + 1);
-    }
-    true
-}
-
-// The views of a book's record, whose open views rise: held, carrier view and client view.
-pub fn record_listed(list: &[u8], b: &[u8], made: u8) -> bool
+// The open views of a book rise, and each is listed.
+pub fn opens_known(list: &[u8], b: &[u8], made: u8) -> bool
     requires { ⌜ (viewSize * made ≤ length (now list)) × (bookSize ≤ length (now b))
-        × (isRising (viewsIn (now list) 0 made) ≡ true) × (getD (now b) opensAt 0 ≤ maxOpen)
-        × (isRising (viewsIn (now b) (opensAt + 1) (getD (now b) opensAt 0)) ≡ true) ⌝ }
-    ensures { λ r. ⌜ r ≡ recordListed (viewsIn (now (list .entry)) 0 made) (recordIn (now (b .entry))) ⌝ }
+        × (isRising (viewsIn (now list) 0 made) ≡ true) × (getD (now b) opensAt 0 ≤ maxOpen) ⌝ }
+    ensures { λ r. ⌜ r ≡ viewsKnown (viewsIn (now (list .entry)) 0 made)
+        (viewsIn (now (b .entry)) (opensAt + 1) (getD (now (b .entry)) opensAt 0)) ⌝ }
 {
-    if !view_listed(list, b, made, book_bytes::SETTLED) {
-        return false;
-    }
     let opens = b[book_bytes::OPENS] as usize;
     if 0 < opens {
-        if !views_known(list, b, made, book_bytes::OPENS + 1, opens) {
-            return false;
-        }
+        return views_known(list, b, made, book_bytes::OPENS + 1, opens);
     }
-    if !seat_listed(list, b, made, book_bytes::CARRIER) {
-        return false;
-    }
-    seat_listed(list, b, made, book_bytes::CLIENT)
+    true
 }
 
 // The views of an entry, if it is an info.

@@ -22,14 +22,18 @@ pub fn empty(set: u8) -> bool
     set == 0
 }
 
+// Bits of the number that a set is shifted in. It is wider than a set, so that a caller whose members are at most eight
+// pays for no test of their number.
+const BITS: u8 = 32;
+
 // The set has a member that is not below the number of members.
 pub fn beyond(set: u8, members: u8) -> bool
     ensures { λ r. ⌜ r ≡ isBeyond set members ⌝ }
 {
-    if limits::MEMBERS <= members {
+    if BITS <= members {
         return false;
     }
-    0 < set >> members
+    0 < set as u32 >> members
 }
 
 // The set is not empty and within n members.

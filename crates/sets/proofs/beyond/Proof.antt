@@ -1,5 +1,6 @@
 -- `sets::beyond` meets its contract: a byte is beyond no bound of eight or more, and below that a shift leaves what is beyond.
 use mathlib.Core.Path.{sym}
+use native.Mathlib.Omega.{arith}
 use borrow.Author.Needs.{needs}
 use Rattle.views.specs.Limits.{maxMembers}
 use Rattle.views.proofs.SetLaws.{beyond-past, beyond-shift}
@@ -7,7 +8,7 @@ use Rattle.sets.proofs.beyond.Statement.{statement}
 use Rattle.sets.proofs.beyond.Tie as tie
 
 returns : tie.Need-returns
-returns c = sym (beyond-past (c .before .args .set) maxMembers (c .before .args .members) (c .before .fits .set .fits) (c .if1 .taken))
+returns c = sym (beyond-past (c .before .args .set) maxMembers (c .before .args .members) (c .before .fits .set .fits) (omega (arith, c .if1 .taken)))
 
 shr-result : tie.Need-shr-result
 shr-result c = search needs
