@@ -60,7 +60,8 @@ class Calls {
   Tally& tally;
   // What calls are lent besides books and a group's ranges. Their contents are whatever the last call left.
   Lent event{"event", 64}, buffer{"buffer", 512}, length{"length", 16}, bytes{"bytes", 1 << 16}, record{"message", 256};
-  Lent steps{"steps", 4096}, answers{"answers", 8192}, count{"count", 64}, delivery{"delivery", 64};
+  Lent steps{"steps", 4096 * plain::kStepSize}, answers{"answers", 4096 * plain::kAnswerSize};
+  Lent count{"count", 64}, delivery{"delivery", 64};
 
   explicit Calls(Tally& t) : tally(t) { usual(); }
 
@@ -192,6 +193,16 @@ class Calls {
                 [&] {
                   return plain::Group(list.range(), books.range(), queues.range())
                       .run(members, first_set, steps.range(), answers.range());
+                });
+  }
+  uint32_t group_steps(Lent& list, Lent& books, Lent& queues) {
+    return both(kFnGroupSteps, {&list, &books, &queues, &steps, &answers}, {},
+                [&] {
+                  return dvs_group_steps(list.theirs(), list.size(), books.theirs(), books.size(), queues.theirs(),
+                                         queues.size(), steps.theirs(), steps.size(), answers.theirs(), answers.size());
+                },
+                [&] {
+                  return plain::Group(list.range(), books.range(), queues.range()).steps(steps.range(), answers.range());
                 });
   }
   uint32_t group_check(Lent& list, Lent& books, Lent& queues) {

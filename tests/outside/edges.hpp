@@ -125,6 +125,7 @@ class Edges {
     };
     auto calls = [&] {
       c_.group_step(list_, books_, queues_, plain::kSend, 0, 5), c_.group_step(list_, books_, queues_, 13, 255, 0);
+      c_.group_steps(list_, books_, queues_);
       c_.group_start(list_, books_, queues_, 2, 3), c_.group_start(list_, books_, queues_, 9, 0);
       c_.group_start(list_, books_, queues_, 2, 4), c_.group_check(list_, books_, queues_);
       c_.group_run(list_, books_, queues_, 9, 0), c_.group_run(list_, books_, queues_, 2, 4);
@@ -170,7 +171,8 @@ class Edges {
     }
   }
 
-  // Every length of the steps with every length of the answers: only whole records, as many of each, are taken.
+  // Every length of the steps with every length of the answers: only whole records, as many of each, are taken. A list by
+  // itself is applied to a group that is sound and to one that is not.
   void run_lengths() {
     cut(list_, 10, false), cut(books_, plain::kBooksSize, false), cut(queues_, plain::queues_size(2), false);
     for (size_t i = 0; i < 5; ++i) plain::put_step(c_.steps.mine() + plain::kStepSize * i, {plain::kSend, 0, i});
@@ -178,6 +180,7 @@ class Edges {
       for (size_t answers = 0; answers <= 4 * plain::kAnswerSize; ++answers) {
         cut(c_.steps, steps, true), cut(c_.answers, answers, true);
         c_.group_run(list_, books_, queues_, 2, steps % 2 ? 0 : 3);
+        for (uint8_t members : {2, 0, 2}) books_.poke(plain::kAtMembers, members), c_.group_steps(list_, books_, queues_);
       }
     for (uint32_t members : kWords)
       for (uint32_t set : kWords) c_.group_run(list_, books_, queues_, members, set);

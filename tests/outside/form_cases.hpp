@@ -26,17 +26,6 @@ class FormCases : LentGroup {
   }
   void create(uint32_t id, uint32_t set) { expect("create", call(DVS_STEP_CREATE, id, set), 0); }
 
-  // What the library left in the books and the queues.
-  std::vector<uint8_t> left() {
-    std::vector<uint8_t> all(books_.theirs(), books_.theirs() + books_.size());
-    all.insert(all.end(), queues_.theirs(), queues_.theirs() + queues_.size());
-    return all;
-  }
-  void put_back(const std::vector<uint8_t>& all) {
-    memcpy(books_.mine(), all.data(), books_.size()), memcpy(queues_.mine(), all.data() + books_.size(), queues_.size());
-    copy_to_theirs();
-  }
-
   // One kind of step by each server of a set, one's steps together.
   unsigned each(uint32_t kind, uint32_t id, uint32_t set, unsigned times = 1) {
     unsigned taken = 0;

@@ -128,6 +128,20 @@ inline void random_group(Random& r, plain::Range list, plain::Range books, plain
   }
 }
 
+// Some member's client view comes above its carrier view, which no steps lead to. A sound group of two views or more stays
+// sound: what the member took is cut to what the carrier view has.
+inline void raise_client(Random& r, plain::Range list, plain::Range books, plain::Range queues) {
+  unsigned made = queues.at[0], at = r.below(made - 1);
+  uint8_t* book = books.at + plain::kBookSize * r.below(books.at[plain::kAtMembers]);
+  auto put = [&](size_t place, unsigned i) { memcpy(book + place + 1, list.at + plain::kViewSize * i, plain::kViewSize); };
+  book[plain::kAtCarrier] = r.chance(800), put(plain::kAtCarrier, at);
+  book[plain::kAtClient] = 1, put(plain::kAtClient, r.between(at + 1, made - 1));
+  uint8_t &taken = book[plain::kAtTaken], &coming = book[book[plain::kAtSide] ? plain::kAtInward0 : plain::kAtInward1];
+  uint8_t most = book[plain::kAtCarrier] ? queues.at[plain::kQueuesHead + plain::kTableSize * at] : uint8_t{0};
+  if (taken > most) taken = most;
+  if (coming > taken) coming = taken;
+}
+
 // A message that could come to a book now: in its carrier view, most of the time fit for it. The views of an info are
 // the book's own with others, some of them with another set.
 inline plain::Message random_message(Random& r, const uint8_t* book) {

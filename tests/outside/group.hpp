@@ -1,5 +1,5 @@
-// The whole group in three lent ranges of any bytes and any length: start, and one step of any kind and operands. A
-// member's book is loaded and stored; the carrier's queues are changed where they stand.
+// The whole group in three lent ranges of any bytes and any length: start, one step of any kind and operands, and a list of
+// steps, after a start or by itself. A member's book is loaded and stored; the carrier's queues are changed in place.
 #pragma once
 
 #include "alone.hpp"
@@ -166,6 +166,22 @@ class Group {
     }
   }
 
+  // Whole records of both, as many answers as steps.
+  static bool paired(Range steps, Range answers) {
+    size_t count = steps.size / kStepSize;
+    return steps.size == count * kStepSize && answers.size == count * kAnswerSize;
+  }
+
+  // Every step in turn with its answer: its number, and its event or 16 times 0.
+  void answer_each(Range steps, Range answers) {
+    for (size_t i = 0; i < steps.size / kStepSize; ++i) {
+      StepRecord asked = get_step(steps.at + kStepSize * i);
+      uint8_t* answer = answers.at + kAnswerSize * i;
+      memset(answer, 0, kAnswerSize);
+      answer[0] = static_cast<uint8_t>(step(asked.kind, asked.first, asked.second, Range{answer + 1, kEventSize}));
+    }
+  }
+
  public:
   Group(Range list, Range books, Range queues) : list_(list), books_(books), queues_(queues) {}
 
@@ -200,17 +216,18 @@ class Group {
     return r;
   }
 
-  // A start, then every step with its answer: its number, and its event or 16 times 0.
+  // A list of steps after a start.
   Refusal run(uint32_t members, uint32_t first_set, Range steps, Range answers) {
-    size_t count = steps.size / kStepSize;
-    if (steps.size != count * kStepSize || answers.size != count * kAnswerSize) return kRecordsUnsound;
+    if (!paired(steps, answers)) return kRecordsUnsound;
     if (Refusal r = start(members, first_set)) return r;
-    for (size_t i = 0; i < count; ++i) {
-      StepRecord asked = get_step(steps.at + kStepSize * i);
-      uint8_t* answer = answers.at + kAnswerSize * i;
-      memset(answer, 0, kAnswerSize);
-      answer[0] = static_cast<uint8_t>(step(asked.kind, asked.first, asked.second, Range{answer + 1, kEventSize}));
-    }
+    answer_each(steps, answers);
+    return kAccepted;
+  }
+
+  // A list of steps by itself. Each checks for 4 again: on made-up records a step can leave what is not sound.
+  Refusal steps(Range steps, Range answers) {
+    if (!paired(steps, answers) || !sound()) return kRecordsUnsound;
+    answer_each(steps, answers);
     return kAccepted;
   }
 

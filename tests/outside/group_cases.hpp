@@ -1,5 +1,5 @@
 // Cases of the whole group: histories from a start, and groups that no steps need have left; both are damaged now and
-// then. A history that was not damaged is put to the third implementation too.
+// then, and some of their steps are made as lists. A history that was not damaged is made by the third implementation too.
 #pragma once
 
 #include "damage.hpp"
@@ -11,7 +11,7 @@ namespace outside {
 class GroupCases : LentGroup {
   // One step of a kind, with operands that fit more often than not.
   uint32_t step(Random& r, unsigned kind, bool wide) {
-    uint32_t first = r.below(members() <= 8 ? members() : 8);
+    uint32_t first = r.below(some_members());
     uint64_t second = 0;
     if (kind == plain::kCreate) {
       uint64_t id = newest().id + uint64_t{1} + (r.chance(800) ? 0 : r.below(1000));
@@ -43,14 +43,14 @@ class GroupCases : LentGroup {
 
   // What is outgoing anywhere is passed, ordered and taken by all, as far as a few steps of each member go.
   void flow(Random& r) {
-    for (unsigned p = 0; p < members(); ++p) {
+    for (unsigned p = 0; p < some_members(); ++p) {
       while (r.chance(800) && call(plain::kPass, p, 0) == plain::kAccepted) {
       }
       View carrier = plain::get_view(books_.mine() + plain::kBookSize * p + plain::kAtCarrier + 1);
       while (r.chance(900) && call(plain::kOrder, p, carrier.id) == plain::kAccepted) {
       }
     }
-    for (unsigned p = 0; p < members(); ++p)
+    for (unsigned p = 0; p < some_members(); ++p)
       while (r.chance(950) && call(plain::kDeliver, p, 0) == plain::kAccepted) {
       }
   }
@@ -61,8 +61,8 @@ class GroupCases : LentGroup {
                                      plain::kRegister, plain::kHand, plain::kTell,    plain::kSafe,
                                      plain::kCollect};
     uint32_t kind = r.one_of(kinds);
-    for (unsigned p = 0; p < members(); ++p)
-      if (r.chance(950)) call(kind, p, kind == plain::kJoin ? view(made() - 1).id : 0);
+    for (unsigned p = 0; p < some_members(); ++p)
+      if (r.chance(950)) call(kind, p, kind == plain::kJoin ? newest().id : 0);
   }
 
   // The driver, most often of the newest view, which most often is made first.
@@ -72,7 +72,21 @@ class GroupCases : LentGroup {
     return form(id);
   }
 
-  // A few bytes changed, a step made; a refused step's damage is taken back.
+  // A list of any steps; now and then some member joins its own client view, which a carrier view below it lets it do.
+  uint32_t some_list(Random& r, bool wide) {
+    return as_list(r, [&] {
+      if (r.chance(200)) together(r), flow(r);
+      for (unsigned n = r.chance(50) ? 0 : r.between(1, 30); n > 0; --n) {
+        uint32_t p = r.below(some_members());
+        const uint8_t* client = books_.mine() + plain::kBookSize * p + plain::kAtClient + 1;
+        if (r.chance(100)) call(plain::kJoin, p, plain::get_view(client).id);
+        else if (r.chance(10)) call(r.chance(500) ? r.below(2) * 13 : r.byte(), r.odd_word(), r.odd_long());
+        else step(r, r.between(1, 12), wide);
+      }
+    });
+  }
+
+  // A few bytes changed, a step or a list made; a refused one's damage is taken back.
   void damaged(Random& r) {
     struct { Lent* lent; size_t at; uint8_t was; } changes[8];
     unsigned count = 0;
@@ -103,6 +117,7 @@ class GroupCases : LentGroup {
     clean_ = false;
     uint32_t answer = r.chance(50)    ? call(r.odd_word(), r.odd_word(), r.odd_long())
                       : r.chance(100) ? form(newest().id)
+                      : r.chance(100) ? some_list(r, true)
                                       : step(r, r.between(1, 12), true);
     if (answer == plain::kAccepted) return;
     clean_ = was_clean;
@@ -140,6 +155,7 @@ class GroupCases : LentGroup {
       if (r.chance(60)) together(r);
       if (r.chance(40)) damaged(r);
       if (r.chance(10)) some_form(r, wide);
+      if (r.chance(15)) some_list(r, wide);
       if (r.chance(5)) call(r.chance(500) ? r.below(2) * 13 : r.odd_word(), r.odd_word(), r.odd_long());
     }
   }
@@ -149,8 +165,10 @@ class GroupCases : LentGroup {
     lend(r, some_room(r));
     clean_ = false;
     random_group(r, list_.range(), books_.range(), queues_.range());
+    if (made() > 1 && r.chance(500)) raise_client(r, list_.range(), books_.range(), queues_.range());
     copy_to_theirs();
     for (unsigned n = r.between(10, 60); n > 0; --n) {
+      if (r.chance(200)) some_list(r, true);
       if (step(r, r.between(1, 12), true) == plain::kRecordsUnsound) return;
       if (r.chance(500)) damaged(r);
       if (r.chance(50)) some_form(r, true);

@@ -90,6 +90,7 @@ class Huge {
   void group() {
     size_t books_size = plain::kBooksSize, queues_size = plain::queues_size(2);
     uint8_t list[10], event[plain::kEventSize], count[plain::kLengthSize] = {};
+    uint8_t step[plain::kStepSize] = {}, answer[plain::kAnswerSize];
     Lent books("books", books_size), queues("queues", queues_size);
     books.resize(books_size, kBack), queues.resize(queues_size, kBack);
     uint8_t *b = books.theirs(), *q = queues.theirs();
@@ -98,24 +99,28 @@ class Huge {
     for (size_t far : {kFar * 5 + 10, kFar + 4 + 10}) {
       expect("dvs_group_step", dvs_group_step(at_, far, b, books_size, q, queues_size, 8, 0, 5, event, 16), 4);
       expect("dvs_group_form", dvs_group_form(at_, far, b, books_size, q, queues_size, 0, count, 4), 4);
+      expect("dvs_group_steps", dvs_group_steps(at_, far, b, books_size, q, queues_size, step, 13, answer, 17), 4);
       expect("dvs_group_start", dvs_group_start(at_, far, b, books_size, q, queues_size, 2, 3), 3);
       expect("dvs_group_start", dvs_group_start(at_, far + 1, b, books_size, q, queues_size, 2, 3), 4);
     }
     lend(b, books_size);
     expect("dvs_group_step", dvs_group_step(list, 10, at_, kFar + books_size, q, queues_size, 8, 0, 5, event, 16), 4);
     expect("dvs_group_form", dvs_group_form(list, 10, at_, kFar + books_size, q, queues_size, 0, count, 4), 4);
+    expect("dvs_group_steps", dvs_group_steps(list, 10, at_, kFar + books_size, q, queues_size, step, 13, answer, 17), 4);
     expect("dvs_group_start", dvs_group_start(list, 10, at_, kFar + books_size, q, queues_size, 2, 3), 4);
     lend(q, queues_size);
     expect("dvs_group_step", dvs_group_step(list, 10, b, books_size, at_, kFar + queues_size, 8, 0, 5, event, 16), 4);
     expect("dvs_group_form", dvs_group_form(list, 10, b, books_size, at_, kFar + queues_size, 0, count, 4), 4);
+    expect("dvs_group_steps", dvs_group_steps(list, 10, b, books_size, at_, kFar + queues_size, step, 13, answer, 17), 4);
+    expect("dvs_group_steps", dvs_group_steps(list, 10, b, books_size, q, queues_size, step, 13, at_, kFar + 17), 4);
     expect("dvs_group_form", dvs_group_form(list, 10, b, books_size, q, queues_size, 0, at_, kFar + 4), 4);
     expect("dvs_group_start", dvs_group_start(list, 10, b, books_size, at_, kFar + queues_size, 2, 3), 4);
     expect("dvs_group_step", dvs_group_step(list, 10, b, books_size, q, queues_size, 8, 0, 5, at_, kFar + 16), 4);
     expect("dvs_group_check", dvs_group_check(list, 10, b, books_size, at_, kFar + queues_size), 4);
     // 330382100 steps of 13 bytes are 4 bytes more than 32 bits hold; the answers are one record.
-    uint8_t answer[plain::kAnswerSize];
     size_t steps = plain::kStepSize * ((kFar + plain::kStepSize) / plain::kStepSize);
     expect("dvs_group_run", dvs_group_run(list, 10, b, books_size, q, queues_size, 2, 3, at_, steps, answer, sizeof answer), 4);
+    expect("dvs_group_steps", dvs_group_steps(list, 10, b, books_size, q, queues_size, at_, steps, answer, sizeof answer), 4);
   }
 
  public:

@@ -3,6 +3,7 @@
 #pragma once
 
 #include <memory>
+#include <vector>
 
 #include "../reference/reference_group.hpp"
 #include "calls.hpp"
@@ -14,6 +15,28 @@ using plain::View;
 
 class LentGroup {
   unsigned calls_ = 0;
+
+  // The steps of a list while they are made one by one, and the answers that the list must have.
+  bool listing_ = false;
+  std::vector<uint8_t> listed_, answered_;
+
+  // Whether some member of a sound group has a client view, and no carrier view or a lower one.
+  bool client_above() {
+    for (unsigned p = 0; p < members(); ++p) {
+      const uint8_t* book = books_.mine() + plain::kBookSize * p;
+      View carrier = plain::get_view(book + plain::kAtCarrier + 1), client = plain::get_view(book + plain::kAtClient + 1);
+      if (book[plain::kAtClient] && (!book[plain::kAtCarrier] || client.id > carrier.id)) return true;
+    }
+    return false;
+  }
+
+  void note(const plain::StepRecord& step, uint32_t answer) {
+    uint8_t record[plain::kStepSize], shown[plain::kAnswerSize] = {static_cast<uint8_t>(answer)};
+    plain::put_step(record, step);
+    if (answer == plain::kAccepted) memcpy(shown + 1, c_.event.theirs(), plain::kEventSize);
+    listed_.insert(listed_.end(), record, record + sizeof record);
+    answered_.insert(answered_.end(), shown, shown + sizeof shown);
+  }
 
   // The event that the third implementation showed, as bytes.
   static void store_third(const reference::Reply& reply, uint8_t* event) {
@@ -42,6 +65,8 @@ class LentGroup {
 
   size_t room() const { return list_.size() / plain::kViewSize; }
   unsigned members() { return books_.mine()[plain::kAtMembers]; }
+  // As many as there are books for, if the bytes have a larger number.
+  unsigned some_members() { return members() <= plain::kMembers ? members() : plain::kMembers; }
   unsigned made() { return queues_.mine()[0]; }
   View view(unsigned i) { return plain::get_view(list_.mine() + plain::kViewSize * i); }
   // The last view made, or the first where the bytes have no such number.
@@ -67,9 +92,22 @@ class LentGroup {
     return r.chance(800) ? r.between(5, 9) : r.between(10, 32);
   }
 
+  // What the library left in the three ranges.
+  std::vector<uint8_t> left() {
+    std::vector<uint8_t> all;
+    for (Lent* lent : {&list_, &books_, &queues_}) all.insert(all.end(), lent->theirs(), lent->theirs() + lent->size());
+    return all;
+  }
+  void put_back(const std::vector<uint8_t>& all) {
+    const uint8_t* from = all.data();
+    for (Lent* lent : {&list_, &books_, &queues_}) memcpy(lent->mine(), from, lent->size()), from += lent->size();
+    copy_to_theirs();
+  }
+
   uint32_t call(uint32_t kind, uint32_t first, uint64_t second) {
     if (++calls_ % 4 == 0) c_.group_check(list_, books_, queues_);
     uint32_t answer = c_.group_step(list_, books_, queues_, kind, first, second);
+    if (listing_ && kind <= 255) note({static_cast<uint8_t>(kind), first, second}, answer);
     if (!clean_ || kind > 255) return answer;
     reference::Reply reply = third_->step(static_cast<uint8_t>(kind), first, second);
     uint8_t event[plain::kEventSize];
@@ -77,6 +115,32 @@ class LentGroup {
     bool same_event = answer != plain::kAccepted || memcmp(event, c_.event.mine(), sizeof event) == 0;
     if (reply.refusal == answer && same_event) return answer;
     third_differs(kind, first, second, reply.refusal, answer);
+  }
+
+  // The steps that `make` makes one by one, made once more by one list on what they began with: it leaves the same bytes and
+  // gives the same answers. A refused list is one whose every step is refused with 4.
+  template <class Make>
+  uint32_t as_list(Random& r, Make make) {
+    const std::vector<uint8_t> before = left();
+    listed_.clear(), answered_.clear();
+    listing_ = true, make(), listing_ = false;
+    const std::vector<uint8_t> after = left();
+    put_back(before);
+    size_t count = listed_.size() / plain::kStepSize;
+    c_.steps.set(listed_.data(), listed_.size(), r.chance(500) ? kFront : kBack);
+    c_.answers.resize(plain::kAnswerSize * count, r.chance(500) ? kFront : kBack);
+    r.fill(c_.answers.mine(), c_.answers.size()), c_.answers.copy_to_theirs();
+    bool above = members() <= plain::kMembers && client_above();
+    uint32_t answer = c_.group_steps(list_, books_, queues_);
+    bool same = left() == after;
+    for (size_t i = 0; i < answered_.size(); ++i)
+      same = same && (answer == plain::kAccepted ? c_.answers.theirs()[i] == answered_[i]
+                                                 : answered_[i] == (i % plain::kAnswerSize ? 0 : answer));
+    if (above && answer == plain::kAccepted)
+      c_.tally.count_above(count > 0 && answered_[plain::kAnswerSize * (count - 1)] == plain::kRecordsUnsound);
+    if (same) return answer;
+    printf("\nDIFFERENCE in dvs_group_steps, %zu steps: answers or ranges are not those of dvs_group_step\n", count);
+    c_.tally.say_again();
   }
 
   // The driver.

@@ -13,6 +13,7 @@
 #include "form_refusals.hpp"
 #include "group_cases.hpp"
 #include "huge.hpp"
+#include "list_cases.hpp"
 #include "member_cases.hpp"
 #include "message_cases.hpp"
 #include "packet_cases.hpp"
@@ -76,7 +77,8 @@ class Test {
   int run_short(uint64_t seed) {
     if (!guards_work()) return printf("the pages beside a lent range can be touched\n"), 1;
     if (!library_agrees()) return 1;
-    if (!Papers(calls_).run() || !forms_.run() || !FormRefusals(calls_).run() || !packets_.run()) return 1;
+    if (!Papers(calls_).run() || !forms_.run() || !FormRefusals(calls_).run() || !packets_.run() || !ListCases(calls_).run())
+      return 1;
     for (uint64_t number = 0; number < kShortCases; ++number) run_case(seed, number);
     Random r(seed);
     messages_.every(r);

@@ -21,7 +21,7 @@ namespace outside {
 #endif
 
 class Stack {
-  // What the header says is enough, of the driver and of any other call.
+  // What the header says is enough: of the driver on made-up ranges, and of any other call.
   static constexpr size_t kDriver = 88 << 10, kOther = 8 << 10;
   static constexpr size_t kSize = 256 << 10;
   static constexpr uint8_t kPaint = 0xa5;
@@ -54,8 +54,8 @@ class Stack {
     return dvs_group_step(list_.data(), list_.size(), books_.data(), books_.size(), queues_.data(), queues_.size(), kind, first, second, event_,
                           sizeof event_);
   }
-  void form(uint32_t view) {
-    measure(driver_, [&] {
+  void form(size_t& deepest, uint32_t view) {
+    measure(deepest, [&] {
       dvs_group_form(list_.data(), list_.size(), books_.data(), books_.size(), queues_.data(), queues_.size(), view, length_, sizeof length_);
     });
   }
@@ -66,17 +66,23 @@ class Stack {
     auto range = [](std::vector<uint8_t>& bytes) { return plain::Range{bytes.data(), bytes.size()}; };
     random_group(r, range(list_), range(books_), range(queues_), true);
     uint32_t newest = dvs_view_identifier(&list_[DVS_VIEW_SIZE * (queues_[0] - 1u)]);
-    form(newest);
+    form(driver_, newest);
     for (uint32_t p = 0; p < books_[0]; ++p)
       for (uint32_t kind = 2; kind <= 12; ++kind) measure(other_, [&] { step(kind, p, newest); });
     measure(other_, [&] { step(1, newest + 1, 1); });
     measure(other_, [&] { dvs_group_check(list_.data(), list_.size(), books_.data(), books_.size(), queues_.data(), queues_.size()); });
     std::vector<uint8_t> steps(12 * DVS_STEP_SIZE), answers(12 * DVS_ANSWER_SIZE);
     for (uint8_t kind = 1; kind <= 12; ++kind) plain::put_step(&steps[DVS_STEP_SIZE * (kind - 1u)], {kind, kind % 3u, 1});
+    auto listed = [&] {
+      dvs_group_steps(list_.data(), list_.size(), books_.data(), books_.size(), queues_.data(), queues_.size(), steps.data(), steps.size(),
+                      answers.data(), answers.size());
+    };
+    measure(other_, listed);
     measure(other_, [&] {
       dvs_group_run(list_.data(), list_.size(), books_.data(), books_.size(), queues_.data(), queues_.size(), 8, 255, steps.data(), steps.size(),
                     answers.data(), answers.size());
     });
+    measure(other_, listed);
   }
 
   // Every call on a book.
@@ -102,11 +108,11 @@ class Stack {
     measure(other_, [&] { dvs_start(b, size, 8, 255, 7); });
   }
 
-  // Eight servers, and as many views formed as there is room for.
+  // Eight members, and as many views formed as there is room for: on ranges that calls lead to the driver keeps nothing.
   void forms() {
     lend(DVS_VIEWS);
     measure(other_, [&] { dvs_group_start(list_.data(), list_.size(), books_.data(), books_.size(), queues_.data(), queues_.size(), 8, 255); });
-    for (uint32_t id = 1; id < DVS_VIEWS; ++id) step(DVS_STEP_CREATE, id, 255), form(id);
+    for (uint32_t id = 1; id < DVS_VIEWS; ++id) step(DVS_STEP_CREATE, id, 255), form(other_, id);
   }
 
  public:
@@ -120,7 +126,7 @@ class Stack {
       group(r), member(r);
     }
     forms();
-    printf("%zu bytes of stack at most, %zu in dvs_group_form\n", other_, driver_);
+    printf("%zu bytes of stack at most, %zu in dvs_group_form on made-up ranges\n", other_, driver_);
     if (other_ <= kOther && driver_ <= kDriver) return true;
     printf("DIFFERENCE with include/dvs.h, which says less\n");
     return false;

@@ -28,8 +28,9 @@ static_assert(named_in_order() && sizeof kNamed / sizeof kNamed[0] == kAnswers, 
 enum Function : unsigned {
   kFnStart, kFnJoin, kFnPass, kFnDeliver, kFnPacket, kFnPacketNone, kFnPacketSome, kFnAttempt, kFnRegister, kFnSend,
   kFnHand, kFnTell, kFnSafe, kFnCollect, kFnCheck, kFnReadFront, kFnRead, kFnWrite, kFnGroupStart, kFnGroupForm,
-  kFnGroupRun, kFnGroupCheck, kFnStepOther, kFnStepCreate, kFnStepJoin, kFnStepPass, kFnStepOrder, kFnStepDeliver, kFnStepAttempt, kFnStepRegister, kFnStepSend, kFnStepHand, kFnStepTell,
-  kFnStepSafe, kFnStepCollect, kFunctions
+  kFnGroupRun, kFnGroupSteps, kFnGroupCheck, kFnStepOther, kFnStepCreate, kFnStepJoin, kFnStepPass, kFnStepOrder,
+  kFnStepDeliver, kFnStepAttempt, kFnStepRegister, kFnStepSend, kFnStepHand, kFnStepTell, kFnStepSafe, kFnStepCollect,
+  kFunctions
 };
 
 struct Promise {
@@ -64,6 +65,7 @@ constexpr Promise kPromises[kFunctions] = {
     {"dvs_group_start", true, "4 1 2 3"},
     {"dvs_group_form", true, "4 10 44 45 15 16 19 20 21 30 31"},
     {"dvs_group_run", true, "4 1 2 3"},
+    {"dvs_group_steps", true, "4"},
     {"dvs_group_check", true, "4"},
     {"dvs_group_step ?", false, "4 5"},
     {"dvs_group_step create", true, "4 7 8 9"},
@@ -83,12 +85,16 @@ constexpr Promise kPromises[kFunctions] = {
 class Tally {
   uint64_t seen_[kFunctions][kAnswers] = {};
   uint64_t bytes_ = 0;
+  uint64_t lists_above_ = 0, lists_unsound_ = 0;
 
  public:
   uint64_t seed = 0, number = 0;  // of the case that runs
   bool verbose = false;
 
   void count(Function f, uint32_t answer, uint64_t bytes) { ++seen_[f][answer], bytes_ += bytes; }
+  // A random list of steps for a sound group with a client view above its carrier view. Only such a group can become
+  // unsound.
+  void count_above(bool unsound) { ++lists_above_, lists_unsound_ += unsound; }
 
   // After a difference: how to see it once more.
   [[noreturn]] void say_again() const {
@@ -109,7 +115,8 @@ class Tally {
   }
   uint64_t bytes() const { return bytes_; }
 
-  // Prints the table. False if an answer that the header names was never seen, or another was.
+  // Prints the table. False if an answer that the header names was never seen, or another was, or no list left a group
+  // unsound before its last step.
   bool print() const {
     bool whole = true;
     printf("%-24s %10s %10s  refusals seen, each with its number of times\n", "function", "calls", "accepted");
@@ -132,7 +139,10 @@ class Tally {
       }
       printf("\n");
     }
-    return whole;
+    printf("%" PRIu64 " random lists of steps for a sound group with a client view above its carrier view; %" PRIu64
+           " of them left it unsound before their last step%s\n",
+           lists_above_, lists_unsound_, lists_unsound_ ? "" : "  NEVER SEEN");
+    return whole && lists_unsound_ > 0;
   }
 };
 

@@ -32,6 +32,7 @@ FULL = "if (in_step() && outgoings == kOutgoing) return kOutgoingFull;"
 FRESH = "if (newest().id != id || joined(id)) return kViewNotFresh;"
 TRIED = "if (Refusal r = tried.step(s.kind, s.first, s.second, Range{event, kEventSize})) return r;"
 COUNTED = "put(count.at, kLengthSize, steps(newest()).size());"
+LISTED = "if (!paired(steps, answers) || !sound()) return kRecordsUnsound;"
 PRUNED = "      prune(views, count, now);\n"
 JOINED = "for (unsigned i = 1; i < m.count; ++i) open_view(views, count, now, m.views[i]);\n"
 READ_ONE = "  if (Refusal r = read_front(bytes, size, m, taken)) return r;\n  return taken == size ? kAccepted : kBytesLeftOver;"
@@ -212,9 +213,12 @@ CHANGES = {
         ("view(i).id != id", "view(i).id != static_cast<uint32_t>(id)"),
         ("to.push(m_.outgoing[0]);", "m_.outgoing[0].bytes[170] = 0, to.push(m_.outgoing[0]);"),
         ("event.size != kEventSize || !sound()", "event.size != kEventSize"),
-        gone("steps.size != count * kStepSize || "),
-        ("answers.size != count * kAnswerSize", "answers.size < count * kAnswerSize"),
+        gone("steps.size == count * kStepSize && "),
+        ("answers.size == count * kAnswerSize", "answers.size >= count * kAnswerSize"),
         gone("memset(answer, 0, kAnswerSize);"),
+        gone("if (!paired(steps, answers)) return kRecordsUnsound;"),
+        (LISTED, "if (!sound()) return kRecordsUnsound;"),
+        (LISTED, "if (!paired(steps, answers)) return kRecordsUnsound;"),
         ("return sound() ? kAccepted : kRecordsUnsound;", "return lengths() ? kAccepted : kRecordsUnsound;"),
     ],
     "driver.hpp": [

@@ -12,8 +12,8 @@ try() { # function fault range
   # The braces keep the shell's own word about a signal away.
   { WRONG_FUNCTION=$1 WRONG_FAULT=$2 WRONG_RANGE=$3 "$program" short 1 > "$program.log" 2>&1; } 2> /dev/null
   local status=$?
-  # A write outside is stopped by a signal; any other fault is printed, of the function that has it.
-  if [ "$2" = outside ] && [ $status -gt 128 ] || grep -q "^DIFFERENCE in $1" "$program.log"; then
+  # A write outside is stopped by a signal; any other fault is printed, of the function that has it and of no longer name.
+  if [ "$2" = outside ] && [ $status -gt 128 ] || grep -qw "^DIFFERENCE in $1" "$program.log"; then
     reported=$((reported + 1))
   else
     echo "NOT REPORTED: $1 $2 in range $3 (status $status)"
@@ -34,7 +34,7 @@ while read -r function ranges; do
     for fault in accepted refused outside; do try "$function" $fault "$range"; done
   done
 done < <(functions)
-# Other drivers, packets, deliveries and fronts: the right one passes as the library's does, and of each other one it is seen what is wrong with it.
+# Other drivers, lists of steps, packets, deliveries and fronts: the right one passes as the library's does, and of each other one it is seen what is wrong with it.
 while read -r function fault; do
   if [ "${fault#*-}" != right ]; then
     try "$function" "$fault" 0
@@ -43,6 +43,6 @@ while read -r function fault; do
     failed=1
   fi
 done < <(sed -nE 's|^//   (driver-[a-z0-9-]+) .*|dvs_group_form \1|p' tests/strength/wrong_driver.hpp
-         sed -nE 's|^//   (dvs_[a-z_]+): ([a-z0-9-]+) .*|\1 \2|p' tests/strength/wrong_packet.hpp)
+         sed -nE 's|^//   (dvs_[a-z_]+): ([a-z0-9-]+) .*|\1 \2|p' tests/strength/wrong_list.hpp tests/strength/wrong_packet.hpp)
 echo "$reported faults reported"
 [ $reported -gt 0 ] && exit $failed

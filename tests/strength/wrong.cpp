@@ -6,14 +6,15 @@
 //                    outside: an accepted call writes beside a range
 //   WRONG_RANGE      which of its lent ranges, from 0
 //
-// Only the tenth call that could show the fault has it. The driver, packets, one message delivered and the reader's front have faults of their own, in
-// every call: wrong_driver.hpp, wrong_packet.hpp.
+// Only the tenth call that could show the fault has it. The driver, lists of steps, packets, one message delivered and the reader's front have faults
+// of their own, in every call: wrong_driver.hpp, wrong_list.hpp, wrong_packet.hpp.
 #include <cstdlib>
 #include <cstring>
 #include <initializer_list>
 
 #include "../../include/dvs.h"
 #include "wrong_driver.hpp"
+#include "wrong_list.hpp"
 #include "wrong_packet.hpp"
 
 namespace {
@@ -67,6 +68,7 @@ uint32_t spoil(const char* name, uint32_t answer, std::initializer_list<Range> r
 #define EVENT uint8_t *event, size_t event_size
 #define THREE uint8_t *list, size_t list_size, uint8_t *books, size_t books_size, uint8_t *queues, size_t queues_size
 #define CONST_THREE const uint8_t *list, size_t list_size, const uint8_t *books, size_t books_size, const uint8_t *queues, size_t queues_size
+#define LISTS const uint8_t *steps, size_t steps_size, uint8_t *answers, size_t answers_size
 #define IN(NAME) Range { NAME, NAME##_size }
 // What is only read: such a call has a fault in its answer alone.
 #define READ(NAME) Range { nullptr, NAME##_size }
@@ -123,9 +125,19 @@ extern "C" uint32_t __wrap_dvs_group_form(THREE, uint32_t v, uint8_t* count, siz
   uint32_t answer = __real_dvs_group_form(list, list_size, books, books_size, queues, queues_size, v, count, count_size);
   return spoil("dvs_group_form", answer, {IN(list), IN(books), IN(queues), IN(count)});
 }
-WRAP(dvs_group_run, (THREE, uint32_t m, uint32_t s, const uint8_t* steps, size_t steps_size, uint8_t* answers, size_t answers_size),
+WRAP(dvs_group_run, (THREE, uint32_t m, uint32_t s, LISTS),
      (list, list_size, books, books_size, queues, queues_size, m, s, steps, steps_size, answers, answers_size), IN(list), IN(books), IN(queues),
      IN(answers))
+// A list of steps, or a wrong one in its place.
+extern "C" uint32_t __real_dvs_group_steps(THREE, LISTS);
+extern "C" uint32_t __wrap_dvs_group_steps(THREE, LISTS);
+extern "C" uint32_t __wrap_dvs_group_steps(THREE, LISTS) {
+  if (has_fault("dvs_group_steps", "list-"))
+    return WrongList{fault, list, books, queues, list_size, books_size, queues_size}.steps(steps, steps_size, answers, answers_size);
+  uint32_t answer =
+      __real_dvs_group_steps(list, list_size, books, books_size, queues, queues_size, steps, steps_size, answers, answers_size);
+  return spoil("dvs_group_steps", answer, {IN(list), IN(books), IN(queues), IN(answers)});
+}
 WRAP(dvs_check, (const uint8_t* book, size_t book_size), (book, book_size), READ(book))
 WRAP(dvs_group_check, (CONST_THREE), (list, list_size, books, books_size, queues, queues_size), READ(list))
 WRAP_NUMBER(uint32_t, dvs_version, (void), ())
