@@ -1,5 +1,5 @@
-/* The C header in a C99 program: a book, its event read by the header's readers, a packet, a view formed, and what a shared object answers where one
- * is linked. */
+/* The C header in a C99 program: a book, its event read by the header's readers, a packet, a view formed, a list of steps, and what a shared object
+ * answers where one is linked. */
 #include <dvs.h>
 
 #ifdef SHARED
@@ -40,6 +40,15 @@ int main(void) {
   if (dvs_group_step(list, sizeof list, books, sizeof books, queues, sizeof queues, DVS_STEP_CREATE, 258, 6, event, sizeof event) != DVS_ACCEPTED) return 20;
   if (dvs_group_form(list, sizeof list, books, sizeof books, queues, sizeof queues, 258, count, sizeof count) != DVS_ACCEPTED) return 21;
   if (dvs_length(count) != 24 || dvs_view_identifier(books + DVS_BOOK_SIZE + DVS_BOOK_SETTLED) != 258) return 22;
+  /* Member 1 sends 9, and has nothing to hand. */
+  static const uint8_t steps[2 * DVS_STEP_SIZE] = {DVS_STEP_SEND, 0, 0, 0, 1, 0, 0, 0, 0, 0, 0, 0, 9, DVS_STEP_HAND, 0, 0, 0, 1};
+  static uint8_t answers[2 * DVS_ANSWER_SIZE];
+  const uint8_t *const sent = dvs_answer_event(answers, 0), *const handed = dvs_answer_event(answers, 1);
+  if (dvs_group_steps(list, sizeof list, books, sizeof books, queues, sizeof queues, steps, sizeof steps, answers, 0) != DVS_REFUSED_RECORDS_UNSOUND) return 30;
+  if (dvs_group_steps(list, sizeof list, books, sizeof books, queues, sizeof queues, steps, 0, answers, 0) != DVS_ACCEPTED || dvs_event_kind(sent)) return 31;
+  if (dvs_group_steps(list, sizeof list, books, sizeof books, queues, sizeof queues, steps, sizeof steps, answers, sizeof answers) != DVS_ACCEPTED) return 32;
+  if (dvs_answer_number(answers, 0) != DVS_ACCEPTED || dvs_event_view(sent) != 258 || dvs_event_entry(sent) != 9) return 33;
+  if (dvs_answer_number(answers, 1) != DVS_REFUSED_NONE_TO_HAND || dvs_event_kind(handed) != 0) return 34;
 #ifdef SHARED
   if (in_a_shared_object(book) != DVS_VERSION) return 17;
 #endif

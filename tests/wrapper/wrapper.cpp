@@ -288,7 +288,12 @@ void entries() {
   EXPECT(here.collect().refusal() == Refusal::not_above_settled);
 }
 
-// The specification's whole case, with safe added, by a group on lent memory.
+template <std::size_t Views>
+bool same(const dvs::GroupMemory<Views> &one, const dvs::GroupMemory<Views> &other) {
+  return one.list == other.list && one.books == other.books && one.queues == other.queues;
+}
+
+// The specification's whole case, with safe added, by a group on lent memory; a run, and lists of steps.
 void groups() {
   static dvs::GroupMemory<2> memory;
   dvs::Group group(memory);
@@ -339,6 +344,24 @@ void groups() {
   EXPECT((answer(1) == dvs::Answer{Refusal::none_to_hand, {}} && answer(2) == dvs::Answer{Refusal::unknown_step, {}}));
   EXPECT(dvs_answer_number(answers.data(), 1) == 25 && dvs_event_entry(dvs_answer_event(answers.data(), 0)) == 6);
 
+  // The same list on what the run left: member 1 has two outgoing then. No step is a list too; lists that do not pair and a faulty group change nothing.
+  static dvs::GroupMemory<2> before;
+  before = memory;
+  const auto untouched = [&] { return same(memory, before) && std::all_of(answers.begin(), answers.end(), [](std::uint8_t byte) { return byte == 77; }); };
+  answers.fill(77);
+  EXPECT(group.steps(steps, dvs::MutableBytes(answers.data(), answers.size() - 1)).refusal() == Refusal::records_unsound && untouched());
+  EXPECT(group.steps(dvs::Bytes(steps.data(), steps.size() - 1), answers).refusal() == Refusal::records_unsound && untouched());
+  EXPECT(group.steps(dvs::Bytes(), answers).refusal() == Refusal::records_unsound && untouched());
+  EXPECT(group.steps(dvs::Bytes(), dvs::MutableBytes()).accepted() && untouched());
+  EXPECT(group.look(Member{1}).outgoing() == 1 && group.steps(steps, answers).accepted() && group.look(Member{1}).outgoing() == 2);
+  EXPECT((answer(0) == dvs::Answer{Refusal::none, {dvs::EventKind::sent, Member{1}, Identifier{0}, Set{}, Member{}, 6}}));
+  EXPECT((answer(1) == dvs::Answer{Refusal::none_to_hand, {}} && answer(2) == dvs::Answer{Refusal::unknown_step, {}}));
+  memory.queues[DVS_QUEUES_MADE] = 3;
+  before = memory;
+  answers.fill(77);
+  EXPECT(group.steps(steps, answers).refusal() == Refusal::records_unsound && untouched());
+  EXPECT(group.steps(dvs::Bytes(), dvs::MutableBytes()).refusal() == Refusal::records_unsound);
+
   std::vector<std::uint8_t> list(DVS_LIST_SIZE(33)), rest(DVS_BOOKS_SIZE), queues(DVS_QUEUES_SIZE(33));
   EXPECT(dvs::Group(list, rest, queues).start(2, Set{3}).refusal() == Refusal::list_length);
 }
@@ -353,10 +376,9 @@ static_assert(dvs::FormedEvents({Identifier{1}, Set::below(32)}).size() == 2 * D
 void forms() {
   static dvs::GroupMemory<4> memory, before;
   dvs::Group group(memory), by_hand(before);
-  const auto same = [&] { return memory.list == before.list && memory.books == before.books && memory.queues == before.queues; };
   const auto refused = [&](std::uint32_t view, Refusal refusal) {
     before = memory;
-    return group.form(Identifier{view}).refusal() == refusal && same();
+    return group.form(Identifier{view}).refusal() == refusal && same(memory, before);
   };
   EXPECT(refused(0, Refusal::records_unsound) && group.start(3, Set{7}).accepted());
   EXPECT(refused(0, Refusal::view_not_fresh) && refused(1, Refusal::no_such_view));
@@ -386,7 +408,7 @@ void forms() {
     each(last);
   }
   const dvs::FormedEvents listed(view);
-  EXPECT(same() && steps == *formed && std::equal(events.begin(), events.end(), listed.begin(), listed.end()));
+  EXPECT(same(memory, before) && steps == *formed && std::equal(events.begin(), events.end(), listed.begin(), listed.end()));
   EXPECT(refused(2, Refusal::view_not_fresh));
 }
 
