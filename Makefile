@@ -1,7 +1,8 @@
 # Thin names for the commands that matter.
 .PHONY: test run clean
 
-# The gate: everything that has to hold. The tests from outside, then every proof, every must-fail edit and every program, a line for each.
+# The gate: everything that has to hold. Every proof, every must-fail edit and every program, a line for each; at the same time the tests from outside
+# and the wrong answers of the gate's list.
 test:
 	SHORT=1 .ci/run
 
@@ -123,7 +124,7 @@ bench-strength:
 wrapper: $(LIBRARY)
 	tests/wrapper/wrapper.sh
 
-# The wrong answers that the gate leaves out for time; the gate's too: python3 tests/checks/edits.py --all.
+# The wrong answers that the gate leaves out for time; the gate's: python3 tests/checks/edits.py --gate; both: --all.
 .PHONY: edits
 edits:
 	python3 tests/checks/edits.py
@@ -167,19 +168,20 @@ target/bin/bench: $(SOURCES)
 target/unproved/bench: $(SOURCES)
 	.ci/unproved bench
 
-# What the library costs beside independent implementations in C++: messages, calls of the member, packets, calls of the group, views formed by one call,
-# lines of the bench, and how a step's cost grows with what the records hold. The others are compiled by LLVM too, where it is here, and for speed: make
-# benchmark BENCHMARK_CXX=g++ for another. With BEFORE=LIBRARY, the libdvs.a of an earlier version, its calls of the member are timed beside this one's.
+# What the library costs beside independent implementations in C++: messages, calls of the member, packets, calls of the group, lists of steps, views
+# formed by one call, lines of the bench, and how a step's cost grows with what the records hold. The others are compiled by LLVM too, where it is here,
+# and for speed: make benchmark BENCHMARK_CXX=g++ for another. With BEFORE=LIBRARY, the libdvs.a of an earlier version with the same layout, its calls of
+# the member and of the group are timed beside this one's. With UNPROVED=1 nothing is proved for it.
 .PHONY: benchmark
 BENCHMARK_CXX := $(or $(shell command -v clang++),$(CXX))
-BENCHMARK_DIR := target/benchmark/$(notdir $(BENCHMARK_CXX))$(if $(BEFORE),-before)
+BENCHMARK_DIR := $(BUILT)/benchmark/$(notdir $(BENCHMARK_CXX))$(if $(BEFORE),-before)
 # For speed: at fixed places, for a loop's time changes by a sixth with where it happens to lie; and by tests where LLVM would jump by a message's kind,
 # which is guessed wrong so often that a group of structs took four times as long.
 BENCHMARK_FLAGS := -O3 -falign-functions=64 -falign-loops=32 -fno-jump-tables $(if $(BEFORE),-DBEFORE)
 BENCHMARK_OBJECTS := $(patsubst tests/benchmark/%.cpp,$(BENCHMARK_DIR)/%.o,$(wildcard tests/benchmark/*.cpp))
 STEADY := target/benchmark/steady.txt
-benchmark: $(BENCHMARK_DIR)/benchmark target/bin/bench reference-cpp $(STEADY)
-	$(BENCHMARK_DIR)/benchmark $(STEADY) target/bin/bench target/reference target/reference-unchecked
+benchmark: $(BENCHMARK_DIR)/benchmark $(BENCH) reference-cpp $(STEADY)
+	$(BENCHMARK_DIR)/benchmark $(STEADY) $(BENCH) target/reference target/reference-unchecked
 # The library too begins at a line of the cache: its shortest loop takes twice as long where it lies across two.
 $(BENCHMARK_DIR)/libdvs.a: $(LIBRARY)
 	mkdir -p $(BENCHMARK_DIR)

@@ -2,6 +2,7 @@
 //   benchmark SCRIPT BENCH PLAIN UNCHECKED   a steady script, the bench, and the plain one with refusal 4 and without
 #include <thread>
 
+#include "earlier.hpp"
 #include "parts.hpp"
 
 #ifdef __clang__
@@ -20,10 +21,12 @@ int main(int argc, char** argv) {
          "What else the machine does meanwhile is not controlled: load %.1f now, on %u processors.\n"
          "The other sides are C++, compiled by %s.\n",
          kRounds, load[0], std::thread::hardware_concurrency(), kCompiler);
+  if (kBefore) printf("before: the same calls of the earlier library; beside lists of steps, its steps one by one.\n");
   messages();
   members();
   packets();
   groups(argv[1]);
+  lists();
   forms();
   lines(argv[1], {argv[2], argv[3], argv[4]});
   growth();

@@ -5,8 +5,6 @@ namespace benchmark {
 
 namespace {
 
-constexpr size_t kKept = DVS_BOOKS_SIZE + DVS_QUEUES_SIZE(1);  // the books, the queues' head and one view's queues
-
 std::vector<Step> steps_of(uint32_t set, uint32_t view) {
   std::vector<Step> steps;
   for (uint32_t kind : kForming)
@@ -24,12 +22,12 @@ class Forming {
   Ranges library_{room_}, by_hand_{room_};
   Structured structs_;
   Unchecked unchecked_;
+  Before before_{room_};
   std::vector<std::vector<Step>> steps_;  // by view, the first one at 0
-  std::vector<uint8_t> kept_ = std::vector<uint8_t>(kKept);
 
-  uint32_t start(Ranges& side) { return side.start(servers_, set_); }
+  template <class By> uint32_t start(RangesBy<By>& side) { return side.start(servers_, set_); }
   template <class Side> uint32_t start(Side& side) { return side.start(servers_, set_, room_); }
-  uint32_t step(Ranges& side, const Step& s, plain::Event&) { return side.step(s); }
+  template <class By> uint32_t step(RangesBy<By>& side, const Step& s, plain::Event&) { return side.step(s); }
   template <class Side> uint32_t step(Side& side, const Step& s, plain::Event& event) { return side.step(s, event); }
 
   // The runs: how many views were made, and formed.
@@ -63,21 +61,9 @@ class Forming {
       return accepted == steps_[view].size();
     });
   }
-  // What the call keeps of the group, so that a refusal can put it back.
-  uint64_t keep() {
-    for (unsigned view = 1; view <= views_; ++view) {
-      uint8_t* to = kept_.data();
-      memcpy(to, library_.books.data(), DVS_BOOKS_SIZE);
-      memcpy(to + DVS_BOOKS_SIZE, library_.queues.data(), DVS_QUEUES_SIZE(0));
-      memcpy(to + DVS_BOOKS_SIZE + DVS_QUEUES_SIZE(0), library_.queues.data() + DVS_QUEUES_ORDER(view),
-             DVS_QUEUES_SIZE(1) - DVS_QUEUES_SIZE(0));
-    }
-    return views_;
-  }
 
   void same_ranges() const {
-    if (library_.list != by_hand_.list || library_.books != by_hand_.books || library_.queues != by_hand_.queues)
-      fail("a formed view's group is otherwise than by its steps");
+    if (!library_.same(by_hand_)) fail("a formed view's group is otherwise than by its steps");
   }
   void same_refusal(uint32_t view, uint32_t refusal) {
     uint32_t count = 0;
@@ -97,6 +83,8 @@ class Forming {
     if (by_call(library_) != views_ || by_steps() != views_ || by_call(structs_) != views_ ||
         by_call(unchecked_) != views_)
       fail("a view is not formed");
+    if (kBefore && (by_call(before_) != views_ || !library_.same(before_)))
+      fail("a view is formed otherwise by the earlier library");
     same_refusal(views_, DVS_REFUSED_VIEW_NOT_FRESH);
     same_refusal(views_ + 1, DVS_REFUSED_NO_SUCH_VIEW);
     for (uint32_t kind = DVS_STEP_JOIN; kind <= DVS_STEP_COLLECT; ++kind)
@@ -118,16 +106,19 @@ class Forming {
     same_refusal(views_ + 1, DVS_REFUSED_FORM_TEST_FAILED);
   }
 
-  // One call, by hand, structs, unchecked, each less what its start and its creates take; and the copy alone.
+  // One call, by hand, structs, unchecked, each less what its start and its creates take.
   std::vector<Times> times() {
-    std::vector<Times> all = measure(views_, {[&] { return by_call(library_); }, [&] { return by_steps(); },
-                                              [&] { return by_call(structs_); }, [&] { return by_call(unchecked_); },
-                                              [&] { return make(library_); }, [&] { return make(by_hand_); },
-                                              [&] { return make(structs_); }, [&] { return make(unchecked_); },
-                                              [&] { return keep(); }});
-    for (size_t side = 0; side < 4; ++side)
-      for (double& round : all[side].rounds) round -= all[side + 4].best();
-    all.erase(all.begin() + 4, all.begin() + 8);
+    std::vector<Run> runs = {[&] { return by_call(library_); }, [&] { return by_steps(); },
+                             [&] { return by_call(structs_); }, [&] { return by_call(unchecked_); }};
+    std::vector<Run> less = {[&] { return make(library_); }, [&] { return make(by_hand_); },
+                             [&] { return make(structs_); }, [&] { return make(unchecked_); }};
+    if (kBefore) runs.push_back([&] { return by_call(before_); }), less.push_back([&] { return make(before_); });
+    const size_t sides = runs.size();
+    runs.insert(runs.end(), less.begin(), less.end());
+    std::vector<Times> all = measure(views_, runs);
+    for (size_t side = 0; side < sides; ++side)
+      for (double& round : all[side].rounds) round -= all[side + sides].best();
+    all.resize(sides);
     return all;
   }
 };
@@ -136,26 +127,16 @@ class Forming {
 
 void forms() {
   head("A view formed by one call, by servers and steps, ns per view. by hand: the same steps, a call each. structs,\n"
-       "unchecked: as above, all or none too.",
-       {"library", "by hand", "structs", "unchecked"});
+       "unchecked: as above, all or none too, by a copy that a refusal puts back.",
+       with_before({"library", "by hand", "structs", "unchecked"}));
   constexpr unsigned kSizes[][2] = {{1, 1}, {2, 1}, {5, 1}, {8, 1}, {8, DVS_VIEWS - 2}};
-  std::string parts;
-  double kept = 0;
   for (auto [servers, views] : kSizes) {
     Forming forming(servers, views);
     forming.compare();
-    std::vector<Times> times = forming.times();
-    const Times copy = times.back();
-    times.pop_back();
     std::string what = std::to_string(servers) + (servers > 1 ? " servers, " : " server, ");
-    row(what + std::to_string(forming.steps()) + (views > 1 ? ", views 1 to " + std::to_string(views) : ""), times);
-    char part[64];
-    snprintf(part, sizeof part, "%s%.1f %%", parts.empty() ? "" : ", ", 100 * ratio(copy, times[0]));
-    parts += part;
-    kept = copy.best();
+    what += std::to_string(forming.steps()) + (views > 1 ? ", views 1 to " + std::to_string(views) : "");
+    row(what, forming.times());
   }
-  printf("Of the library's time the copy of %zu bytes that a refusal would put back, %.0f ns, is, by rows:\n%s\n",
-         kKept, kept, parts.c_str());
 }
 
 }  // namespace benchmark

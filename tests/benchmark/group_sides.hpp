@@ -1,12 +1,13 @@
-// A group on each side: one start, one step by its numbers, and a view formed by one call.
+// A group on each side: one start, one step by its numbers, a view formed by one call, a start with a list of steps.
 //
-//   library    the three lent ranges, refusal 4 asked in every step;
-//   structs    tests/reference/reference_group.hpp, whose host keeps structs, refusal 4 asked in every step;
+//   library    the three lent ranges, refusal 4 checked in every step made by itself;
+//   structs    tests/reference/reference_group.hpp, whose host keeps structs, refusal 4 checked in every step;
 //   unchecked  the same without refusal 4: what the step alone costs;
-//   bytes      tests/outside over the library's own ranges, each step parses every book.
+//   bytes      tests/outside over the library's own ranges, each step parses every book;
+//   before     an earlier library, over ranges of its own.
 #pragma once
 
-#include "../../include/dvs.h"
+#include "earlier.hpp"
 #include "independent.hpp"
 #include "parts.hpp"
 
@@ -14,6 +15,25 @@ namespace benchmark {
 
 // The specification's twelve steps by number; kind 0 is a start.
 struct Step { uint32_t kind, first; uint64_t second; };
+
+// Steps as records of a list, and room for an answer to each.
+struct List {
+  std::vector<uint8_t> steps, answers;
+
+  explicit List(const std::vector<Step>& all)
+      : steps(DVS_STEP_SIZE * all.size()), answers(DVS_ANSWER_SIZE * all.size()) {
+    for (size_t i = 0; i < all.size(); ++i)
+      plain::put_step(&steps[DVS_STEP_SIZE * i], {static_cast<uint8_t>(all[i].kind), all[i].first, all[i].second});
+  }
+  size_t size() const { return steps.size() / DVS_STEP_SIZE; }
+  // The event of a step, and how many of the steps from one on were accepted.
+  const uint8_t* event(size_t i) const { return dvs_answer_event(answers.data(), static_cast<uint32_t>(i)); }
+  uint64_t accepted(size_t from, size_t many) const {
+    uint64_t sum = 0;
+    for (size_t i = from; i < from + many; ++i) sum += answers[DVS_ANSWER_SIZE * i] == DVS_ACCEPTED;
+    return sum;
+  }
+};
 
 // The kinds of steps that form a view, each by every one of its servers, rising; a server delivers one by each of them.
 constexpr uint32_t kForming[] = {DVS_STEP_JOIN,     DVS_STEP_PASS, DVS_STEP_ORDER, DVS_STEP_DELIVER, DVS_STEP_ATTEMPT,
@@ -33,30 +53,48 @@ constexpr uint32_t kForming[] = {DVS_STEP_JOIN,     DVS_STEP_PASS, DVS_STEP_ORDE
     uint32_t step(const Step& step, plain::Event& event);                          \
     uint32_t form(uint32_t view, uint32_t& count);                                 \
     void forget_sent(unsigned p);  /* empties outgoing: a send can be timed again */ \
+    void go_back(const Name& to);  /* what entries change: they can be timed again */ \
   };
 GROUP_OF_STRUCTS(Structured)
 GROUP_OF_STRUCTS(Unchecked)
 #undef GROUP_OF_STRUCTS
 
-// A group as the library's three ranges, stepped by the library or by the independent implementation.
-struct Ranges {
+// The calls of a group, by the library or by an earlier one.
+#define GROUP_CALLS(f) f(group_start) f(group_step) f(group_form) f(group_run)
+struct Library { GROUP_CALLS(BY_DVS) };
+#ifdef BEFORE
+extern "C" { GROUP_CALLS(OF_BEFORE) }
+struct Earlier { GROUP_CALLS(BY_BEFORE) };
+#else
+using Earlier = Library;
+#endif
+
+// A group as three ranges, stepped by a library or by the independent implementation.
+template <class By> struct RangesBy {
   std::vector<uint8_t> list, books, queues;
   uint8_t event[DVS_EVENT_SIZE] = {};
 
-  explicit Ranges(unsigned room)
+  explicit RangesBy(unsigned room)
       : list(DVS_LIST_SIZE(room)), books(DVS_BOOKS_SIZE), queues(DVS_QUEUES_SIZE(room)) {}
 
   uint32_t start(uint32_t members, uint32_t first_set) {
-    return dvs_group_start(list.data(), list.size(), books.data(), books.size(), queues.data(), queues.size(), members,
+    return By::group_start(list.data(), list.size(), books.data(), books.size(), queues.data(), queues.size(), members,
                            first_set);
   }
   uint32_t step(const Step& s) {
-    return dvs_group_step(list.data(), list.size(), books.data(), books.size(), queues.data(), queues.size(), s.kind,
+    return By::group_step(list.data(), list.size(), books.data(), books.size(), queues.data(), queues.size(), s.kind,
                           s.first, s.second, event, sizeof event);
+  }
+  // A start and a list of steps; gives how many of them were accepted, the start too.
+  uint64_t run(uint32_t members, uint32_t first_set, List& all) {
+    uint32_t refused = By::group_run(list.data(), list.size(), books.data(), books.size(), queues.data(), queues.size(),
+                                     members, first_set, all.steps.data(), all.steps.size(), all.answers.data(),
+                                     all.answers.size());
+    return refused ? 0 : 1 + all.accepted(0, all.size());
   }
   uint32_t form(uint32_t view, uint32_t& count) {
     uint8_t bytes[DVS_LENGTH_SIZE] = {};
-    uint32_t answer = dvs_group_form(list.data(), list.size(), books.data(), books.size(), queues.data(), queues.size(),
+    uint32_t answer = By::group_form(list.data(), list.size(), books.data(), books.size(), queues.data(), queues.size(),
                                      view, bytes, sizeof bytes);
     count = dvs_get32(bytes);
     return answer;
@@ -74,6 +112,22 @@ struct Ranges {
     other.store(bytes);
     return memcmp(event, bytes, sizeof bytes) == 0;
   }
+  // What entries change in the newest view when they are sent, passed, ordered, taken and handed out: counts, and
+  // places that are not used when the counts are as they were. Nothing may have been outgoing or waiting then.
+  void go_back(const RangesBy& to) {
+    const unsigned view = dvs_queues_made(queues.data()) - 1;
+    queues[DVS_QUEUES_ORDER(view)] = to.queues[DVS_QUEUES_ORDER(view)];
+    for (unsigned p = 0; p < books[DVS_BOOK_MEMBERS]; ++p) {
+      for (size_t at : {plain::kAtTaken, plain::kAtHanded, plain::kAtInward0, plain::kAtInward1, plain::kAtOutgoing})
+        books[DVS_BOOK_SIZE * p + at] = to.books[DVS_BOOK_SIZE * p + at];
+      queues[DVS_QUEUES_WAITING(view, p)] = to.queues[DVS_QUEUES_WAITING(view, p)];
+    }
+  }
+  template <class Other> bool same(const Other& other) const {
+    return list == other.list && books == other.books && queues == other.queues;
+  }
 };
+using Ranges = RangesBy<Library>;
+using Before = RangesBy<Earlier>;  // no table has its side unless an earlier library is given
 
 }  // namespace benchmark

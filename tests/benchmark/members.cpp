@@ -2,7 +2,7 @@
 // was passed until it is delivered.
 #include <set>
 
-#include "../../include/dvs.h"
+#include "earlier.hpp"
 #include "independent.hpp"
 #include "parts.hpp"
 
@@ -17,18 +17,16 @@ struct Slip { uint8_t bytes[DVS_LONGEST]; uint32_t length; };
 // The sets of tests/benchmark/steady_script.py: each has a majority of the one before.
 constexpr uint32_t kSets[] = {31, 15, 31, 7, 31, 30, 14, 31};
 
-// Books as bytes, by the library, by the independent implementation or, where one is given, by an earlier library, whose
-// functions then have their names behind before_.
+// Books as bytes, by the library, by the independent implementation or by an earlier library.
 #define CALLS(f) f(start) f(join) f(pass) f(deliver) f(attempt) f(send) f(hand) f(tell) f(safe) f(collect)
-#define BY_DVS(name) static constexpr auto name = dvs_##name;
 #define BY_INDEPENDENT(name) static constexpr auto name = independent::name;
-#define BY_BEFORE(name) static constexpr auto name = before_dvs_##name;
-#define OF_BEFORE(name) decltype(dvs_##name) before_dvs_##name;
 struct Library { CALLS(BY_DVS) static constexpr auto enroll = dvs_register; };
 struct Independent { CALLS(BY_INDEPENDENT) static constexpr auto enroll = independent::enroll; };
 #ifdef BEFORE
 extern "C" { CALLS(OF_BEFORE) OF_BEFORE(register) }
 struct Before { CALLS(BY_BEFORE) static constexpr auto enroll = before_dvs_register; };
+#else
+using Before = Library;
 #endif
 
 template <class By> struct Books {
@@ -214,16 +212,16 @@ template <class Do> void compare_and_time(const char* what, Do work) {
   static Books<Library> library;
   static Books<Independent> bytes;
   static Structs structs;
+  static Books<Before> before;
   auto checked = work(compared);
   if (checked.accepted != checked.made) fail(std::string("refused in ") + what);
   std::vector<Run> sides = {[&] { return work(library).accepted; }, [&] { return work(bytes).accepted; },
                             [&] { return work(structs).accepted; }};
-#ifdef BEFORE
-  static Books<Before> before;
-  sides.push_back([&] { return work(before).accepted; });
-#endif
+  if (kBefore) sides.push_back([&] { return work(before).accepted; });
   std::vector<Times> times = measure(checked.made, sides);
   if (memcmp(library.books, bytes.books, sizeof library.books)) fail("a book is otherwise after its timed runs");
+  if (kBefore && memcmp(library.books, before.books, sizeof library.books))
+    fail("the earlier library leaves another book");
   row(std::string(what) + ", " + std::to_string(checked.made), times);
 }
 
@@ -232,11 +230,7 @@ template <class Do> void compare_and_time(const char* what, Do work) {
 void members() {
   head("The member by itself, and how many calls a run is. bytes: parses the book, asks refusal 4, steps and stores\n"
        "in each call. struct: the host keeps a struct; each call asks refusal 4 of it and steps.",
-#ifdef BEFORE
-       {"library", "bytes", "struct", "before"});
-#else
-       {"library", "bytes", "struct"});
-#endif
+       with_before({"library", "bytes", "struct"}));
   compare_and_time("messages in a group of one", [](auto& side) { return steady(side, 1, 40); });
   compare_and_time("messages among five", [](auto& side) { return steady(side, 5, 20); });
   compare_and_time("views settled, among five", [](auto& side) { return changes(side, true); });

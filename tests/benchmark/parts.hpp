@@ -9,6 +9,7 @@ void messages();
 void members();
 void packets();
 void groups(const std::string& script);
+void lists();
 void forms();
 void lines(const std::string& script, const std::vector<std::string>& programs);
 void growth();
