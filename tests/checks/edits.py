@@ -1,20 +1,26 @@
 #!/usr/bin/env python3
 """edits.py: whether the prover refuses the wrong answers that stand beside the crates.
 
-    python3 tests/checks/edits.py [--gate | --all] [--jobs N] [CRATE...]
+    python3 tests/checks/edits.py [--gate | --listed | --all] [--jobs N] [--place DIR] [--proving PROCESS] [CRATE...]
+    python3 tests/checks/edits.py --fit     only whether every edit fits its crate, in a second
 
-It tries each crates/CRATE/more-edits/*.edit; with --gate those of must-fail/ instead, with --all both. An edit has lines 'file: ', 'old: ' and
-'new: ': the old text, which must stand in that file of src/ or specs/ once, is replaced by the new one; a 'file: ' line holds for the pairs after it.
+The gate tries the edits of crates/CRATE/must-fail/ and those of more-edits/ that gate_edits.txt lists. This program tries the others of more-edits/;
+with --gate the gate's, with --listed those of the list, in its order, with --all every edit. An edit has lines 'file: ', 'old: ' and 'new: ': the old
+text, which must be in that file of src/ or specs/ once, is replaced by the new one; a 'file: ' line holds for the pairs after it.
 
-The gate checks a whole crate for each edit. Here a crate is checked once as it stands, by 'rt dev' in a repository of its own under
-target/edits/rooms, and then again after each edit, which costs what the edit reaches. That a wrong answer is refused needs no trust in what an earlier
-check kept. An edit is refused where the check ends with 1 and says 'logic=not-proved', having checked modules of the crate; one that does not fit, or that
-the compiler refuses before the prover sees it, is a failure.
+rt checks a whole crate for each edit of must-fail/. Here a crate is checked once as it is, by 'rt dev' in a repository of its own under DIR/rooms, and
+then again after each edit, which costs what the edit reaches. That a wrong answer is refused needs no trust in what an earlier check kept. An edit is
+refused if the check ends with 1 and says 'logic=not-proved', having checked modules of the crate; one that does not fit, or that the compiler refuses
+before the prover sees it, is a failure.
 
-It prints for each edit where it was refused first and for what, keeps the whole output in target/edits/log/CRATE/NAME.log, and exits with 1 where an
-edit was not refused."""
+With --proving, the process of that number is proving all crates at the same time, and nothing was proved when it began: so does the gate. The edits of a
+crate then wait until all that the crate depends on is proved. The crate as it is, which that process proves, is not checked here.
+
+It prints for each edit where it was refused first and for what, and keeps the whole output in DIR/log/CRATE/NAME.log; DIR is target/edits if none is
+given. It exits with 1 if an edit was not refused."""
 import argparse
 import concurrent.futures
+import functools
 import os
 import pathlib
 import re
@@ -25,19 +31,41 @@ import time
 
 ROOT = pathlib.Path(__file__).resolve().parents[2]
 CRATES = ROOT / 'crates'
-ROOMS = ROOT / 'target' / 'edits' / 'rooms'
-LOGS = ROOT / 'target' / 'edits' / 'log'
+PROVED = ROOT / 'target'
+LIST = ROOT / 'tests' / 'checks' / 'gate_edits.txt'
 MOST_JOBS = 2
 SHOWN = 200
+PAUSE = 0.2
 
 
 class BadEdit(Exception):
     """An edit that does not fit its crate."""
 
 
-def edits_of(crate, folders):
-    """The edits of a crate, by name."""
-    return sorted((path for folder in folders for path in (CRATES / crate / folder).glob('*.edit')), key=lambda path: path.stem)
+def listed():
+    """The edits of the gate's list, in its order. A name that is there twice, or that has no edit, ends the program."""
+    names = [line for line in LIST.read_text().splitlines() if not line.startswith('#')]
+    twice = sorted({name for name in names if names.count(name) > 1})
+    edits = [CRATES / crate / 'more-edits' / (label + '.edit') for crate, _, label in (name.partition('/') for name in names)]
+    without = [name for name, edit in zip(names, edits) if not edit.is_file()]
+    if twice or without:
+        sys.exit('\n'.join(['%s lists %s twice' % (LIST.name, name) for name in twice] +
+                           ["%s lists '%s', which is no edit of more-edits/" % (LIST.name, name) for name in without]))
+    return edits
+
+
+def chosen(which):
+    """The edits to try."""
+    in_list = listed()
+    if which == 'listed':
+        return in_list
+    must_fail, more = (list(CRATES.glob('*/%s/*.edit' % folder)) for folder in ('must-fail', 'more-edits'))
+    edits = {'gate': must_fail + in_list, 'all': must_fail + more, 'rest': set(more) - set(in_list)}[which]
+    return sorted(edits, key=lambda edit: (crate_of(edit), edit.stem))
+
+
+def crate_of(edit):
+    return edit.parents[1].name
 
 
 def pairs_of(edit):
@@ -69,72 +97,103 @@ def changed(crate, edit):
     return texts
 
 
-def furnish(crate):
+def line_of(crate):
+    """The line of crates.txt with the names that a crate depends on."""
+    return re.search('^%s:.*\n' % crate, (ROOT / 'crates.txt').read_text(), re.M).group()
+
+
+class Room:
     """A repository for the edits of one crate, which lists this crate alone: a copy of it, and links to the others and to what is proved of them.
     What an earlier check kept stays."""
-    room = ROOMS / crate
-    shutil.rmtree(room / 'crates', ignore_errors=True)
-    (room / 'crates').mkdir(parents=True)
-    (room / 'target').mkdir(exist_ok=True)
-    (room / 'target' / 'rlib').unlink(missing_ok=True)
-    (room / 'target' / 'rlib').symlink_to(ROOT / 'target' / 'rlib')
-    (room / 'crates.txt').write_text(re.search('^%s:.*\n' % crate, (ROOT / 'crates.txt').read_text(), re.M).group())
-    for other in CRATES.iterdir():
-        if other.name != crate:
-            (room / 'crates' / other.name).symlink_to(other)
-    for part in ('src', 'specs', 'proofs'):
-        if (CRATES / crate / part).is_dir():
-            shutil.copytree(CRATES / crate / part, room / 'crates' / crate / part)
+
+    def __init__(self, place, crate):
+        self.crate, self.root, self.logs = crate, place.resolve() / 'rooms' / crate, place / 'log' / crate
+        self.home = self.root / 'crates' / crate
+        shutil.rmtree(self.root / 'crates', ignore_errors=True)
+        self.home.parent.mkdir(parents=True)
+        self.logs.mkdir(parents=True, exist_ok=True)
+        (self.root / 'target').mkdir(exist_ok=True)
+        (self.root / 'target' / 'rlib').unlink(missing_ok=True)
+        (self.root / 'target' / 'rlib').symlink_to(PROVED / 'rlib')
+        (self.root / 'crates.txt').write_text(line_of(crate))
+        for other in CRATES.iterdir():
+            if other.name != crate:
+                (self.home.parent / other.name).symlink_to(other)
+        for part in ('src', 'specs', 'proofs'):
+            if (CRATES / crate / part).is_dir():
+                shutil.copytree(CRATES / crate / part, self.home / part)
+
+    def check(self, label):
+        """The exit status and the output of the crate's check."""
+        done = subprocess.run(['rt', 'dev', self.crate], cwd=self.root, stdout=subprocess.PIPE, stderr=subprocess.STDOUT, text=True)
+        (self.logs / (label + '.log')).write_text(done.stdout)
+        return done.returncode, done.stdout
+
+    def first_error(self, output):
+        """Where a check failed first and for what, cut short. A long message is told from the line that compares what was computed."""
+        found = re.search(r'^(\S+): error: (`[^`]*`: )?(.*(?:\n  .*)*)', output, re.M) or re.search(r'^note: (\S+:\d+:\d+): ()(.*)', output, re.M)
+        if not found:
+            return 'no place given'
+        place = found.group(1).replace('%s/' % self.home, '')
+        lines = found.group(3).split('\n')
+        start = next((i for i, line in enumerate(lines) if 'computed as far as they go' in line), 0)
+        return '%s: %s' % (place, ((found.group(2) or '') + ' '.join(' '.join(lines[start:]).split()))[:SHOWN])
+
+    def attempt(self, edit):
+        """Tries one edit: whether it is refused, and what to say of it."""
+        try:
+            texts = changed(self.home, edit)
+        except BadEdit as fault:
+            return False, 'BAD EDIT: %s' % fault
+        before = {path: path.read_text() for path in texts}
+        for path, text in texts.items():
+            path.write_text(text)
+        status, output = self.check(edit.stem)
+        for path, text in before.items():
+            path.write_text(text)
+        if status == 0:
+            return False, 'NOT REFUSED: the crate is still proved'
+        if status == 1 and re.search('^logic=not-proved', output, re.M) and re.search('^crate %s: modules' % self.crate, output, re.M):
+            return True, 'refused at ' + self.first_error(output)
+        return False, 'BAD EDIT: it did not reach the prover (exit %d): %s' % (status, self.first_error(output))
 
 
-def check(crate, label):
-    """The exit status and the output of a crate's check in its room."""
-    done = subprocess.run(['rt', 'dev', crate], cwd=ROOMS / crate, stdout=subprocess.PIPE, stderr=subprocess.STDOUT, text=True)
-    log = LOGS / crate / (label + '.log')
-    log.parent.mkdir(parents=True, exist_ok=True)
-    log.write_text(done.stdout)
-    return done.returncode, done.stdout
-
-
-def first_error(crate, output):
-    """Where a check failed first and for what, cut short. A long message is told from the line that compares what was computed."""
-    found = re.search(r'^(\S+): error: (`[^`]*`: )?(.*(?:\n  .*)*)', output, re.M) or re.search(r'^note: (\S+:\d+:\d+): ()(.*)', output, re.M)
-    if not found:
-        return 'no place given'
-    place = found.group(1).replace('%s/' % (ROOMS / crate / 'crates' / crate), '')
-    lines = found.group(3).split('\n')
-    start = next((i for i, line in enumerate(lines) if 'computed as far as they go' in line), 0)
-    return '%s: %s' % (place, ((found.group(2) or '') + ' '.join(' '.join(lines[start:]).split()))[:SHOWN])
-
-
-def attempt(crate, edit):
-    """Tries one edit: whether it is refused, and what to say of it."""
-    home = ROOMS / crate / 'crates' / crate
+def running(process):
+    """Whether a process has not ended."""
     try:
-        texts = changed(home, edit)
-    except BadEdit as fault:
-        return False, 'BAD EDIT: %s' % fault
-    before = {path: path.read_text() for path in texts}
-    for path, text in texts.items():
-        path.write_text(text)
-    status, output = check(crate, edit.stem)
-    for path, text in before.items():
-        path.write_text(text)
-    if status == 0:
-        return False, 'NOT REFUSED: the crate is still proved'
-    if status == 1 and re.search('^logic=not-proved', output, re.M) and re.search('^crate %s: modules' % crate, output, re.M):
-        return True, 'refused at ' + first_error(crate, output)
-    return False, 'BAD EDIT: it did not reach the prover (exit %d): %s' % (status, first_error(crate, output))
+        os.kill(process, 0)
+    except ProcessLookupError:
+        return False
+    return True
 
 
-def try_crate(crate, edits):
+def await_proofs(crate, process):
+    """Waits for the process that proves what a crate depends on; what is not proved when the process has ended."""
+    needed = [name for name in line_of(crate).split(':')[1].split() if (CRATES / name).is_dir()]
+    while True:
+        ended = not running(process)
+        missing = [name for name in needed if not (PROVED / 'stamp' / name).is_file()]
+        if ended or not missing:
+            return missing
+        time.sleep(PAUSE)
+
+
+def obstacle(room, proving):
+    """Why the edits of a crate cannot be tried, or nothing."""
+    if proving:
+        missing = await_proofs(room.crate, proving)
+        return 'it depends on what is not proved: %s' % ' '.join(missing) if missing else ''
+    return 'the crate is not proved as it stands' if room.check('unedited')[0] else ''
+
+
+def try_crate(given, crate, edits):
     """Tries the edits of a crate one after another: how many are refused, and the others."""
-    furnish(crate)
-    status, _ = check(crate, 'unedited')
+    room = Room(given.place, crate)
+    reason = obstacle(room, given.proving)
     refused, others = 0, []
     for edit in edits:
         name, began = '%s/%s' % (crate, edit.stem), time.monotonic()
-        fine, words = attempt(crate, edit) if status == 0 else (False, 'NOT TRIED: the crate is not proved as it stands')
+        fine, words = (False, 'NOT TRIED: ' + reason) if reason else room.attempt(edit)
         print('%s: %.1f s, %s' % (name, time.monotonic() - began, words), flush=True)
         refused += fine
         others += [] if fine else [name]
@@ -144,25 +203,45 @@ def try_crate(crate, edits):
 def arguments():
     parser = argparse.ArgumentParser(description='Tries wrong answers, which the prover must refuse.')
     which = parser.add_mutually_exclusive_group()
-    which.add_argument('--gate', action='store_const', dest='folders', const=['must-fail'], help="the gate's edits, those of must-fail/")
-    which.add_argument('--all', action='store_const', dest='folders', const=['must-fail', 'more-edits'], help='these and those of more-edits/')
+    for name, edits in (('gate', 'those of must-fail/ and of the list'), ('listed', 'those of the list'), ('all', 'every edit'),
+                        ('fit', 'none, but see that each fits its crate')):
+        which.add_argument('--' + name, action='store_const', dest='which', const=name, help=edits)
     parser.add_argument('--jobs', type=int, default=min(MOST_JOBS, os.cpu_count() or 1), choices=range(1, MOST_JOBS + 1), help='crates at a time')
+    parser.add_argument('--place', type=pathlib.Path, default=PROVED / 'edits', metavar='DIR', help='for the rooms and the logs')
+    parser.add_argument('--proving', type=int, metavar='PROCESS', help='what proves all crates at the same time')
     parser.add_argument('crates', nargs='*', metavar='CRATE')
-    parser.set_defaults(folders=['more-edits'])
+    parser.set_defaults(which='rest')
     return parser.parse_args()
+
+
+def fitting():
+    """Says which edits do not fit their crates: whether there are none."""
+    edits, faults = chosen('all'), 0
+    for edit in edits:
+        try:
+            changed(edit.parents[1], edit)
+        except BadEdit as fault:
+            print('%s/%s: BAD EDIT: %s' % (crate_of(edit), edit.stem, fault))
+            faults += 1
+    print('%d edits fit their crates, %d do not' % (len(edits) - faults, faults))
+    return not faults
 
 
 def main():
     given = arguments()
-    wanted = {crate: edits_of(crate, given.folders) for crate in given.crates or sorted(path.name for path in CRATES.iterdir())}
-    without = [crate for crate, edits in wanted.items() if not edits]
-    if given.crates and without:
+    if given.which == 'fit':
+        sys.exit(0 if fitting() else 1)
+    wanted = {}
+    for edit in chosen(given.which):
+        if not given.crates or crate_of(edit) in given.crates:
+            wanted.setdefault(crate_of(edit), []).append(edit)
+    without = [crate for crate in given.crates if crate not in wanted]
+    if without:
         sys.exit('no such edits: %s' % ' '.join(without))
-    wanted = {crate: edits for crate, edits in wanted.items() if edits}
-    if subprocess.run(['rt', 'check', *wanted], cwd=ROOT, stdout=subprocess.DEVNULL).returncode:
+    if not given.proving and subprocess.run(['rt', 'check', *wanted], cwd=ROOT, stdout=subprocess.DEVNULL).returncode:
         sys.exit('the crates are not proved as they stand: rt check says where')
     with concurrent.futures.ThreadPoolExecutor(given.jobs) as jobs:
-        results = list(jobs.map(try_crate, wanted.keys(), wanted.values()))
+        results = list(jobs.map(functools.partial(try_crate, given), wanted.keys(), wanted.values()))
     others = [name for _, names in results for name in names]
     for name in others:
         print('not refused: ' + name)
