@@ -1,18 +1,28 @@
-# Thin names for the commands that matter.
-.PHONY: test run clean
+# Thin names for the commands that matter. Plain make names them.
+.PHONY: help test run clean
+help:
+	@echo "make run       a group on the bench: a split in which one part goes on. Some seconds, nothing is proved"
+	@echo "make lib       the library for C and C++, target/staticlib/libdvs.a, every proof of it first: 5 to 10 minutes"
+	@echo "make install   it, its headers and documents, to PREFIX"
+	@echo "make test      everything that has to hold: under 15 minutes"
+	@echo "README.md has the other targets, CONTRIBUTING.md how a change is made."
 
 # The gate: everything that has to hold. Every proof, every must-fail edit and every program, a line for each; at the same time the tests from outside
 # and the wrong answers of the gate's list.
 test:
 	SHORT=1 .ci/run
 
-# The bench, compiled without proving, on the specification's whole case: each line and its answer, of which `all` has none.
-CASE := tests/scripts/whole-case
+# The bench, compiled without proving, on the README's session, in which a group splits: each line and its answer, of which `all` has none.
+SESSION := tests/scripts/readme-session
 run: target/unproved/bench
-	@$< < $(CASE).txt > $<.out
-	@{ echo; cat $<.out; } | paste $(CASE).txt - | expand -t 20
-	@diff $(CASE).out $<.out
-	@echo "These answers are the specification's. Nothing was proved for them: make lib proves the library, make test all there is. To type lines: $<"
+	@cat $(SESSION).figure
+	@echo
+	@$< < $(SESSION).txt > $<.out
+	@{ echo; cat $<.out; } | paste $(SESSION).txt - | expand -t 20
+	@diff $(SESSION).out $<.out
+	@echo
+	@echo "README.md explains each line. Nothing was proved for this: make lib proves the library, make test all there is."
+	@echo "To type lines: $<. Begin with the line all, or refusals are not shown."
 
 clean:
 	rm -rf target
@@ -51,7 +61,7 @@ install: $(LIBRARY)
 	install -m 644 $(LIBRARY) $(DESTDIR)$(PREFIX)/lib
 	install -m 644 target/package/dvs.pc $(DESTDIR)$(PREFIX)/lib/pkgconfig
 	install -m 644 $(addprefix target/package/,$(CMAKE_FILES)) $(DESTDIR)$(PREFIX)/lib/cmake/dvs
-	install -m 644 $(HOST_DOCUMENTS) $(DESTDIR)$(PREFIX)/share/doc/dvs
+	install -m 644 $(HOST_DOCUMENTS) CHANGELOG.md $(DESTDIR)$(PREFIX)/share/doc/dvs
 
 # A host of the library: eight offices over a carrier of their own, and what they print beside what they should.
 .PHONY: offices

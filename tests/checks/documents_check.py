@@ -102,7 +102,10 @@ def stored(path):
 
 
 # what is typed, what is answered and what it means stand in columns; `all`, which is first, has no answer
-session = [(line[:18].rstrip(), line[18:38].rstrip()) for line in shown('A session with the bench')]
+figure = stored('tests/scripts/readme-session.figure')
+if shown('A session with the bench')[:len(figure)] != figure:
+    faults.append('README.md shows another figure than tests/scripts/readme-session.figure')
+session = [(line[:18].rstrip(), line[18:38].rstrip()) for line in shown('A session with the bench')[len(figure):]]
 typed, answers = stored('tests/scripts/readme-session.txt'), [''] + stored('tests/scripts/readme-session.out')
 if len(typed) != len(answers) or session != list(zip(typed, answers)):
     faults.append('README.md shows another session than tests/scripts/readme-session')
