@@ -16,7 +16,7 @@ use Rattle.rules.specs.Runs.{lastOf}
 use Rattle.rules.specs.Cases as C
 
 pub cases : C.MarkedCases
-unfolding C.table C.setOf C.against C.reading C.outcome C.lastOutcome C.group C.each C.deliver C.exchanged C.joined C.settled
+unfolding C.table C.setOf C.against C.reading C.outcome C.lastOutcome C.group C.each C.deliver C.exchanged C.joined C.settled C.joinedWithout
     get digits at at2 require has isBeyond inCommon weigh isRising risesAbove findOf insertOf among unionOf aboveOf places
     isKnown viewsAllowed numbersAllowed someEmpty toldFits contentOf W.viewsIn W.numberIn W.messageOf W.scanOf W.given W.readFront readOne
     need withView withFirst after every all passes queues joined joins passing settledBy learned received delivered opened attempted attempts registers sends hands tells safes collected collects

@@ -1,5 +1,5 @@
--- The ten cases marked * of 'Views that pass and fail', in its order, as one table: each row has what the definitions
--- give and what is due, and the words above it are the specification's.
+-- The eleven cases marked * of 'Views that pass and fail', in its order, as one table: each row has what the
+-- definitions give and what is due, and the words above it are the specification's.
 use mathlib.Core.Path.{_≡_}
 use mathlib.Core.Bool.{Bool, true, false}
 use mathlib.Core.List.{List, [], _∷_, _++_, map}
@@ -111,6 +111,12 @@ settled g l =
     joined g l ++ (each l (λ p. attempts p ∷ []) ++ (each l (λ p. st 7 p 0 ∷ [])
     ++ (exchanged g l ++ each l (λ p. collect p ∷ []))))
 
+-- the view g of p and these members is made and they join it; p takes their infos, and its own is still outgoing
+unfoldable pub joinedWithout : Identifier → Member → List Member → List Step
+joinedWithout g p l =
+    (create g (p ∷ l) ∷ each (p ∷ l) (λ q. st 2 q g ∷ []))
+    ++ (each l (λ q. st 3 q 0 ∷ st 4 q g ∷ []) ++ deliver (length l) p)
+
 -- ---- the table
 
 unfoldable pub table : List Row
@@ -145,6 +151,8 @@ table =
       is = group (settled 1 (0 ∷ 1 ∷ 2 ∷ 3 ∷ []) ++ joined 2 (0 ∷ 1 ∷ [])) (attempts 0);
       due = refuses 21;
     }
+    -- Servers 2, 3 and 4 joined {2,3,4}; server 2 took the infos of 3 and 4, and not its own: 20
+    ∷ record { is = group (joinedWithout 1 2 (3 ∷ 4 ∷ [])) (attempts 2); due = refuses 20 }
     -- Collect in the first view: 30
     ∷ record { is = group [] (collect 0); due = refuses 30 }
     -- Same identifier created twice: 8
