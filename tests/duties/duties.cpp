@@ -1,5 +1,6 @@
-// duties.cpp: what comes of it where a host breaks a duty of docs/HOST.md. Each story drives offices through include/dvs.h over a small carrier, breaks
-// one duty, and says what the outside then sees. The library is right in every one of them: it cannot know.
+// duties.cpp: what comes of it if a host breaks a duty of docs/HOST.md. Each story drives offices through include/dvs.h over a small carrier, breaks
+// one duty, and says what the outside then sees. Lines in parentheses say what comes of it if the duty is kept. The library is right in every story: it
+// cannot know.
 #include "dvs.h"
 
 #include <array>
@@ -13,7 +14,7 @@
 namespace {
 
 using Set = std::uint32_t;
-constexpr Set all_five = 0b11111;
+using Bytes = std::vector<std::uint8_t>;
 
 [[noreturn]] void stop(const std::string &why) {
   std::printf("stopped: %s\n", why.c_str());
@@ -46,8 +47,14 @@ void without_common_office(std::initializer_list<unsigned> here, std::initialize
 }
 
 struct Message {
-  std::vector<std::uint8_t> bytes;
+  Bytes bytes;
   std::uint32_t sender;
+};
+
+// What a packet came to: how many messages were taken, and the refusal that stopped it or 0.
+struct Delivery {
+  std::size_t count;
+  std::uint32_t stopped;
 };
 
 struct Office {
@@ -55,9 +62,9 @@ struct Office {
   std::array<std::uint8_t, DVS_EVENT_SIZE> event{};
   std::uint32_t own = 0;
 
-  void start(Set first, std::uint32_t number) {
+  void start(std::uint32_t members, Set first, std::uint32_t number) {
     own = number;
-    need(dvs_start(book.data(), book.size(), 5, first, number), "start");
+    need(dvs_start(book.data(), book.size(), members, first, number), "start");
   }
   void join(std::uint32_t view, Set set) { need(dvs_join(book.data(), book.size(), view, set), "join"); }
   void send(std::uint64_t entry) { need(dvs_send(book.data(), book.size(), entry, event.data(), event.size()), "send"); }
@@ -67,13 +74,14 @@ struct Office {
   std::uint32_t attempt() { return dvs_attempt(book.data(), book.size(), event.data(), event.size()); }
   std::uint32_t safe() { return dvs_safe(book.data(), book.size(), event.data(), event.size()); }
   std::uint32_t hand() { return dvs_hand(book.data(), book.size(), event.data(), event.size()); }
-  std::uint64_t entry() const {
-    std::uint64_t value = 0;
-    for (unsigned i = 0; i < 8; ++i) value = value << 8 | event[DVS_EVENT_ENTRY + i];
-    return value;
-  }
+  std::uint64_t entry() const { return dvs_event_entry(event.data()); }
   void take(const Message &message) {
     need(dvs_deliver(book.data(), book.size(), message.bytes.data(), message.bytes.size(), message.sender), "deliver");
+  }
+  Delivery take_packet(const Bytes &packet, std::uint32_t sender) {
+    std::array<std::uint8_t, DVS_DELIVERY_SIZE> delivery{};
+    need(dvs_deliver_packet(book.data(), book.size(), packet.data(), packet.size(), sender, delivery.data(), delivery.size()), "packet");
+    return {dvs_delivery_count(delivery.data()), dvs_delivery_stopped(delivery.data())};
   }
   // All that is outgoing.
   std::vector<Message> pass() {
@@ -81,14 +89,22 @@ struct Office {
     std::array<std::uint8_t, DVS_LONGEST> buffer{};
     std::array<std::uint8_t, DVS_LENGTH_SIZE> length{};
     while (dvs_pass(book.data(), book.size(), buffer.data(), buffer.size(), length.data(), length.size()) == 0) {
-      const std::size_t n = static_cast<std::size_t>(length[2]) << 8 | length[3];
-      out.push_back({std::vector<std::uint8_t>(buffer.begin(), buffer.begin() + static_cast<std::ptrdiff_t>(n)), own});
+      out.push_back({Bytes(buffer.begin(), buffer.begin() + static_cast<std::ptrdiff_t>(dvs_length(length.data()))), own});
     }
     return out;
   }
 };
 
-using Offices = std::array<Office, 5>;
+// A send or a hand goes to the end of a public history, in the words of the bench.
+void publish(std::string &history, const Office &office) {
+  const std::uint8_t *event = office.event.data();
+  const bool sent = dvs_event_kind(event) == DVS_STEP_SEND;
+  history += history.empty() ? "" : ", ";
+  history += std::string(sent ? "send " : "hand ") + std::to_string(dvs_event_member(event)) + " " + std::to_string(dvs_event_view(event));
+  history += (sent ? "" : " " + std::to_string(dvs_event_sender(event))) + " " + std::to_string(dvs_event_entry(event));
+}
+
+using Offices = std::vector<Office>;
 
 template <class Step>
 void each(Offices &offices, std::initializer_list<unsigned> members, Step step) {
@@ -123,11 +139,11 @@ void go_over(Offices &offices, std::initializer_list<unsigned> members, std::uin
   std::printf("  view %u %s is attempted by all its offices\n", view, names(set_of(members)).c_str());
 }
 
-// The same where it must be refused, on copies: what comes of it where the duty is kept.
+// The same on copies, if it must be refused: what comes of it if the duty is kept.
 void refused_if_kept(Offices offices, std::initializer_list<unsigned> members, std::uint32_t view) {
   const std::uint32_t answer = try_over(offices, members, view);
   if (answer == 0) stop("an attempt was not refused");
-  std::printf("  (where the duty is kept, view %u %s is refused with %u)\n", view, names(set_of(members)).c_str(), answer);
+  std::printf("  (if the duty is kept, view %u %s is refused with %u)\n", view, names(set_of(members)).c_str(), answer);
 }
 
 // They register, and settle it.
@@ -150,11 +166,14 @@ void work(Offices &offices, std::initializer_list<unsigned> members, std::uint64
   std::printf("  entry %llu is reported safe at %s\n", static_cast<unsigned long long>(entry), names(set_of(members)).c_str());
 }
 
-Offices fresh() {
-  Offices offices;
-  for (unsigned p = 0; p < 5; ++p) offices[p].start(all_five, p);
+Offices started(unsigned members, Set first) {
+  Offices offices(members);
+  for (unsigned p = 0; p < members; ++p) offices[p].start(members, first, p);
   return offices;
 }
+
+// Five offices, all in the first view.
+Offices fresh() { return started(5, set_of({0, 1, 2, 3, 4})); }
 
 // ---- the stories
 
@@ -209,9 +228,9 @@ void one_identifier_two_sets() {
 
 void two_starts() {
   std::puts("3. Two starts");
-  Offices offices;
-  for (const unsigned p : {0u, 1u}) offices[p].start(set_of({0, 1}), p);
-  for (const unsigned p : {2u, 3u, 4u}) offices[p].start(set_of({2, 3, 4}), p);
+  Offices offices(5);
+  for (const unsigned p : {0u, 1u}) offices[p].start(5, set_of({0, 1}), p);
+  for (const unsigned p : {2u, 3u, 4u}) offices[p].start(5, set_of({2, 3, 4}), p);
   std::puts("  offices 0 and 1 start with the first set {0,1}, the others with {2,3,4}");
   work(offices, {0, 1}, 7);
   work(offices, {2, 3, 4}, 8);
@@ -221,13 +240,13 @@ void two_starts() {
 void lost_in_the_middle() {
   std::puts("4. A message is lost, and a later one of its sender is ordered");
   Offices offices = fresh();
-  offices[0].send(7);
-  offices[0].send(8);
+  std::string history;
+  for (const std::uint64_t entry : {7u, 8u}) offices[0].send(entry), publish(history, offices[0]);
   const std::vector<Message> given = offices[0].pass();
   offices[1].take(given[1]);
   need(offices[1].hand(), "hand");
-  std::printf("  send 0 0 7, send 0 0 8, hand 1 0 0 %llu: in Figure 1 the first pending message of office 0 is ordered first, so no run has these events\n",
-              static_cast<unsigned long long>(offices[1].entry()));
+  publish(history, offices[1]);
+  std::printf("  %s: in Figure 1 the first pending message of office 0 is ordered first, so no run has these events\n", history.c_str());
 }
 
 void forged_info() {
@@ -255,35 +274,30 @@ void too_many_open() {
   for (unsigned more = 1; more <= 3; ++more)
     if (try_over(offices, {0, 1, 2}, view + more) != refused) stop("an attempt was not refused");
   std::puts(", and so are the three after it");
-  std::printf("  where they stay in view %u:\n", view - 1);
+  std::printf("  if they stay in view %u:\n", view - 1);
   settle(last, {0, 1, 2});
   go_over(last, {0, 1, 2}, view);
 }
 
 // Office 1 takes a packet of office 0, of which the line cut the end, and then what the line brings once more: from the message that was stopped on, or
-// the packet from its front. What it is handed then.
+// the packet from its front. What is public then.
 std::string handed(bool from_the_stop) {
   Offices offices = fresh();
-  offices[0].send(7);
-  offices[0].send(8);
-  std::vector<std::uint8_t> packet;
+  std::string history;
+  for (const std::uint64_t entry : {7u, 8u}) offices[0].send(entry), publish(history, offices[0]);
+  Bytes packet;
   for (const Message &message : offices[0].pass()) packet.insert(packet.end(), message.bytes.begin(), message.bytes.end());
-  Office &office = offices[1];
-  std::array<std::uint8_t, DVS_DELIVERY_SIZE> delivery{};
-  const auto take = [&](std::size_t from, std::size_t end) {
-    need(dvs_deliver_packet(office.book.data(), office.book.size(), packet.data() + from, end - from, 0, delivery.data(), delivery.size()), "packet");
-    return dvs_delivery_stopped(delivery.data());
-  };
-  if (take(0, packet.size() - 1) != DVS_REFUSED_ENDS_EARLY || dvs_delivery_count(delivery.data()) != 1) stop("the cut packet was taken otherwise");
-  if (take(from_the_stop ? packet.size() / 2 : 0, packet.size()) != 0) stop("the whole packet was stopped");
-  std::string events;
-  while (office.hand() == 0) events += ", hand 1 0 0 " + std::to_string(office.entry());
-  return "send 0 0 7, send 0 0 8" + events;
+  const Delivery cut = offices[1].take_packet(Bytes(packet.begin(), packet.end() - 1), 0);
+  if (cut.stopped != DVS_REFUSED_ENDS_EARLY || cut.count != 1) stop("the cut packet was taken otherwise");
+  const auto from = packet.begin() + static_cast<std::ptrdiff_t>(from_the_stop ? packet.size() / 2 : 0);
+  if (offices[1].take_packet(Bytes(from, packet.end()), 0).stopped != 0) stop("the whole packet was stopped");
+  while (offices[1].hand() == 0) publish(history, offices[1]);
+  return history;
 }
 
 void packet_again() {
   std::puts("7. A packet that was stopped is delivered once more from its front");
-  std::printf("  (where it is delivered from the stopped message on: %s)\n", handed(true).c_str());
+  std::printf("  (if it is delivered from the stopped message on: %s)\n", handed(true).c_str());
   std::printf("  %s: sent once and handed out twice, so no run has these events\n", handed(false).c_str());
 }
 
