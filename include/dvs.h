@@ -237,8 +237,10 @@ uint64_t dvs_size(uint32_t range, uint32_t views);
  *
  * An office that comes up again goes on with the last bytes that a call left, or does not go on: an old copy, or a second start, breaks the promise. The
  * start is the same in every office, and no two offices have one number. Messages are believed: who can put bytes on the line can break the promise.
- * Being in a primary view is no licence: two groups of offices may hand out entries at the same time. What is reported safe was in the hands of every
- * office of its view and is final; what was only handed out may have to be withdrawn.
+ *
+ * Being in a primary view is no licence: two groups of members may hand out entries at the same time, and what was only handed out may have to be
+ * withdrawn. What is reported safe was in the hands of every member of its view. It is final if every member registers last: after every member of the
+ * view has attempted it, and after this one has taken over all that each of them held when it attempted.
  */
 
 /* The book of member `own` in a group of `members`, with the first view, identifier 0, of `first_set`. 4, 1, 2, 6. */
@@ -265,7 +267,8 @@ uint32_t dvs_deliver_packet(uint8_t *book, size_t book_size, const uint8_t *byte
 /* The carrier view is attempted: it becomes the client view, this office's primary one. 13, 19, 20, 21, 43. */
 uint32_t dvs_attempt(uint8_t *book, size_t book_size, uint8_t *event, size_t event_size);
 
-/* The client registers in the client view. Where that is not the carrier view any more it is accepted and no message goes out. 22, 23, 24. */
+/* The client registers in the client view: last, when every member of the view has attempted it and the client has taken over all that each of them held
+ * then. If the client view is not the carrier view any more, it is accepted and no message goes out. 22, 23, 24. */
 uint32_t dvs_register(uint8_t *book, size_t book_size, uint8_t *event, size_t event_size);
 
 /* The client sends an entry number in the client view. Where that is not the carrier view any more it is accepted and no message goes out. 22, 24. */
@@ -274,10 +277,10 @@ uint32_t dvs_send(uint8_t *book, size_t book_size, uint64_t entry, uint8_t *even
 /* The next entry of the client view is given to the client, who may have to withdraw it as long as it is not reported safe. 22, 25. */
 uint32_t dvs_hand(uint8_t *book, size_t book_size, uint8_t *event, size_t event_size);
 
-/* The others are told how many entries the client has. 22, 26, 27, 24. */
+/* The others are told how many entries the client has. Those are on disk with the book before the message leaves. 22, 26, 27, 24. */
 uint32_t dvs_tell(uint8_t *book, size_t book_size);
 
-/* The next entry is reported safe: every client of the view has it, and it is final. 22, 26, 28, 29. */
+/* The next entry is reported safe: every client of the view has it, and it is final if every member registers last. 22, 26, 28, 29. */
 uint32_t dvs_safe(uint8_t *book, size_t book_size, uint8_t *event, size_t event_size);
 
 /* The carrier view, registered by all its members, becomes settled. 13, 30, 31. */
@@ -321,7 +324,8 @@ uint32_t dvs_group_step(uint8_t *list, size_t list_size, uint8_t *books, size_t 
 /* The driver: the newest view, `view`, which no member has joined, is taken from made to settled at all its k servers by 2 * k * k + 8 * k ordinary steps:
  * joins; passes, orders and deliveries of the infos; attempts; registers; passes, orders and deliveries of the registrations; collects, each kind by
  * rising server. Their events are k attempts, then k registers, by rising server. `count` (DVS_LENGTH_SIZE bytes) gets the number of steps. Either all are
- * taken or none. 4, 10, 44, 45; then, of ranges that no calls lead to, the first refusal among the steps. */
+ * taken or none. It registers for all k at once, so the host brings all k copies up to date before the call (docs/HOST.md, 7). 4, 10, 44, 45; then, of
+ * ranges that no calls lead to, the first refusal among the steps. */
 uint32_t dvs_group_form(uint8_t *list, size_t list_size, uint8_t *books, size_t books_size, uint8_t *queues, size_t queues_size, uint32_t view,
                         uint8_t *count, size_t count_size);
 

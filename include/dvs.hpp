@@ -12,8 +12,9 @@
 //   auto taken = book.deliver(bytes, dvs::Member{0});                         // what came over it, own messages too, in the view's order
 //   auto some = book.deliver_packet(bytes, dvs::Member{0});                   // the same of several messages: some->delivered, some->stopped
 //   if (auto event = book.attempt()) work_in(event->view, event->set);        // the view is now this office's primary one
-//   if (auto event = book.hand()) take(event->sender, event->entry);          // to be withdrawn where it never becomes safe
-//   if (auto event = book.safe()) keep(event->sender, event->entry);          // every office of the view has it: final
+//   if (auto event = book.hand()) take(event->sender, event->entry);          // to be withdrawn if it never becomes safe
+//   auto registered = book.register_view();                                   // last: when all have attempted the view and brought what they held
+//   if (auto event = book.safe()) keep(event->sender, event->entry);          // every office of the view has it: final if all register last
 //
 // Being in a primary view is no licence: two groups of offices may hand out entries at the same time. dvs.h lists above dvs_start what the host has to
 // see to, and docs/HOST.md says it in full.
@@ -258,7 +259,8 @@ class Book {
   Result<Event> attempt() noexcept {
     return with_event([this](std::uint8_t *event) { return dvs_attempt(data(), size(), event, DVS_EVENT_SIZE); });
   }
-  // The client registers in the client view (C++ keeps the word `register` for itself).
+  // The client registers in the client view (C++ keeps the word `register` for itself): last, when every office of the view has attempted it and this
+  // one has taken over all that each of them held then.
   Result<Event> register_view() noexcept {
     return with_event([this](std::uint8_t *event) { return dvs_register(data(), size(), event, DVS_EVENT_SIZE); });
   }
@@ -270,9 +272,9 @@ class Book {
   Result<Event> hand() noexcept {
     return with_event([this](std::uint8_t *event) { return dvs_hand(data(), size(), event, DVS_EVENT_SIZE); });
   }
-  // The others are told how many entries the client has.
+  // The others are told how many entries the client has. Those are on disk with the book before the message leaves.
   Result<void> tell() noexcept { return refused(dvs_tell(data(), size())); }
-  // The next entry that is safe: it was in the hands of every office of the view, and is final.
+  // The next entry that is safe: it was in the hands of every office of the view, and is final if every office registers last.
   Result<Event> safe() noexcept {
     return with_event([this](std::uint8_t *event) { return dvs_safe(data(), size(), event, DVS_EVENT_SIZE); });
   }
@@ -369,7 +371,8 @@ class Group {
                                                 steps.data(), steps.size(), answers.data(), answers.size()));
   }
   // The newest view, which no member has joined, is taken from made to settled: all its steps, and how many they are, or none. FormedEvents lists
-  // their events. On ranges that no calls lead to it may take 88 KB of stack.
+  // their events. It registers for all its offices at once, so the host brings all their copies up to date before the call. On ranges that no calls lead
+  // to it may take 88 KB of stack.
   Result<std::size_t> form(Identifier view) noexcept {
     detail::LengthBytes count{};
     const auto refusal = static_cast<Refusal>(dvs_group_form(list_.data(), list_.size(), books_.data(), books_.size(), queues_.data(),

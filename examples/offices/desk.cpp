@@ -25,7 +25,8 @@ class Desk {
     return view;
   }
 
-  // The view is formed by one call. Its events are known from the view.
+  // The view is formed by one call. Its events are known from the view. The call registers for every office of the view, so a host whose offices have
+  // copies brings all of them up to date before it; the desk only tries a plan and has no copies.
   void form(dvs::View view) {
     const dvs::Result<std::size_t> steps = group_.form(view.identifier);
     expect(steps.accepted(), "the view is formed");

@@ -22,6 +22,8 @@ bool Office::turn(Carrier &carrier, Watch &watch) {
   bool moved = took;
   moved |= attempt(watch);
   moved |= hand_out(watch);
+  // An office registers last: when every office of the view has attempted it and has brought what it had then. If it registered sooner, the view could
+  // be settled and a later one formed by offices that never had a line which was safe before (docs/HOST.md, 7).
   if (works() && have_brought_ == book().client()->set) {
     if (const auto event = book_.register_view()) {
       watch.registered(*event, marks_);
@@ -81,7 +83,8 @@ bool Office::attempt(Watch &watch) {
   return true;
 }
 
-// In a new primary view every office first brings the lines that were changed since the design, so that all begin with the latest of each.
+// In a new primary view every office first brings the lines that were changed since the design, as it has them when it attempts the view, so that all
+// begin with the latest of each. The last message says that there are no more.
 void Office::bring_marks() {
   have_brought_ = dvs::Set();
   for (const auto &[mark, line] : marks_)

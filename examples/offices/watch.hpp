@@ -26,7 +26,8 @@ class Watch {
   void registered(const dvs::Event &event, const Register &marks);
   // An entry was handed out at this place, from 1 on. All offices of a view are handed the same entries in the same order.
   void handed(const dvs::Event &event, unsigned place);
-  // An entry was reported safe at this place: every office of the view has been handed it. The line that it left is never lost again.
+  // An entry was reported safe at this place: every office of the view has been handed it. The line that it left is never lost again, since
+  // the offices register last.
   void safe(const dvs::Event &event, unsigned place, Mark mark, Stamp stamp);
 
   // The rules that were broken, in words.

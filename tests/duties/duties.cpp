@@ -8,6 +8,7 @@
 #include <cstdio>
 #include <cstdlib>
 #include <initializer_list>
+#include <set>
 #include <string>
 #include <vector>
 
@@ -15,6 +16,9 @@ namespace {
 
 using Set = std::uint32_t;
 using Bytes = std::vector<std::uint8_t>;
+
+// The entry that ends what an office brings into a new view.
+constexpr std::uint64_t that_is_all = 0;
 
 [[noreturn]] void stop(const std::string &why) {
   std::printf("stopped: %s\n", why.c_str());
@@ -61,6 +65,7 @@ struct Office {
   std::array<std::uint8_t, DVS_BOOK_SIZE> book{};
   std::array<std::uint8_t, DVS_EVENT_SIZE> event{};
   std::uint32_t own = 0;
+  std::set<std::uint64_t> copy;  // the entries that its client was handed
 
   void start(std::uint32_t members, Set first, std::uint32_t number) {
     own = number;
@@ -73,7 +78,11 @@ struct Office {
   void collect() { need(dvs_collect(book.data(), book.size()), "collect"); }
   std::uint32_t attempt() { return dvs_attempt(book.data(), book.size(), event.data(), event.size()); }
   std::uint32_t safe() { return dvs_safe(book.data(), book.size(), event.data(), event.size()); }
-  std::uint32_t hand() { return dvs_hand(book.data(), book.size(), event.data(), event.size()); }
+  std::uint32_t hand() {
+    const std::uint32_t answer = dvs_hand(book.data(), book.size(), event.data(), event.size());
+    if (answer == 0 && entry() != that_is_all) copy.insert(entry());
+    return answer;
+  }
   std::uint64_t entry() const { return dvs_event_entry(event.data()); }
   void take(const Message &message) {
     need(dvs_deliver(book.data(), book.size(), message.bytes.data(), message.bytes.size(), message.sender), "deliver");
@@ -147,10 +156,14 @@ void refused_if_kept(Offices offices, std::initializer_list<unsigned> members, s
 }
 
 // They register, and settle it.
-void settle(Offices &offices, std::initializer_list<unsigned> members) {
+void settle_quietly(Offices &offices, std::initializer_list<unsigned> members) {
   each(offices, members, [](Office &office) { office.register_view(); });
   carry(offices, members);
   each(offices, members, [](Office &office) { office.collect(); });
+}
+
+void settle(Offices &offices, std::initializer_list<unsigned> members) {
+  settle_quietly(offices, members);
   std::puts("  it is registered in and settled by all of them");
 }
 
@@ -279,6 +292,48 @@ void too_many_open() {
   go_over(last, {0, 1, 2}, view);
 }
 
+// In a view that they have attempted the members send what they have, each with a last message behind it, and are handed all that comes. Whoever was
+// handed the last message of every member has all that each of them had when it attempted the view.
+void exchange(Offices &offices, std::initializer_list<unsigned> members) {
+  each(offices, members, [](Office &office) {
+    for (const std::uint64_t entry : office.copy) office.send(entry);
+    office.send(that_is_all);
+  });
+  carry(offices, members);
+  each(offices, members, [&](Office &office) {
+    Set brought = 0;
+    while (office.hand() == 0)
+      if (office.entry() == that_is_all) brought |= 1u << dvs_event_sender(office.event.data());
+    if (brought != set_of(members)) stop("an office has not brought all that it had");
+  });
+}
+
+// The offices that have an entry.
+Set having(const Offices &offices, std::uint64_t entry) {
+  Set set = 0;
+  for (const Office &office : offices) set |= static_cast<Set>(office.copy.count(entry)) << office.own;
+  return set;
+}
+
+void registered_too_soon() {
+  std::puts("7. Offices register before they have what the others of their view held");
+  Offices offices = started(6, set_of({0, 1, 2}));
+  work(offices, {0, 1, 2}, 7);
+  go_over(offices, {1, 2, 3, 4, 5}, 1);
+  Offices kept = offices;
+  exchange(kept, {1, 2, 3, 4, 5});
+  const Set registering = having(kept, 7);
+  settle_quietly(kept, {1, 2, 3, 4, 5});
+  need(try_over(kept, {3, 4, 5}, 2), "attempt");
+  std::printf("  (if each of them first takes over what all of them held, entry 7 is at %s when they register)\n", names(registering).c_str());
+  settle(offices, {1, 2, 3, 4, 5});
+  go_over(offices, {3, 4, 5}, 2);
+  settle(offices, {3, 4, 5});
+  work(offices, {3, 4, 5}, 8);
+  if (having(offices, 7) & set_of({3, 4, 5})) stop("an office of view 2 has entry 7");
+  std::printf("  entry 7, which was safe, is at %s: no office of view 2 has it\n", names(having(offices, 7)).c_str());
+}
+
 // Office 1 takes a packet of office 0, of which the line cut the end, and then what the line brings once more: from the message that was stopped on, or
 // the packet from its front. What is public then.
 std::string handed(bool from_the_stop) {
@@ -296,7 +351,7 @@ std::string handed(bool from_the_stop) {
 }
 
 void packet_again() {
-  std::puts("7. A packet that was stopped is delivered once more from its front");
+  std::puts("8. A packet that was stopped is delivered once more from its front");
   std::printf("  (if it is delivered from the stopped message on: %s)\n", handed(true).c_str());
   std::printf("  %s: sent once and handed out twice, so no run has these events\n", handed(false).c_str());
 }
@@ -310,5 +365,6 @@ int main() {
   lost_in_the_middle();
   forged_info();
   too_many_open();
+  registered_too_soon();
   packet_again();
 }
