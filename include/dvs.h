@@ -235,8 +235,10 @@ uint64_t dvs_size(uint32_t range, uint32_t views);
  *    stops its sender in this view.
  * 4. A member's book never goes back, but for the outgoing list of a member that joins next.
  *
- * An office that comes up again goes on with the last bytes that a call left, or does not go on: an old copy, or a second start, breaks the promise. The
- * start is the same in every office, and no two offices have one number. Messages are believed: who can put bytes on the line can break the promise.
+ * A member works in turns, and one rule covers every call. Take what came. Step. Save once and sync: the book, the client's copy, the events of the turn.
+ * Then publish the events, and after them post the messages. After a restart load what was saved last, and join a view before any other call: an older
+ * book, or a second start, breaks the promise. The start is the same for every member, and no two members have one number. Messages are believed: who can
+ * put bytes on the line can break the promise.
  *
  * Being in a primary view is no licence: two groups of members may hand out entries at the same time, and what was only handed out may have to be
  * withdrawn. What is reported safe was in the hands of every member of its view. It is final if every member registers last: after every member of the

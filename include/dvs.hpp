@@ -7,14 +7,19 @@
 //   dvs::Book book;                                                           // one office's part: 5,234 bytes, held by value
 //   auto started = book.start(5, dvs::Set::below(5), dvs::Member{2});         // member 2 of 5, all in the first view
 //   if (!started) log(dvs::text(started.refusal()));
+//
+// Then turn after turn: take what came, step, save once, and only then let events and messages out.
+//
 //   auto joined = book.join({dvs::Identifier{1}, dvs::Set{0b111}});           // the carrier gave a view
-//   while (auto message = book.pass()) my_carrier.post(message->bytes());     // what is to go over the line
-//   auto taken = book.deliver(bytes, dvs::Member{0});                         // what came over it, own messages too, in the view's order
+//   auto taken = book.deliver(bytes, dvs::Member{0});                         // what came over the line, own messages too, in the view's order
 //   auto some = book.deliver_packet(bytes, dvs::Member{0});                   // the same of several messages: some->delivered, some->stopped
 //   if (auto event = book.attempt()) work_in(event->view, event->set);        // the view is now this office's primary one
 //   if (auto event = book.hand()) take(event->sender, event->entry);          // to be withdrawn if it never becomes safe
 //   auto registered = book.register_view();                                   // last: when all have attempted the view and brought what they held
 //   if (auto event = book.safe()) keep(event->sender, event->entry);          // every office of the view has it: final if all register last
+//   while (packet.pass(book)) {}                                              // a dvs::PacketWriter: what is to go over the line
+//   my_disk.save_and_sync(book.bytes(), my_copy, events);                     // then publish the events
+//   my_carrier.post(packet.bytes());                                          // and after them post the messages
 //
 // Being in a primary view is no licence: two groups of offices may hand out entries at the same time. dvs.h lists above dvs_start what the host has to
 // see to, and docs/HOST.md says it in full.
@@ -193,8 +198,8 @@ class BookReader {
 
 using BookBytes = std::array<std::uint8_t, DVS_BOOK_SIZE>;
 
-// One office's part, over a carrier of the host's own. A book must never go back: after a call only what that call left may be loaded again, by this
-// office alone. So a book is not copied; moving takes it away, and what it is taken from is no book (Refusal::records_unsound).
+// One office's part, over a carrier of the host's own. A book must never go back: once anything has left, only what was saved last may be loaded again, by
+// this office alone. So a book is not copied; moving takes it away, and what it is taken from is no book (Refusal::records_unsound).
 class Book {
  public:
   Book() noexcept = default;
@@ -209,9 +214,10 @@ class Book {
   }
   ~Book() = default;
 
-  // The bytes to keep: saved before anything that the last call gave out, a message or an event, leaves this office.
+  // The bytes to keep: on disk once a turn, before a message or an event of the turn leaves this office.
   BookBytes save() const noexcept { return bytes_; }
   // The bytes that were saved last. Refused, and nothing done, where they are no sound book; whether they are the last, nobody can tell from them.
+  // An office that comes back joins a view before any other call.
   Result<void> load(Bytes saved) noexcept {
     const Refusal refusal = refused(dvs_check(saved.data(), saved.size()));
     if (refusal != Refusal::none) return refusal;

@@ -17,6 +17,8 @@ void Office::enter(dvs::View view) {
 
 void Office::wish(Mark mark, Section section, Verdict verdict) { tray_.push_back({mark, section, verdict, marks_.at(mark).stamp}); }
 
+// These offices are in one process that is never stopped, so nothing is saved here. A host on machines of its own saves at the end of the turn, before
+// it makes an event public or posts the packet (docs/HOST.md, 1).
 bool Office::turn(Carrier &carrier, Watch &watch) {
   const bool took = take(carrier);
   bool moved = took;

@@ -84,9 +84,10 @@ struct Office {
     return answer;
   }
   std::uint64_t entry() const { return dvs_event_entry(event.data()); }
-  void take(const Message &message) {
-    need(dvs_deliver(book.data(), book.size(), message.bytes.data(), message.bytes.size(), message.sender), "deliver");
+  std::uint32_t deliver(const Message &message) {
+    return dvs_deliver(book.data(), book.size(), message.bytes.data(), message.bytes.size(), message.sender);
   }
+  void take(const Message &message) { need(deliver(message), "deliver"); }
   Delivery take_packet(const Bytes &packet, std::uint32_t sender) {
     std::array<std::uint8_t, DVS_DELIVERY_SIZE> delivery{};
     need(dvs_deliver_packet(book.data(), book.size(), packet.data(), packet.size(), sender, delivery.data(), delivery.size()), "packet");
@@ -334,6 +335,48 @@ void registered_too_soon() {
   std::printf("  entry 7, which was safe, is at %s: no office of view 2 has it\n", names(having(offices, 7)).c_str());
 }
 
+// Office 0 sends entry 7 and its message is posted. Then the office is stopped, and comes back with what it saved last. What is public then, with the
+// turn saved and its event published before the message is posted, and with neither.
+std::string posted(bool saved_first) {
+  Offices offices = fresh();
+  std::string history;
+  auto saved = offices[0].book;
+  offices[0].send(7);
+  const std::vector<Message> packet = offices[0].pass();
+  if (saved_first) saved = offices[0].book, publish(history, offices[0]);
+  offices[1].take(packet.front());
+  offices[0].book = saved;
+  offices[0].join(1, set_of({0, 1, 2}));
+  need(offices[1].hand(), "hand");
+  publish(history, offices[1]);
+  return history;
+}
+
+// Office 0 saves and publishes that it sent entry 7, is stopped before the message is posted, and comes back. Then it sends entry 8, in the view of its
+// book or after a join. What is public then.
+std::string came_back(bool joins) {
+  Offices offices = fresh();
+  std::string history;
+  offices[0].send(7), publish(history, offices[0]);
+  if (offices[0].pass().size() != 1) stop("there was not one message to post");
+  if (joins) offices[0].join(1, set_of({0, 1, 2}));
+  offices[0].send(8), publish(history, offices[0]);
+  for (const Message &message : offices[0].pass())
+    if (offices[1].deliver(message) != (joins ? DVS_REFUSED_ANOTHER_VIEW : DVS_ACCEPTED)) stop("another message was posted");
+  while (offices[1].hand() == 0) publish(history, offices[1]);
+  return history;
+}
+
+void posted_before_the_save() {
+  std::puts("8. A message is posted before its turn is saved");
+  std::printf("  (if the turn is saved and its event published first: %s)\n", posted(true).c_str());
+  std::puts("  office 0 sends, posts the message, is stopped, and comes back with its book from before the send");
+  std::printf("  %s: handed out and sent by nobody, so no run has these events\n", posted(false).c_str());
+  std::puts("  office 0 saves and publishes a send, is stopped before it posts the message, and comes back");
+  std::printf("  (if it joins a view before it sends again: %s)\n", came_back(true).c_str());
+  std::printf("  if it goes on in its view: %s, as in 4\n", came_back(false).c_str());
+}
+
 // Office 1 takes a packet of office 0, of which the line cut the end, and then what the line brings once more: from the message that was stopped on, or
 // the packet from its front. What is public then.
 std::string handed(bool from_the_stop) {
@@ -351,7 +394,7 @@ std::string handed(bool from_the_stop) {
 }
 
 void packet_again() {
-  std::puts("8. A packet that was stopped is delivered once more from its front");
+  std::puts("9. A packet that was stopped is delivered once more from its front");
   std::printf("  (if it is delivered from the stopped message on: %s)\n", handed(true).c_str());
   std::printf("  %s: sent once and handed out twice, so no run has these events\n", handed(false).c_str());
 }
@@ -366,5 +409,6 @@ int main() {
   forged_info();
   too_many_open();
   registered_too_soon();
+  posted_before_the_save();
   packet_again();
 }
