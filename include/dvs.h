@@ -256,10 +256,12 @@ uint32_t dvs_join(uint8_t *book, size_t book_size, uint32_t view, uint32_t set);
 uint32_t dvs_pass(uint8_t *book, size_t book_size, uint8_t *buffer, size_t buffer_size, uint8_t *length, size_t length_size);
 
 /* The next message of the carrier view's order, from `sender`, is taken; the bytes must be this one message as a whole. What the carrier gives is taken
- * as it comes: a message given twice is taken twice. A view has 128 messages of all kinds. 13, 32 to 38, 7, 41, 42, 16, 43. */
+ * as it comes: a message given twice is taken twice. A view has 128 messages of all kinds. 41 has two causes: a message of a view below the carrier view
+ * is late, and is dropped; one of a view above it came before the join, and is kept in order until then. So is a message that is refused with 13. 13,
+ * 32 to 38, 7, 41, 42, 16, 43. */
 uint32_t dvs_deliver(uint8_t *book, size_t book_size, const uint8_t *bytes, size_t bytes_size, uint32_t sender);
 
-/* A packet: the messages in `bytes`, one behind the other and all from `sender`, are taken one by one up to the first refusal. `delivery`
+/* A packet: the messages in `bytes`, one after another, all from `sender` and of one view, are taken one by one up to the first refusal. `delivery`
  * (DVS_DELIVERY_SIZE bytes) gets how many were taken and the refusal that stopped it, 0 for none: those taken stay taken, and the refused one changes
  * nothing. The call itself has 4 alone; once it is passed the answer is 0, whatever stopped the packet. In the delivery, for each message: 6, 13,
  * 32 to 37, 7, 41, 42, 16, 43; never 38, since what lies behind a message is the next one. Of an empty packet nothing but 4 is asked. */

@@ -248,12 +248,14 @@ class Book {
     if (refusal != Refusal::none) return refusal;
     return static_cast<std::size_t>(detail::get(length, 0, length.size()));
   }
-  // The next message of the carrier view's order, from its first on, this office's own too.
+  // The next message of the carrier view's order, from its first on, this office's own too. Refusal::another_view has two causes: a
+  // message of a view below the carrier view is late, and is dropped; one of a view above it came before the join, and is kept in order until then. So is
+  // a message that is refused with Refusal::no_carrier_view.
   Result<void> deliver(Bytes message, Member sender) noexcept {
     return refused(dvs_deliver(data(), size(), message.data(), message.size(), number(sender)));
   }
-  // The next messages of the order, all from one sender, one behind the other in one packet: they are taken one by one up to the first refusal. What
-  // stopped it is in the delivery; a refusal of the call means that nothing was taken, and the book is no sound one.
+  // The next messages of the order, all from one sender and of one view, one after another in one packet: they are taken one by one up to the first
+  // refusal. What stopped it is in the delivery; a refusal of the call means that nothing was taken, and the book is no sound one.
   Result<Delivery> deliver_packet(Bytes packet, Member sender) noexcept {
     detail::DeliveryBytes delivery{};
     const Refusal refusal = refused(
@@ -310,7 +312,8 @@ class Book {
 static_assert(sizeof(Book) == DVS_BOOK_SIZE && std::is_standard_layout_v<Book>, "a book is its bytes");
 static_assert(!std::is_copy_constructible_v<Book> && !std::is_copy_assignable_v<Book>, "a book is not copied");
 
-// Joins messages in a buffer of the host's, one behind the other. What is refused adds nothing, and the buffer stays as it was.
+// Joins messages in a buffer of the host's, one after another. What is refused adds nothing, and the buffer stays as it was. A packet holds messages of
+// one view: begin another after a join, since a message of the view that was left stops the packet, and the info after it is lost.
 //
 //   dvs::PacketWriter packet(buffer);
 //   while (packet.pass(book)) {}                                              // all that is outgoing, or as much as there is room for

@@ -26,7 +26,7 @@ class Chance {
   std::uint64_t state_;
 };
 
-// Messages of one office, one behind the other.
+// Messages of one office in one view, one after another.
 using Packet = std::vector<std::uint8_t>;
 
 struct Letter {
@@ -53,7 +53,8 @@ class Carrier {
   void post(dvs::Member office, dvs::Bytes packet);
   // One try for the first packet of every office, from the office to the one that keeps the view's order.
   void carry();
-  // The next packet of the order, from there to the office, if it comes through now; or one of an earlier view that comes too late.
+  // The next packet of the order, from there to the office, if it comes through now; or one of an earlier view that comes too late. Packets of a view that
+  // the office has not entered yet stay in the view's order: given now they would be refused, and the office would miss them for good.
   std::optional<Letter> take(dvs::Member office);
   // Whether the order of the office's view has all the messages that a view can have.
   bool full(dvs::Member office) const;

@@ -51,7 +51,8 @@ bool Office::pass_on(Carrier &carrier) {
   return true;
 }
 
-// Takes up to two packets. One of a view that this office has left is stopped by 41 at its first message and dropped.
+// Takes up to two packets. One of a view that this office has left is stopped by 41 at its first message and dropped. One of a view that it has not
+// joined would be stopped by 41 too and must not be dropped: the carrier keeps it until this office has joined.
 bool Office::take(Carrier &carrier) {
   bool took = false;
   for (int i = 0; i < 2; ++i) {

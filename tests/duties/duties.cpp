@@ -377,6 +377,64 @@ void posted_before_the_save() {
   std::printf("  if it goes on in its view: %s, as in 4\n", came_back(false).c_str());
 }
 
+void dropped_before_the_join() {
+  std::puts("9. A message of a view that an office has not joined yet is dropped");
+  const std::initializer_list<unsigned> members = {1, 2, 3, 4, 5};
+  Offices offices = started(6, set_of({0, 1, 2}));
+  offices[0].send(7);
+  const Message late = offices[0].pass().front();
+  offices[1].join(1, set_of(members));
+  const Message early = offices[1].pass().front();
+  std::printf("  office 1 has joined view 1 %s. Its info comes to office 2, in view 0, and to office 3, in no view: refused with %u and %u\n",
+              names(set_of(members)).c_str(), offices[2].deliver(early), offices[3].deliver(early));
+  each(offices, {2, 3, 4, 5}, [&](Office &office) { office.join(1, set_of(members)); });
+  Offices kept = offices;
+  each(kept, members, [&](Office &office) { office.take(early); });
+  carry(kept, members);
+  const std::uint32_t below = kept[2].deliver(late);
+  need(attempt(kept, members), "attempt");
+  std::printf("  (if both keep it until they have joined, all attempt view 1; a message of view 0 that comes then is refused with %u, and not missed)\n",
+              below);
+  each(offices, {1, 4, 5}, [&](Office &office) { office.take(early); });
+  carry(offices, members);
+  need(attempt(offices, {1, 4, 5}), "attempt");
+  const std::uint32_t missing = attempt(offices, {2, 3});
+  each(offices, {1, 4, 5}, [](Office &office) { office.register_view(); });
+  carry(offices, members);
+  std::printf("  if both drop it, they are refused with %u, and once the others have registered with %u\n", missing, attempt(offices, {2, 3}));
+}
+
+// Office 0 passes the message of an entry, joins view 1 and passes its info: into one packet, or into one each. What office 1, in view 1, takes of them.
+struct Crossing {
+  std::vector<Delivery> deliveries;
+  std::uint32_t attempt;
+};
+Crossing across_a_join(bool one_packet) {
+  Offices offices = fresh();
+  offices[0].send(7);
+  std::vector<Message> packets = offices[0].pass();
+  each(offices, {0, 1, 2}, [](Office &office) { office.join(1, set_of({0, 1, 2})); });
+  const Message info = offices[0].pass().front();
+  if (one_packet) packets[0].bytes.insert(packets[0].bytes.end(), info.bytes.begin(), info.bytes.end());
+  else packets.push_back(info);
+  carry(offices, {1, 2});
+  std::vector<Delivery> deliveries;
+  for (const Message &packet : packets) deliveries.push_back(offices[1].take_packet(packet.bytes, packet.sender));
+  return {deliveries, offices[1].attempt()};
+}
+
+void filled_across_a_join() {
+  std::puts("10. A packet is filled across a join");
+  const Crossing apart = across_a_join(false), together = across_a_join(true);
+  const Delivery left = apart.deliveries.at(0), joined = apart.deliveries.at(1);
+  if (left.count != 0 || joined.stopped != 0) stop("the packets were taken otherwise");
+  need(apart.attempt, "attempt");
+  std::printf("  (in two packets the message of view 0 is refused with %u, and the info of view 1 is taken: office 1 attempts view 1)\n", left.stopped);
+  const Delivery lost = together.deliveries.at(0);
+  std::printf("  in one packet %zu messages are taken before %u stops it: the info is lost, and the attempt is refused with %u\n", lost.count,
+              lost.stopped, together.attempt);
+}
+
 // Office 1 takes a packet of office 0, of which the line cut the end, and then what the line brings once more: from the message that was stopped on, or
 // the packet from its front. What is public then.
 std::string handed(bool from_the_stop) {
@@ -394,7 +452,7 @@ std::string handed(bool from_the_stop) {
 }
 
 void packet_again() {
-  std::puts("9. A packet that was stopped is delivered once more from its front");
+  std::puts("11. A packet that was stopped is delivered once more from its front");
   std::printf("  (if it is delivered from the stopped message on: %s)\n", handed(true).c_str());
   std::printf("  %s: sent once and handed out twice, so no run has these events\n", handed(false).c_str());
 }
@@ -410,5 +468,7 @@ int main() {
   too_many_open();
   registered_too_soon();
   posted_before_the_save();
+  dropped_before_the_join();
+  filled_across_a_join();
   packet_again();
 }
