@@ -235,10 +235,10 @@ uint64_t dvs_size(uint32_t range, uint32_t views);
  *    stops its sender in this view.
  * 4. A member's book never goes back, but for the outgoing list of a member that joins next.
  *
- * A member works in turns, and one rule covers every call. Take what came. Step. Save once and sync: the book, the client's copy, the events of the turn.
- * Then publish the events, and after them post the messages. After a restart load what was saved last, and join a view before any other call: an older
- * book, or a second start, breaks the promise. The start is the same for every member, and no two members have one number. Messages are believed: who can
- * put bytes on the line can break the promise.
+ * A member works in turns, and one rule covers every call. Take what came. Step. Save once and sync: the book, what the client has, and the events of the
+ * turn. Then publish the events, and after them post the messages. After a restart load what was saved last, and join a view before any other call: an
+ * older book, or a second start, breaks the promise. The start is the same for every member, and no two members have one number. Messages are believed:
+ * who can put bytes on the line can break the promise.
  *
  * Being in a primary view is no licence: two groups of members may hand out entries at the same time, and what was only handed out may have to be
  * withdrawn. What is reported safe was in the hands of every member of its view. It is final if every member registers last: after every member of the
@@ -328,8 +328,8 @@ uint32_t dvs_group_step(uint8_t *list, size_t list_size, uint8_t *books, size_t 
 /* The driver: the newest view, `view`, which no member has joined, is taken from made to settled at all its k servers by 2 * k * k + 8 * k ordinary steps:
  * joins; passes, orders and deliveries of the infos; attempts; registers; passes, orders and deliveries of the registrations; collects, each kind by
  * rising server. Their events are k attempts, then k registers, by rising server. `count` (DVS_LENGTH_SIZE bytes) gets the number of steps. Either all are
- * taken or none. It registers for all k at once, so the host brings all k copies up to date before the call (docs/HOST.md, 7). 4, 10, 44, 45; then, of
- * ranges that no calls lead to, the first refusal among the steps. */
+ * taken or none. It registers for all k at once, so the host brings the copies of all k clients up to date before the call (docs/HOST.md, 7). 4, 10, 44,
+ * 45; then, of ranges that no calls lead to, the first refusal among the steps. */
 uint32_t dvs_group_form(uint8_t *list, size_t list_size, uint8_t *books, size_t books_size, uint8_t *queues, size_t queues_size, uint32_t view,
                         uint8_t *count, size_t count_size);
 
