@@ -361,8 +361,9 @@ std::string came_back(bool joins) {
   if (offices[0].pass().size() != 1) stop("there was not one message to post");
   if (joins) offices[0].join(1, set_of({0, 1, 2}));
   offices[0].send(8), publish(history, offices[0]);
-  for (const Message &message : offices[0].pass())
-    if (offices[1].deliver(message) != (joins ? DVS_REFUSED_ANOTHER_VIEW : DVS_ACCEPTED)) stop("another message was posted");
+  const std::vector<Message> packet = offices[0].pass();
+  const std::uint32_t answer = joins ? DVS_REFUSED_ANOTHER_VIEW : DVS_ACCEPTED;
+  if (packet.size() != 1 || offices[1].deliver(packet.front()) != answer) stop("another message was posted");
   while (offices[1].hand() == 0) publish(history, offices[1]);
   return history;
 }
