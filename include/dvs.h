@@ -30,6 +30,14 @@
 extern "C" {
 #endif
 
+/* ---- what a call returns must be looked at: in C a compiler that has the attribute warns if it is ignored, in C++ the results of dvs.hpp do the same */
+
+#if defined(__GNUC__) && !defined(__cplusplus)
+#define DVS_MUST_CHECK __attribute__((warn_unused_result))
+#else
+#define DVS_MUST_CHECK
+#endif
+
 /* ---- the version: major * 10000 + minor * 100 + patch; dvs_version() gives the library's, which a host compares with this once */
 
 #define DVS_VERSION 500u
@@ -213,11 +221,11 @@ extern "C" {
  */
 
 /* DVS_VERSION as the library was built with. */
-uint32_t dvs_version(void);
+uint32_t dvs_version(void) DVS_MUST_CHECK;
 
 /* How many bytes the range DVS_SIZE_... has, of a list and of queues with room for `views`; of the others `views` is not looked at. 0 for an unknown
  * range, and for views that are not 1 to 32 where they count. */
-uint64_t dvs_size(uint32_t range, uint32_t views);
+uint64_t dvs_size(uint32_t range, uint32_t views) DVS_MUST_CHECK;
 
 /*
  * ---- the member by itself: one office's part, over a carrier of the host's own
@@ -246,52 +254,52 @@ uint64_t dvs_size(uint32_t range, uint32_t views);
  */
 
 /* The book of member `own` in a group of `members`, with the first view, identifier 0, of `first_set`. 4, 1, 2, 6. */
-uint32_t dvs_start(uint8_t *book, size_t book_size, uint32_t members, uint32_t first_set, uint32_t own);
+uint32_t dvs_start(uint8_t *book, size_t book_size, uint32_t members, uint32_t first_set, uint32_t own) DVS_MUST_CHECK;
 
 /* The carrier gave this member a view: it becomes the carrier view, and outgoing holds one info. 7, 11, 12. */
-uint32_t dvs_join(uint8_t *book, size_t book_size, uint32_t view, uint32_t set);
+uint32_t dvs_join(uint8_t *book, size_t book_size, uint32_t view, uint32_t set) DVS_MUST_CHECK;
 
 /* The first outgoing message goes to the front of `buffer`, and its length to `length` (DVS_LENGTH_SIZE bytes). DVS_LONGEST bytes hold any message;
  * what lies behind the message in the buffer stays. 13, 14, 39. */
-uint32_t dvs_pass(uint8_t *book, size_t book_size, uint8_t *buffer, size_t buffer_size, uint8_t *length, size_t length_size);
+uint32_t dvs_pass(uint8_t *book, size_t book_size, uint8_t *buffer, size_t buffer_size, uint8_t *length, size_t length_size) DVS_MUST_CHECK;
 
 /* The next message of the carrier view's order, from `sender`, is taken; the bytes must be this one message as a whole. What the carrier gives is taken
  * as it comes: a message given twice is taken twice. A view has 128 messages of all kinds. 41 has two causes: a message of a view below the carrier view
  * is late, and is dropped; one of a view above it came before the join, and is kept in order until then. So is a message that is refused with 13. 13,
  * 32 to 38, 7, 41, 42, 16, 43. */
-uint32_t dvs_deliver(uint8_t *book, size_t book_size, const uint8_t *bytes, size_t bytes_size, uint32_t sender);
+uint32_t dvs_deliver(uint8_t *book, size_t book_size, const uint8_t *bytes, size_t bytes_size, uint32_t sender) DVS_MUST_CHECK;
 
 /* A packet: the messages in `bytes`, one after another, all from `sender` and of one view, are taken one by one up to the first refusal. `delivery`
  * (DVS_DELIVERY_SIZE bytes) gets how many were taken and the refusal that stopped it, 0 for none: those taken stay taken, and the refused one changes
  * nothing. The call itself has 4 alone; once it is passed the answer is 0, whatever stopped the packet. In the delivery, for each message: 6, 13,
  * 32 to 37, 7, 41, 42, 16, 43; never 38, since what lies behind a message is the next one. Of an empty packet nothing but 4 is asked. */
 uint32_t dvs_deliver_packet(uint8_t *book, size_t book_size, const uint8_t *bytes, size_t bytes_size, uint32_t sender, uint8_t *delivery,
-                            size_t delivery_size);
+                            size_t delivery_size) DVS_MUST_CHECK;
 
 /* The carrier view is attempted: it becomes the client view, this office's primary one. 13, 19, 20, 21, 43. */
-uint32_t dvs_attempt(uint8_t *book, size_t book_size, uint8_t *event, size_t event_size);
+uint32_t dvs_attempt(uint8_t *book, size_t book_size, uint8_t *event, size_t event_size) DVS_MUST_CHECK;
 
 /* The client registers in the client view: last, when every member of the view has attempted it and the client has taken over all that each of them held
  * then. If the client view is not the carrier view any more, it is accepted and no message goes out. 22, 23, 24. */
-uint32_t dvs_register(uint8_t *book, size_t book_size, uint8_t *event, size_t event_size);
+uint32_t dvs_register(uint8_t *book, size_t book_size, uint8_t *event, size_t event_size) DVS_MUST_CHECK;
 
 /* The client sends an entry number in the client view. Where that is not the carrier view any more it is accepted and no message goes out. 22, 24. */
-uint32_t dvs_send(uint8_t *book, size_t book_size, uint64_t entry, uint8_t *event, size_t event_size);
+uint32_t dvs_send(uint8_t *book, size_t book_size, uint64_t entry, uint8_t *event, size_t event_size) DVS_MUST_CHECK;
 
 /* The next entry of the client view is given to the client, who may have to withdraw it as long as it is not reported safe. 22, 25. */
-uint32_t dvs_hand(uint8_t *book, size_t book_size, uint8_t *event, size_t event_size);
+uint32_t dvs_hand(uint8_t *book, size_t book_size, uint8_t *event, size_t event_size) DVS_MUST_CHECK;
 
 /* The others are told how many entries the client has. Those are on disk with the book before the message leaves. 22, 26, 27, 24. */
-uint32_t dvs_tell(uint8_t *book, size_t book_size);
+uint32_t dvs_tell(uint8_t *book, size_t book_size) DVS_MUST_CHECK;
 
 /* The next entry is reported safe: every client of the view has it, and it is final if every member registers last. 22, 26, 28, 29. */
-uint32_t dvs_safe(uint8_t *book, size_t book_size, uint8_t *event, size_t event_size);
+uint32_t dvs_safe(uint8_t *book, size_t book_size, uint8_t *event, size_t event_size) DVS_MUST_CHECK;
 
 /* The carrier view, registered by all its members, becomes settled. 13, 30, 31. */
-uint32_t dvs_collect(uint8_t *book, size_t book_size);
+uint32_t dvs_collect(uint8_t *book, size_t book_size) DVS_MUST_CHECK;
 
 /* Whether the bytes are a sound book of a member, which every call above takes: nothing changes. It cannot tell an old copy from the last. 4, 6. */
-uint32_t dvs_check(const uint8_t *book, size_t book_size);
+uint32_t dvs_check(const uint8_t *book, size_t book_size) DVS_MUST_CHECK;
 
 /*
  * ---- messages: the bytes that go over the line, and a record of DVS_MESSAGE_SIZE bytes
@@ -300,15 +308,15 @@ uint32_t dvs_check(const uint8_t *book, size_t book_size);
 /* Reads the message at the front of the bytes, and gives how many of them it took in `length` (DVS_LENGTH_SIZE bytes): what lies behind them is not
  * looked at, and a packet is read by reading its front until no byte is left. Every byte of the record is written, 0 where the message has nothing. 4,
  * 32 to 34 as the bytes come, then 35 to 37. */
-uint32_t dvs_read_front(const uint8_t *bytes, size_t bytes_size, uint8_t *message, size_t message_size, uint8_t *length, size_t length_size);
+uint32_t dvs_read_front(const uint8_t *bytes, size_t bytes_size, uint8_t *message, size_t message_size, uint8_t *length, size_t length_size) DVS_MUST_CHECK;
 
 /* Reads one message, which the bytes must be as a whole; every byte of the record is written, 0 where the message has nothing. 4, 32 to 34 as the
  * bytes come, then 35 to 38. */
-uint32_t dvs_read(const uint8_t *bytes, size_t bytes_size, uint8_t *message, size_t message_size);
+uint32_t dvs_read(const uint8_t *bytes, size_t bytes_size, uint8_t *message, size_t message_size) DVS_MUST_CHECK;
 
 /* Writes the record's message to the front of `buffer`, and its length to `length` (DVS_LENGTH_SIZE bytes). Places that the message does not use are
  * not looked at. 4, 33 to 37, 39. */
-uint32_t dvs_write(const uint8_t *message, size_t message_size, uint8_t *buffer, size_t buffer_size, uint8_t *length, size_t length_size);
+uint32_t dvs_write(const uint8_t *message, size_t message_size, uint8_t *buffer, size_t buffer_size, uint8_t *length, size_t length_size) DVS_MUST_CHECK;
 
 /*
  * ---- the whole group: all members and the carrier between them, in three ranges
@@ -319,11 +327,11 @@ uint32_t dvs_write(const uint8_t *message, size_t message_size, uint8_t *buffer,
 /* A group of `members` begins with the first view, identifier 0, of `first_set`; every byte of the three ranges is written. 4, 1, 2, 3;
  * of a list with room for no view or for more than 32, which gets 3, the queues have no length that could be asked. */
 uint32_t dvs_group_start(uint8_t *list, size_t list_size, uint8_t *books, size_t books_size, uint8_t *queues, size_t queues_size, uint32_t members,
-                         uint32_t first_set);
+                         uint32_t first_set) DVS_MUST_CHECK;
 
 /* One step of any kind (DVS_STEP_...) with its operands, 0 for those it does not have. An accepted step writes the event. 4, 5, 6, then as the kind. */
 uint32_t dvs_group_step(uint8_t *list, size_t list_size, uint8_t *books, size_t books_size, uint8_t *queues, size_t queues_size, uint32_t kind,
-                        uint32_t first, uint64_t second, uint8_t *event, size_t event_size);
+                        uint32_t first, uint64_t second, uint8_t *event, size_t event_size) DVS_MUST_CHECK;
 
 /* The driver: the newest view, `view`, which no member has joined, is taken from made to settled at all its k servers by 2 * k * k + 8 * k ordinary steps:
  * joins; passes, orders and deliveries of the infos; attempts; registers; passes, orders and deliveries of the registrations; collects, each kind by
@@ -331,23 +339,23 @@ uint32_t dvs_group_step(uint8_t *list, size_t list_size, uint8_t *books, size_t 
  * taken or none. It registers for all k at once, so the host brings the copies of all k clients up to date before the call (docs/HOST.md, 7). 4, 10, 44,
  * 45; then, of ranges that no calls lead to, the first refusal among the steps. */
 uint32_t dvs_group_form(uint8_t *list, size_t list_size, uint8_t *books, size_t books_size, uint8_t *queues, size_t queues_size, uint32_t view,
-                        uint8_t *count, size_t count_size);
+                        uint8_t *count, size_t count_size) DVS_MUST_CHECK;
 
 /* dvs_group_start, then every step of `steps` (whole records of DVS_STEP_SIZE bytes, none or any number) in turn, each with its answer in `answers`
  * (as many records of DVS_ANSWER_SIZE). A refused step does not end the run: its number is in its answer. 4 where the records do not pair, then as
  * dvs_group_start. */
 uint32_t dvs_group_run(uint8_t *list, size_t list_size, uint8_t *books, size_t books_size, uint8_t *queues, size_t queues_size, uint32_t members,
-                       uint32_t first_set, const uint8_t *steps, size_t steps_size, uint8_t *answers, size_t answers_size);
+                       uint32_t first_set, const uint8_t *steps, size_t steps_size, uint8_t *answers, size_t answers_size) DVS_MUST_CHECK;
 
 /* A list of steps for a group that exists: every step of `steps` in turn, each with its answer in `answers`, in records as for dvs_group_run. A step does
  * what dvs_group_step does, and its answer holds the number and the event that dvs_group_step gives. A refused step does not end the list. A group
  * that calls lead to is checked once for the whole list, so two steps or more take less time than one by one. 4 if the records do not pair, then 4 if the
  * ranges are not a sound group. */
 uint32_t dvs_group_steps(uint8_t *list, size_t list_size, uint8_t *books, size_t books_size, uint8_t *queues, size_t queues_size,
-                         const uint8_t *steps, size_t steps_size, uint8_t *answers, size_t answers_size);
+                         const uint8_t *steps, size_t steps_size, uint8_t *answers, size_t answers_size) DVS_MUST_CHECK;
 
 /* Whether the three ranges are a sound group, which every step takes: nothing changes. 4. */
-uint32_t dvs_group_check(const uint8_t *list, size_t list_size, const uint8_t *books, size_t books_size, const uint8_t *queues, size_t queues_size);
+uint32_t dvs_group_check(const uint8_t *list, size_t list_size, const uint8_t *books, size_t books_size, const uint8_t *queues, size_t queues_size) DVS_MUST_CHECK;
 
 /*
  * ---- readers of what calls write: each looks at its own bytes alone, and asks for a range of its length
@@ -403,6 +411,66 @@ static inline uint32_t dvs_queues_waiting(const uint8_t *queues, uint32_t i, uin
 /* The answer i of a run. */
 static inline uint32_t dvs_answer_number(const uint8_t *answers, size_t i) { return answers[DVS_ANSWER_SIZE * i + DVS_ANSWER_NUMBER]; }
 static inline const uint8_t *dvs_answer_event(const uint8_t *answers, size_t i) { return answers + DVS_ANSWER_SIZE * i + DVS_ANSWER_EVENT; }
+
+/*
+ * ---- refusals in words
+ */
+
+/* The words of what a call returned, 0 or a refusal's number, for a log. */
+#if defined(__cpp_constexpr) && __cpp_constexpr >= 201304L
+constexpr
+#endif
+static inline const char *dvs_refusal_text(uint32_t refusal) {
+  switch (refusal) {
+    case DVS_ACCEPTED: return "accepted";
+    case DVS_REFUSED_MEMBERS_OUT_OF_RANGE: return "the number of members is not 1 to 8";
+    case DVS_REFUSED_FIRST_SET_UNFIT: return "the first set is empty or beyond the members";
+    case DVS_REFUSED_LIST_LENGTH: return "the list does not have room for 1 to 32 views";
+    case DVS_REFUSED_RECORDS_UNSOUND: return "the lent bytes are no sound record, or not of their length";
+    case DVS_REFUSED_UNKNOWN_STEP: return "there is no step of this kind";
+    case DVS_REFUSED_NO_SUCH_MEMBER: return "there is no such member";
+    case DVS_REFUSED_SET_UNFIT: return "a set is empty or beyond the members";
+    case DVS_REFUSED_IDENTIFIER_NOT_ABOVE: return "the identifier is not above all made before";
+    case DVS_REFUSED_LIST_FULL: return "the list of views is full";
+    case DVS_REFUSED_NO_SUCH_VIEW: return "there is no such view";
+    case DVS_REFUSED_NOT_IN_SET: return "the member is not in the view";
+    case DVS_REFUSED_NOT_ABOVE_CARRIER: return "the view is not above the carrier view";
+    case DVS_REFUSED_NO_CARRIER_VIEW: return "the member has no carrier view";
+    case DVS_REFUSED_NONE_OUTGOING: return "no message is outgoing";
+    case DVS_REFUSED_WAITING_FULL: return "8 messages of the member wait in the view already";
+    case DVS_REFUSED_ORDER_FULL: return "the view's order has its 128 messages";
+    case DVS_REFUSED_NONE_WAITING: return "no message of the member waits in the view";
+    case DVS_REFUSED_NONE_TO_DELIVER: return "the member has taken every message of the view";
+    case DVS_REFUSED_NOT_ABOVE_CLIENT: return "the carrier view is not above the client view";
+    case DVS_REFUSED_INFO_MISSING: return "the info of a member of the view is missing";
+    case DVS_REFUSED_TEST_FAILED: return "the view has no majority of a view that is held";
+    case DVS_REFUSED_NO_CLIENT_VIEW: return "the member has no client view";
+    case DVS_REFUSED_ALREADY_REGISTERED: return "the client has registered in this view already";
+    case DVS_REFUSED_OUTGOING_FULL: return "16 messages are outgoing already";
+    case DVS_REFUSED_NONE_TO_HAND: return "every entry taken was handed out";
+    case DVS_REFUSED_CLIENT_NOT_CARRIER: return "the client view is not the carrier view";
+    case DVS_REFUSED_NOTHING_NEW_TO_TELL: return "nothing was handed out since the last count told";
+    case DVS_REFUSED_NONE_TO_REPORT: return "every entry handed out was reported safe";
+    case DVS_REFUSED_TOLD_TOO_LOW: return "a member has not told that its client has the entry";
+    case DVS_REFUSED_NOT_ABOVE_SETTLED: return "the carrier view is not above the settled view";
+    case DVS_REFUSED_REGISTRATION_MISSING: return "the registration of a member of the view is missing";
+    case DVS_REFUSED_ENDS_EARLY: return "the message ends early";
+    case DVS_REFUSED_UNKNOWN_KIND: return "there is no message of this kind";
+    case DVS_REFUSED_SECTION_COUNT: return "a section of the message has a wrong count";
+    case DVS_REFUSED_EMPTY_SET: return "a view in the message has an empty set";
+    case DVS_REFUSED_NOT_RISING: return "the identifiers in the message do not rise";
+    case DVS_REFUSED_TOLD_OUT_OF_RANGE: return "the count told is not 1 to 128";
+    case DVS_REFUSED_BYTES_LEFT_OVER: return "bytes are left over behind the message";
+    case DVS_REFUSED_BUFFER_TOO_SHORT: return "the buffer is too short for the message";
+    case DVS_REFUSED_LINE_UNREADABLE: return "the bench cannot read the line";
+    case DVS_REFUSED_ANOTHER_VIEW: return "the message was sent in another view";
+    case DVS_REFUSED_SENDER_NOT_IN_VIEW: return "the sender is not in the view";
+    case DVS_REFUSED_TOO_MANY_OPEN: return "more than 31 views would be open";
+    case DVS_REFUSED_VIEW_NOT_FRESH: return "the view to form is not the newest, or a member has joined it";
+    case DVS_REFUSED_FORM_TEST_FAILED: return "the view to form has no majority of a view that one of its servers holds";
+  }
+  return "no refusal of this library";
+}
 
 #ifdef __cplusplus
 }

@@ -119,57 +119,7 @@ enum class Refusal : std::uint32_t {
 constexpr std::uint32_t number(Refusal refusal) noexcept { return static_cast<std::uint32_t>(refusal); }
 
 // The refusal in plain words, for a log.
-constexpr const char *text(Refusal refusal) noexcept {
-  switch (refusal) {
-    case Refusal::none: return "accepted";
-    case Refusal::members_out_of_range: return "the number of members is not 1 to 8";
-    case Refusal::first_set_unfit: return "the first set is empty or beyond the members";
-    case Refusal::list_length: return "the list does not have room for 1 to 32 views";
-    case Refusal::records_unsound: return "the lent bytes are no sound record, or not of their length";
-    case Refusal::unknown_step: return "there is no step of this kind";
-    case Refusal::no_such_member: return "there is no such member";
-    case Refusal::set_unfit: return "a set is empty or beyond the members";
-    case Refusal::identifier_not_above: return "the identifier is not above all made before";
-    case Refusal::list_full: return "the list of views is full";
-    case Refusal::no_such_view: return "there is no such view";
-    case Refusal::not_in_set: return "the member is not in the view";
-    case Refusal::not_above_carrier: return "the view is not above the carrier view";
-    case Refusal::no_carrier_view: return "the member has no carrier view";
-    case Refusal::none_outgoing: return "no message is outgoing";
-    case Refusal::waiting_full: return "8 messages of the member wait in the view already";
-    case Refusal::order_full: return "the view's order has its 128 messages";
-    case Refusal::none_waiting: return "no message of the member waits in the view";
-    case Refusal::none_to_deliver: return "the member has taken every message of the view";
-    case Refusal::not_above_client: return "the carrier view is not above the client view";
-    case Refusal::info_missing: return "the info of a member of the view is missing";
-    case Refusal::test_failed: return "the view has no majority of a view that is held";
-    case Refusal::no_client_view: return "the member has no client view";
-    case Refusal::already_registered: return "the client has registered in this view already";
-    case Refusal::outgoing_full: return "16 messages are outgoing already";
-    case Refusal::none_to_hand: return "every entry taken was handed out";
-    case Refusal::client_not_carrier: return "the client view is not the carrier view";
-    case Refusal::nothing_new_to_tell: return "nothing was handed out since the last count told";
-    case Refusal::none_to_report: return "every entry handed out was reported safe";
-    case Refusal::told_too_low: return "a member has not told that its client has the entry";
-    case Refusal::not_above_settled: return "the carrier view is not above the settled view";
-    case Refusal::registration_missing: return "the registration of a member of the view is missing";
-    case Refusal::ends_early: return "the message ends early";
-    case Refusal::unknown_kind: return "there is no message of this kind";
-    case Refusal::section_count: return "a section of the message has a wrong count";
-    case Refusal::empty_set: return "a view in the message has an empty set";
-    case Refusal::not_rising: return "the identifiers in the message do not rise";
-    case Refusal::told_out_of_range: return "the count told is not 1 to 128";
-    case Refusal::bytes_left_over: return "bytes are left over behind the message";
-    case Refusal::buffer_too_short: return "the buffer is too short for the message";
-    case Refusal::line_unreadable: return "the bench cannot read the line";
-    case Refusal::another_view: return "the message was sent in another view";
-    case Refusal::sender_not_in_view: return "the sender is not in the view";
-    case Refusal::too_many_open: return "more than 31 views would be open";
-    case Refusal::view_not_fresh: return "the view to form is not the newest, or a member has joined it";
-    case Refusal::form_test_failed: return "the view to form has no majority of a view that one of its servers holds";
-  }
-  return "no refusal of this library";
-}
+constexpr const char *text(Refusal refusal) noexcept { return dvs_refusal_text(number(refusal)); }
 
 // What a call gives: a value, or the refusal in its place. The value of a refused call is T{}. A Result without a name gives its value away and has no
 // arrow, so that nothing can point into it once it is gone.

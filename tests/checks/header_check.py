@@ -2,7 +2,7 @@
 """header_check.py: holds include/dvs.h to the Rattle sources.
 
 It compares every constant, length, place and refusal number of the header, and the name and parameter list of every exported function, with
-crates/*/src, and the version with the Makefile's. It prints each difference and exits with 1 where there is one."""
+crates/*/src, and the version with the Makefile's. Each function must have DVS_MUST_CHECK. It prints each difference and exits with 1 where there is one."""
 import re
 import sys
 
@@ -53,6 +53,7 @@ def expected_constants():
     wanted['DVS_QUEUES_ORDER(i)'] = '(%du + %du * DVS_COUNT(i))' % (groups['HEAD'], groups['TABLE'])
     waiting = groups['HEAD'] + groups['ORDER'], groups['TABLE'], groups['WAITING']
     wanted['DVS_QUEUES_WAITING(i, p)'] = '(%du + %du * DVS_COUNT(i) + %du * DVS_COUNT(p))' % waiting
+    wanted['DVS_MUST_CHECK'] = '__attribute__((warn_unused_result))'
     wanted['DVS_COUNT(views)'] = '((size_t)(views))'  # as C has it, the last of the two
     wanted.update({'DVS_BOOK_' + name: books[name] for name in BOOK_PLACES})
     wanted.update({'DVS_SIZE_' + name: library[name] for name in RANGES}, DVS_VERSION=version(), DVS_QUEUES_MADE=groups['MADE'])
@@ -107,7 +108,9 @@ def expected_functions():
 
 def given_functions(text):
     functions = {}
-    for result, name, parameters in re.findall(r'^(\w+) (\w+)\(([^)]*)\);', text, flags=re.M):
+    for result, name, parameters, checked in re.findall(r'^(\w+) (\w+)\(([^)]*)\)( DVS_MUST_CHECK)?;', text, flags=re.M):
+        if not checked:
+            faults.append('function %s of the header has no DVS_MUST_CHECK' % name)
         functions[name] = '%s %s(%s)' % (result, name, ' '.join(parameters.split()))
     return functions
 

@@ -121,7 +121,7 @@ PARTS = [
     ('crates/*/proofs/**/Numbers.antt', 'eqb (numberOf r) 0 ≡ false\n', WHOLE, each('never-0 {r.name} = refl\n')),
     ('include/dvs.h', '#define DVS_ACCEPTED 0u\n', '\n/*\n', constants()),
     ('include/dvs_types.hpp', '  none = DVS_ACCEPTED,\n', '};\n', each('  {r.lower} = DVS_REFUSED_{r.screaming},\n')),
-    ('include/dvs_types.hpp', '    case Refusal::none: return "accepted";\n', '  }\n', each('    case Refusal::{r.lower}: return "{r.words}";\n')),
+    ('include/dvs.h', '    case DVS_ACCEPTED: return "accepted";\n', '  }\n', each('    case DVS_REFUSED_{r.screaming}: return "{r.words}";\n')),
     ('tests/outside/refusals.inc', WHOLE, WHOLE, '/* The answers of include/dvs.h in the order of their numbers, from 0. */\n' +
      rows(['DVS_ACCEPTED'] + ['DVS_REFUSED_' + r.screaming for r in REFUSALS])),
     ('tests/reference/refusals.inc', WHOLE, WHOLE, '// The refusals of the plain implementations in C++, for an enum of theirs.\n' +

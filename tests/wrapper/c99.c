@@ -1,6 +1,8 @@
-/* The C header in a C99 program: a book, its event read by the header's readers, a packet, a view formed, a list of steps, and what a shared object
+/* The C header in a C99 program: a book, its event read by the header's readers, a packet, a view formed, a list of steps, words, and what a shared object
  * answers where one is linked. */
 #include <dvs.h>
+
+#include <string.h>
 
 #ifdef SHARED
 uint32_t in_a_shared_object(uint8_t *book);
@@ -49,6 +51,9 @@ int main(void) {
   if (dvs_group_steps(list, sizeof list, books, sizeof books, queues, sizeof queues, steps, sizeof steps, answers, sizeof answers) != DVS_ACCEPTED) return 32;
   if (dvs_answer_number(answers, 0) != DVS_ACCEPTED || dvs_event_view(sent) != 258 || dvs_event_entry(sent) != 9) return 33;
   if (dvs_answer_number(answers, 1) != DVS_REFUSED_NONE_TO_HAND || dvs_event_kind(handed) != 0) return 34;
+  if (strcmp(dvs_refusal_text(DVS_ACCEPTED), "accepted") != 0) return 35;
+  if (strcmp(dvs_refusal_text(DVS_REFUSED_NO_SUCH_MEMBER), "there is no such member") != 0) return 36;
+  if (strcmp(dvs_refusal_text(DVS_REFUSALS + 1), "no refusal of this library") != 0) return 37;
 #ifdef SHARED
   if (in_a_shared_object(book) != DVS_VERSION) return 17;
 #endif

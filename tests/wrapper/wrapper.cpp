@@ -34,6 +34,8 @@ void texts() {
   for (std::uint32_t i = 0; i <= DVS_REFUSALS; ++i) words.emplace_back(dvs::text(static_cast<Refusal>(i)));
   words.emplace_back(dvs::text(static_cast<Refusal>(DVS_REFUSALS + 1)));
   EXPECT(words.back() == dvs::text(static_cast<Refusal>(0xFFFFFFFFu)));
+  constexpr const char *accepted = dvs::text(Refusal::none);
+  EXPECT(words.front() == accepted && words[21] == dvs_refusal_text(21));
   std::sort(words.begin(), words.end());
   EXPECT(std::adjacent_find(words.begin(), words.end()) == words.end());
   EXPECT(dvs::number(Refusal::none) == 0 && dvs::number(Refusal::test_failed) == 21);
