@@ -1,8 +1,9 @@
 // dvs.hpp: dvs.h in today's C++, from C++17 on.
 //
 // Header only, over the same library. Nothing here is thrown or allocated. A call gives a Result: a value, or the Refusal that stands in its place;
-// after a refusal every byte is as it was. Ranges are std::span where the library of C++20 has it, and a small type of the same use before that; the
-// two are different types in namespaces of their own, so parts of a program that pass them to each other are compiled under one standard.
+// after a refusal every byte is as it was. Ranges are std::spans where the library of C++20 has them, and a small type of the same use before that; the
+// two are different types in namespaces of their own, so parts of a program that pass them to each other are compiled under one standard. A buffer of
+// char or std::byte is taken where a range is. What keeps a range does not take a temporary that owns its bytes: it would outlive them.
 //
 //   dvs::Book book;                                                           // one office's part: 5,234 bytes, held by value
 //   auto started = book.start(5, dvs::Set::below(5), dvs::Member{2});         // member 2 of 5, all in the first view
@@ -63,6 +64,8 @@ inline Result<Front> read_front(Bytes bytes) noexcept {
 class MessagesIn {
  public:
   explicit MessagesIn(Bytes bytes) noexcept : bytes_(bytes) {}
+  template <class Owner, class = detail::Temporary<Owner>>
+  explicit MessagesIn(Owner &&) = delete;
 
   // Of the last loop: why it ended, none where no byte was left or the host ended it; and how many bytes the messages took that it came to.
   Refusal refusal() const noexcept { return refusal_; }
@@ -125,6 +128,8 @@ class MessagesIn {
   Message message_{};
 };
 inline MessagesIn messages_in(Bytes bytes) noexcept { return MessagesIn(bytes); }
+template <class Owner, class = detail::Temporary<Owner>>
+MessagesIn messages_in(Owner &&) = delete;
 
 // Reads one message, which the bytes must be as a whole.
 inline Result<Message> read(Bytes bytes) noexcept {
@@ -159,6 +164,8 @@ inline Result<MessageBytes> write(const Message &message) noexcept {
 class BookReader {
  public:
   constexpr explicit BookReader(Bytes book) noexcept : book_(book) {}
+  template <class Owner, class = detail::Temporary<Owner>>
+  explicit BookReader(Owner &&) = delete;
 
   constexpr std::uint32_t members() const noexcept { return detail::byte(book_, DVS_BOOK_MEMBERS); }
   constexpr Member own() const noexcept { return static_cast<Member>(detail::byte(book_, DVS_BOOK_SELF)); }

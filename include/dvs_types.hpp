@@ -36,18 +36,38 @@ inline namespace DVS_INLINE_NAMESPACE {
 
 // ---- ranges of bytes
 
+namespace detail {
+
+// What the data() of an Owner points at, which a function took as Owner &&. A temporary counts as const: nothing may be written to it.
+template <class Owner>
+using Element = std::remove_pointer_t<decltype(std::data(std::declval<const Owner &>()))>;
+
+// Whether a range of T may be made from a pointer to Byte, a char or a std::byte.
+template <class Byte, class T>
+constexpr bool is_other_byte = (std::is_same_v<std::remove_const_t<Byte>, char> || std::is_same_v<std::remove_const_t<Byte>, std::byte>) &&
+                               (std::is_const_v<T> || !std::is_const_v<Byte>);
+
+// Whether Owner is a view of bytes that it does not own: it is made from a pointer and a length, and copied as these.
+template <class Owner, class Byte>
+constexpr bool is_view = std::is_trivially_copyable_v<Owner> && std::is_constructible_v<Owner, Byte *, std::size_t>;
+
+// There is this type only if Owner && is a temporary that owns its bytes. Whoever keeps a view of bytes deletes the overload that takes such a one, since
+// the view would outlive them.
+template <class Owner>
+using Temporary = std::enable_if_t<!std::is_lvalue_reference_v<Owner> && !is_view<Owner, Element<Owner>>>;
+
 #ifdef __cpp_lib_span
-using Bytes = std::span<const std::uint8_t>;
-using MutableBytes = std::span<std::uint8_t>;
+template <class T>
+using Span = std::span<T>;
 #else
 // A pointer and a length, made from an array or from anything with data() and size(), as std::span is.
 template <class T>
-class Range {
+class Span {
  public:
-  constexpr Range() noexcept = default;
-  constexpr Range(T *data, std::size_t size) noexcept : data_(data), size_(size) {}
-  template <class Owner, class = std::enable_if_t<std::is_convertible_v<decltype(std::data(std::declval<Owner &>())), T *>>>
-  constexpr Range(Owner &&owner) noexcept : data_(std::data(owner)), size_(std::size(owner)) {}
+  constexpr Span() noexcept = default;
+  constexpr Span(T *data, std::size_t size) noexcept : data_(data), size_(size) {}
+  template <class Owner, class = std::enable_if_t<std::is_convertible_v<Element<Owner> *, T *>>>
+  constexpr Span(Owner &&owner) noexcept : data_(std::data(owner)), size_(std::size(owner)) {}
 
   constexpr T *data() const noexcept { return data_; }
   constexpr std::size_t size() const noexcept { return size_; }
@@ -60,9 +80,45 @@ class Range {
   T *data_ = nullptr;
   std::size_t size_ = 0;
 };
+#endif
+
+}  // namespace detail
+
+// A span of bytes that may be made from a buffer of char or std::byte too.
+template <class T>
+class Range : public detail::Span<T> {
+  using Base = detail::Span<T>;
+
+ public:
+  using Base::Base;
+  constexpr Range() noexcept = default;
+  constexpr Range(Base bytes) noexcept : Base(bytes) {}
+  template <class Byte, std::enable_if_t<detail::is_other_byte<Byte, T>, int> = 0>
+  Range(Byte *data, std::size_t size) noexcept : Base(reinterpret_cast<T *>(data), size) {}
+  template <class Owner, std::enable_if_t<detail::is_other_byte<detail::Element<Owner &>, T>, int> = 0>
+  Range(Owner &owner) noexcept : Range(std::data(owner), std::size(owner)) {}
+  template <class Owner, std::enable_if_t<detail::is_other_byte<detail::Element<Owner>, T>, int> = 0>
+  Range(const Owner &owner) noexcept : Range(std::data(owner), std::size(owner)) {}
+  // A literal ends with a null character, which would be taken for a byte of it.
+  template <std::size_t Size>
+  Range(const char (&literal)[Size]) = delete;
+};
 using Bytes = Range<const std::uint8_t>;
 using MutableBytes = Range<std::uint8_t>;
+
+}  // namespace DVS_INLINE_NAMESPACE
+}  // namespace dvs
+
+// As std::span, a range does not own what it points at.
+#ifdef __cpp_lib_ranges
+template <class T>
+inline constexpr bool std::ranges::enable_borrowed_range<dvs::Range<T>> = true;
+template <class T>
+inline constexpr bool std::ranges::enable_view<dvs::Range<T>> = true;
 #endif
+
+namespace dvs {
+inline namespace DVS_INLINE_NAMESPACE {
 
 // ---- refusals and results
 

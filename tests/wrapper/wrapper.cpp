@@ -122,6 +122,52 @@ void messages() {
   EXPECT(dvs::write(dvs::Message{dvs::MessageKind::told, Identifier{5}, 129, {}}).refusal() == Refusal::told_out_of_range);
 }
 
+// Buffers of char and of std::byte are bytes, as a whole, by a pointer and a length, to be read and to be written; a view of them is the same bytes.
+static_assert(!std::is_convertible_v<const std::string &, dvs::MutableBytes> && !std::is_constructible_v<dvs::MutableBytes, const std::byte *, std::size_t>);
+static_assert(!std::is_convertible_v<std::vector<int> &, dvs::Bytes> && !std::is_convertible_v<const char *, dvs::Bytes>);
+static_assert(std::is_trivially_copyable_v<dvs::Bytes> && std::is_convertible_v<dvs::MutableBytes, dvs::Bytes> && !std::is_convertible_v<dvs::Bytes, dvs::MutableBytes>);
+#ifdef __cpp_lib_span
+static_assert(std::is_convertible_v<dvs::Bytes, std::span<const std::uint8_t>> && std::is_convertible_v<std::span<const std::uint8_t>, dvs::Bytes>);
+static_assert(std::is_convertible_v<dvs::MutableBytes, std::span<std::uint8_t>> && std::is_convertible_v<std::span<std::uint8_t>, dvs::Bytes>);
+static_assert(std::is_convertible_v<std::span<const std::byte>, dvs::Bytes> && !std::is_convertible_v<std::span<const std::byte>, dvs::MutableBytes>);
+#endif
+#ifdef __cpp_lib_ranges
+static_assert(std::ranges::borrowed_range<dvs::Bytes> && std::ranges::view<dvs::Bytes> && std::ranges::contiguous_range<dvs::MutableBytes>);
+#endif
+
+template <class Byte>
+void buffers_of() {
+  const dvs::Message client{dvs::MessageKind::client, Identifier{5}, 0xF1F2F3F4F5F6F7F8u, {}};
+  std::vector<Byte> buffer(16);
+  buffer[15] = static_cast<Byte>(77);
+  const auto length = dvs::write(client, buffer);
+  EXPECT(length && *length == 15 && buffer[7] == static_cast<Byte>(0xF1) && buffer[14] == static_cast<Byte>(0xF8) && buffer[15] == static_cast<Byte>(77));
+  const dvs::Bytes whole(buffer), front(buffer.data(), 15);
+  EXPECT(static_cast<const void *>(whole.data()) == buffer.data() && whole.size() == 16 && whole[7] == 0xF1);
+  EXPECT(dvs::read(buffer).refusal() == Refusal::bytes_left_over && *dvs::read(front) == client && *dvs::read({buffer.data(), 15}) == client);
+  EXPECT(*dvs::read(std::vector<Byte>(buffer.begin(), buffer.end() - 1)) == client && *dvs::read_front(buffer) == (dvs::Front{client, 15}));
+  auto messages = dvs::messages_in(buffer);
+  EXPECT(*messages.begin() == client);
+
+  std::array<Byte, 7> array{static_cast<Byte>(3)};
+  Byte plain[7] = {static_cast<Byte>(3)};
+  dvs::Book book;
+  EXPECT(book.start(1, Set{1}, Member{0}) && book.deliver(array, Member{0}) && book.deliver(plain, Member{0}) && book.look().taken() == 2);
+  EXPECT(book.send(6) && *book.pass(buffer) == 15 && buffer[14] == static_cast<Byte>(6));
+  EXPECT(*book.deliver_packet(buffer, Member{0}) == (dvs::Delivery{1, Refusal::unknown_kind}));
+  EXPECT(book.send(7) && *dvs::PacketWriter(buffer).pass(book) == 15 && buffer[14] == static_cast<Byte>(7));
+  std::vector<Byte> saved(DVS_BOOK_SIZE);
+  std::memcpy(saved.data(), book.bytes().data(), saved.size());
+  EXPECT(dvs::BookReader(saved).taken() == 3 && dvs::Book().load(saved).accepted());
+}
+
+void buffers() {
+  buffers_of<char>();
+  buffers_of<std::byte>();
+  buffers_of<std::uint8_t>();
+  EXPECT(dvs::read(std::string(7, '\3')).refusal() == Refusal::section_count);
+}
+
 // Packets: joined by the writer, taken apart by the reader's front, and taken by a book as far as they go.
 static_assert(std::is_trivially_copyable_v<dvs::Delivery> && std::is_trivially_copyable_v<dvs::Front>);
 constexpr std::uint8_t kDelivery[DVS_DELIVERY_SIZE] = {0, 1, 2, 3, DVS_REFUSED_ANOTHER_VIEW};
@@ -422,6 +468,7 @@ int main() {
   sets();
   steps();
   messages();
+  buffers();
   packets();
   books();
   entries();

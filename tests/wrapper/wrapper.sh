@@ -1,7 +1,7 @@
 #!/usr/bin/env bash
 # Installs the library to a folder of its own and links against it by pkg-config alone: the wrapper's cases, the first example and the offices, with
 # every compiler here, in C++17 and C++20, with all warnings and sanitizers; the C header in a C99 program; the archive in a shared object; and the first
-# example by CMake, where it is here.
+# example by CMake, where it is here. What must not compile is tried too.
 set -euo pipefail
 cd "$(dirname "${BASH_SOURCE[0]}")/../.."
 work=$(mktemp -d)
@@ -56,6 +56,23 @@ printf '#include <dvs.hpp>\nint main() { dvs::Book book; return book.load(dvs::B
 "${CXX:-c++}" -std=c++20 "${cflags[@]}" -o "$work/parts" "$work/part.cpp" "$work/other.o" "${libs[@]}"
 "$work/parts"
 
+# Of misuse.cpp the compiler refuses the lines that say so, each by an error that matches the line's pattern, and nothing else.
+misuse=tests/wrapper/misuse.cpp
+refuses() { # compiler and flags
+  sed '/\/\/ refused: /d' "$misuse" > "$work/right.cpp"
+  "$@" -fsyntax-only "$work/right.cpp"
+  local all=()
+  [[ $1 != clang* ]] || all=(-ferror-limit=0) # it gives up after some errors
+  fails "$@" "${all[@]}" -fsyntax-only "$misuse" 2> "$work/log"
+  grep -n '' "$misuse" | sed -nE 's|^([0-9]+):.*// refused: (.*)$|\1 \2|p' > "$work/wanted"
+  [ -s "$work/wanted" ]
+  while read -r line pattern; do
+    grep -qE "^$misuse:$line:[0-9]+: error: .*($pattern)" "$work/log" || { echo "$*: $misuse:$line is not refused by '$pattern':"; cat "$work/log"; exit 1; }
+  done < "$work/wanted"
+  sed -nE 's|^([^ ]+:[0-9]+):[0-9]+: (fatal )?error: .*|\1|p' "$work/log" | sort -u > "$work/errors"
+  [ "$(wc -l < "$work/errors")" = "$(wc -l < "$work/wanted")" ] || { echo "$*: more is refused than $misuse says:"; cat "$work/log"; exit 1; }
+}
+
 for compiler in g++ clang++; do
   command -v "$compiler" > /dev/null || continue
   for standard in 17 20; do
@@ -66,6 +83,7 @@ for compiler in g++ clang++; do
     "$work/first" | diff examples/first/expected.txt -
     "$compiler" "${flags[@]}" -o "$work/offices" examples/offices/*.cpp "${libs[@]}"
     "$work/offices" | diff examples/offices/expected.txt -
+    refuses "$compiler" -std=c++"$standard" "${warnings[@]}" "${cflags[@]}"
     echo "wrapper: $compiler, C++$standard: as expected"
   done
 done

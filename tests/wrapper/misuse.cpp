@@ -1,0 +1,83 @@
+// Uses of the wrapper that would be wrong without a word, each beside the right one. A line that ends with `refused: PATTERN` must not compile, and the
+// compiler's error for it must match the pattern; every other line must compile. tests/wrapper/wrapper.sh checks both.
+#include <dvs.hpp>
+
+#include <array>
+#include <cstddef>
+#include <cstdint>
+#include <string>
+#include <string_view>
+#include <utility>
+#include <vector>
+#ifdef __cpp_lib_span
+#include <span>
+#endif
+
+namespace {
+
+template <class... Values>
+void use(const Values &...) {}
+
+std::vector<std::uint8_t> receive() { return {3, 0, 0, 0, 0, 0, 0}; }
+std::string receive_text() { return {}; }
+std::array<std::byte, 7> receive_array() { return {}; }
+
+// A view of bytes that are gone when the statement is over.
+void views(const dvs::Book &book, dvs::PacketWriter &writer) {
+  std::vector<std::uint8_t> packet = receive();
+  const std::vector<std::uint8_t> constant = packet;
+  std::uint8_t array[7] = {};
+  use(dvs::messages_in(packet), dvs::messages_in(constant), dvs::messages_in(array));
+  use(dvs::messages_in(dvs::Bytes(array, 3)), dvs::messages_in({array, 3}), dvs::messages_in(dvs::MutableBytes(packet)));
+  use(dvs::messages_in(writer.bytes()), dvs::messages_in(book.bytes()), dvs::messages_in(std::string_view()));
+  use(dvs::messages_in(receive()));  // refused: deleted
+  use(dvs::messages_in(std::move(packet)));  // refused: deleted
+  use(dvs::messages_in(receive_text()));  // refused: deleted
+  use(dvs::messages_in(receive_array()));  // refused: deleted
+  use(dvs::MessagesIn(packet));
+  use(dvs::MessagesIn(receive()));  // refused: deleted
+  for (const dvs::Message &message : dvs::messages_in(packet)) use(message);
+  for (const dvs::Message &message : dvs::messages_in(receive())) use(message);  // refused: deleted
+
+  const dvs::BookBytes saved = book.save();
+  use(dvs::BookReader(saved), dvs::BookReader(book.bytes()), book.look());
+  use(dvs::BookReader(book.save()));  // refused: deleted
+
+#ifdef __cpp_lib_span
+  use(dvs::messages_in(std::span<const std::uint8_t>(array)), dvs::messages_in(std::span(packet)), dvs::BookReader(std::span(saved)));
+#endif
+}
+
+// What is only read while a call lasts may be a temporary.
+void calls(dvs::Book &book) {
+  use(dvs::read(receive()), dvs::read_front(receive_text()), book.load(receive()), book.deliver(receive_array(), dvs::Member{0}));
+}
+
+// A buffer to write to that is gone when the statement is over, or that is not to be written to.
+void buffers(dvs::Book &book) {
+  std::vector<std::uint8_t> list, books, queues;
+  const std::string constant;
+  dvs::GroupMemory<1> memory;
+  use(dvs::PacketWriter(list), dvs::PacketWriter(dvs::MutableBytes(list)), dvs::PacketWriter({list.data(), 0}));
+  use(dvs::PacketWriter(receive()));  // refused: no matching
+  use(dvs::PacketWriter(receive_text()));  // refused: no matching
+  use(dvs::PacketWriter(constant));  // refused: no matching
+  use(book.pass(list));
+  use(book.pass(receive()));  // refused: no matching
+  use(dvs::Group(list, books, queues), dvs::Group(memory));
+  use(dvs::Group(receive(), books, queues));  // refused: no matching
+  use(dvs::Group(list, receive(), queues));  // refused: no matching
+  use(dvs::Group(list, books, receive()));  // refused: no matching
+  use(dvs::Group(dvs::GroupMemory<1>{}));  // refused: cannot bind|no matching
+}
+
+// The null character of a literal is no byte of a message.
+void literals(dvs::Book &book, dvs::Member sender) {
+  char buffer[7] = {};
+  use(book.deliver(buffer, sender), book.deliver(std::string_view("abc"), sender));
+  use(book.deliver("abc", sender));  // refused: deleted
+}
+
+}  // namespace
+
+int main() { use(views, calls, buffers, literals); }
