@@ -11,6 +11,7 @@
 #include "dvs.h"
 
 #include <array>
+#include <cassert>
 #include <cstddef>
 #include <cstdint>
 #include <initializer_list>
@@ -177,8 +178,8 @@ constexpr std::uint32_t number(Refusal refusal) noexcept { return static_cast<st
 // The refusal in plain words, for a log.
 constexpr const char *text(Refusal refusal) noexcept { return dvs_refusal_text(number(refusal)); }
 
-// What a call gives: a value, or the refusal in its place. The value of a refused call is T{}. A Result without a name gives its value away and has no
-// arrow, so that nothing can point into it once it is gone.
+// What a call gives: a value, or the refusal in its place. To take the value of a refused call is a fault of the program: an assert ends it, and with
+// NDEBUG the value is T{}. A Result without a name gives its value away and has no arrow, so that nothing can point into it once it is gone.
 template <class T>
 class [[nodiscard]] Result {
  public:
@@ -188,14 +189,19 @@ class [[nodiscard]] Result {
   constexpr bool accepted() const noexcept { return refusal_ == Refusal::none; }
   constexpr explicit operator bool() const noexcept { return accepted(); }
   constexpr Refusal refusal() const noexcept { return refusal_; }
-  constexpr const T &value() const & noexcept { return value_; }
-  constexpr T value() && noexcept { return value_; }
-  constexpr const T &operator*() const & noexcept { return value_; }
-  constexpr T operator*() && noexcept { return value_; }
-  constexpr const T *operator->() const & noexcept { return &value_; }
+  constexpr const T &value() const & noexcept { return given(); }
+  constexpr T value() && noexcept { return given(); }
+  constexpr const T &operator*() const & noexcept { return given(); }
+  constexpr T operator*() && noexcept { return given(); }
+  constexpr const T *operator->() const & noexcept { return &given(); }
   const T *operator->() const && = delete;
 
  private:
+  constexpr const T &given() const noexcept {
+    assert(accepted() && "the value of a refused call");
+    return value_;
+  }
+
   Refusal refusal_ = Refusal::none;
   T value_{};
 };

@@ -1,7 +1,7 @@
 #!/usr/bin/env bash
 # Installs the library to a folder of its own and links against it by pkg-config alone: the wrapper's cases, the first example and the offices, with
 # every compiler here, in C++17 and C++20, with all warnings and sanitizers; the C header in a C99 program; the archive in a shared object; and the first
-# example by CMake, where it is here. What must not compile is tried too.
+# example by CMake, where it is here. What must not compile, and what must end a program, is tried too.
 set -euo pipefail
 cd "$(dirname "${BASH_SOURCE[0]}")/../.."
 work=$(mktemp -d)
@@ -73,6 +73,19 @@ refuses() { # compiler and flags
   [ "$(wc -l < "$work/errors")" = "$(wc -l < "$work/wanted")" ] || { echo "$*: more is refused than $misuse says:"; cat "$work/log"; exit 1; }
 }
 
+# The value of a refused call ends the program by an assert, however it is taken; with NDEBUG it does not.
+aborts() { # compiler and flags
+  "$@" -o "$work/unaccepted" tests/wrapper/unaccepted.cpp "${libs[@]}"
+  "$@" -DNDEBUG -o "$work/unasserted" tests/wrapper/unaccepted.cpp "${libs[@]}"
+  "$work/unaccepted" none
+  for way in value star arrow "moved value" "moved star"; do
+    "$work/unasserted" "$way"
+    local status=0
+    { (ulimit -c 0; exec "$work/unaccepted" "$way") || status=$?; } 2> "$work/log"
+    [ "$status" = 134 ] && grep -q 'the value of a refused call' "$work/log" || { echo "$*: '$way' of a refused call: status $status"; cat "$work/log"; exit 1; }
+  done
+}
+
 for compiler in g++ clang++; do
   command -v "$compiler" > /dev/null || continue
   for standard in 17 20; do
@@ -84,6 +97,7 @@ for compiler in g++ clang++; do
     "$compiler" "${flags[@]}" -o "$work/offices" examples/offices/*.cpp "${libs[@]}"
     "$work/offices" | diff examples/offices/expected.txt -
     refuses "$compiler" -std=c++"$standard" "${warnings[@]}" "${cflags[@]}"
+    aborts "$compiler" -std=c++"$standard" "${warnings[@]}" "${cflags[@]}"
     echo "wrapper: $compiler, C++$standard: as expected"
   done
 done
