@@ -13,7 +13,7 @@
 //
 //   auto joined = book.join({dvs::Identifier{1}, dvs::Set{0b111}});           // the carrier gave a view
 //   auto taken = book.deliver(bytes, dvs::Member{0});                         // what came over the line, own messages too, in the view's order
-//   auto some = book.deliver_packet(bytes, dvs::Member{0});                   // the same of several messages: some->delivered, some->stopped
+//   auto some = book.deliver_packet(bytes, dvs::Member{0});                   // several messages: some->whole(), or some->delivered and some->stopped
 //   if (auto event = book.attempt()) work_in(event->view, event->set);        // the view is now this office's primary one
 //   if (auto event = book.hand()) take(event->sender, event->entry);          // to be withdrawn if it never becomes safe
 //   auto registered = book.register_view();                                   // last: when all have attempted the view and brought what they held
@@ -130,6 +130,19 @@ class MessagesIn {
 inline MessagesIn messages_in(Bytes bytes) noexcept { return MessagesIn(bytes); }
 template <class Owner, class = detail::Temporary<Owner>>
 MessagesIn messages_in(Owner &&) = delete;
+
+// What a delivery did not take of its packet: the message that stopped it and all after it, or nothing if the whole packet was taken. It is a part of the
+// packet's bytes, which must outlive it.
+inline Bytes rest_of(Bytes packet, const Delivery &delivery) noexcept {
+  for (std::size_t i = 0; i < delivery.delivered; ++i) {
+    const Result<Front> front = read_front(packet);
+    if (!front) break;   // the delivery is another packet's
+    packet = Bytes(packet.data() + front->taken, packet.size() - front->taken);
+  }
+  return packet;
+}
+template <class Owner, class = detail::Temporary<Owner>>
+Bytes rest_of(Owner &&, const Delivery &) = delete;
 
 // Reads one message, which the bytes must be as a whole.
 inline Result<Message> read(Bytes bytes) noexcept {
@@ -262,7 +275,8 @@ class Book {
     return refused(dvs_deliver(data(), size(), message.data(), message.size(), number(sender)));
   }
   // The next messages of the order, all from one sender and of one view, one after another in one packet: they are taken one by one up to the first
-  // refusal. What stopped it is in the delivery; a refusal of the call means that nothing was taken, and the book is no sound one.
+  // refusal. What stopped it is in the delivery; a refusal of the call means that nothing was taken, and the book is not a sound one.
+  // whole(book.deliver_packet(…)) says whether the whole packet was taken, and rest_of gives what was not.
   Result<Delivery> deliver_packet(Bytes packet, Member sender) noexcept {
     detail::DeliveryBytes delivery{};
     const Refusal refusal = refused(

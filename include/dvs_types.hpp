@@ -178,6 +178,8 @@ constexpr std::uint32_t number(Refusal refusal) noexcept { return static_cast<st
 // The refusal in plain words, for a log.
 constexpr const char *text(Refusal refusal) noexcept { return dvs_refusal_text(number(refusal)); }
 
+struct Delivery;
+
 // What a call gives: a value, or the refusal in its place. To take the value of a refused call is a fault of the program: an assert ends it, and with
 // NDEBUG the value is T{}. A Result without a name gives its value away and has no arrow, so that nothing can point into it once it is gone.
 template <class T>
@@ -187,7 +189,10 @@ class [[nodiscard]] Result {
   constexpr Result(Refusal refusal) noexcept : refusal_(refusal) {}
 
   constexpr bool accepted() const noexcept { return refusal_ == Refusal::none; }
-  constexpr explicit operator bool() const noexcept { return accepted(); }
+  constexpr explicit operator bool() const & noexcept { return accepted(); }
+  // A delivery without a name is not tested: an accepted packet may have been stopped, and what stopped it would be lost. whole(…) is the test.
+  template <class Value = T, class = std::enable_if_t<std::is_same_v<Value, Delivery>>>
+  explicit operator bool() const && = delete;
   constexpr Refusal refusal() const noexcept { return refusal_; }
   constexpr const T &value() const & noexcept { return given(); }
   constexpr T value() && noexcept { return given(); }
@@ -551,12 +556,17 @@ struct Delivery {
   std::size_t delivered = 0;
   Refusal stopped = Refusal::none;   // none: every message was taken
 
+  constexpr bool whole() const noexcept { return stopped == Refusal::none; }
+
   static constexpr Delivery from(Bytes bytes) noexcept {
     return {static_cast<std::size_t>(detail::get(bytes, DVS_DELIVERY_COUNT, 4)), static_cast<Refusal>(detail::byte(bytes, DVS_DELIVERY_STOPPED))};
   }
 };
 constexpr bool operator==(const Delivery &a, const Delivery &b) noexcept { return a.delivered == b.delivered && a.stopped == b.stopped; }
 constexpr bool operator!=(const Delivery &a, const Delivery &b) noexcept { return !(a == b); }
+
+// Whether the call was accepted and took the whole packet.
+constexpr bool whole(const Result<Delivery> &taken) noexcept { return taken.accepted() && taken->whole(); }
 
 }  // namespace DVS_INLINE_NAMESPACE
 }  // namespace dvs

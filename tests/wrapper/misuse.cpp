@@ -43,6 +43,9 @@ void views(const dvs::Book &book, dvs::PacketWriter &writer) {
   use(dvs::BookReader(saved), dvs::BookReader(book.bytes()), book.look());
   use(dvs::BookReader(book.save()));  // refused: deleted
 
+  use(dvs::rest_of(packet, dvs::Delivery{}), dvs::rest_of(writer.bytes(), dvs::Delivery{}));
+  use(dvs::rest_of(receive(), dvs::Delivery{}));  // refused: deleted
+
 #ifdef __cpp_lib_span
   use(dvs::messages_in(std::span<const std::uint8_t>(array)), dvs::messages_in(std::span(packet)), dvs::BookReader(std::span(saved)));
 #endif
@@ -71,6 +74,17 @@ void buffers(dvs::Book &book) {
   use(dvs::Group(dvs::GroupMemory<1>{}));  // refused: cannot bind|no matching
 }
 
+// A packet that was stopped is accepted: it is no test of the packet that the call was accepted.
+void packets(dvs::Book &book, dvs::Bytes bytes, dvs::Member sender) {
+  if (whole(book.deliver_packet(bytes, sender))) use(bytes);
+  if (book.deliver_packet(bytes, sender).accepted()) use(bytes);
+  if (book.deliver_packet(bytes, sender)) use(bytes);  // refused: deleted
+  use(book.deliver(bytes, sender) && book.tell());
+  use(book.tell() && book.deliver_packet(bytes, sender));  // refused: deleted
+  const auto taken = book.deliver_packet(bytes, sender);
+  if (taken && !taken->whole()) use(dvs::rest_of(bytes, *taken));
+}
+
 // The null character of a literal is no byte of a message.
 void literals(dvs::Book &book, dvs::Member sender) {
   char buffer[7] = {};
@@ -80,4 +94,4 @@ void literals(dvs::Book &book, dvs::Member sender) {
 
 }  // namespace
 
-int main() { use(views, calls, buffers, literals); }
+int main() { use(views, calls, buffers, packets, literals); }

@@ -173,6 +173,9 @@ static_assert(std::is_trivially_copyable_v<dvs::Delivery> && std::is_trivially_c
 constexpr std::uint8_t kDelivery[DVS_DELIVERY_SIZE] = {0, 1, 2, 3, DVS_REFUSED_ANOTHER_VIEW};
 static_assert(dvs::Delivery::from(dvs::Bytes(kDelivery, DVS_DELIVERY_SIZE)) == dvs::Delivery{0x10203, Refusal::another_view});
 static_assert(dvs::Delivery::from(dvs::Bytes()) == dvs::Delivery{} && dvs::Delivery{1, Refusal::none} != dvs::Delivery{});
+static_assert(dvs::Delivery{0, Refusal::none}.whole() && dvs::Delivery{2, Refusal::none}.whole() && !dvs::Delivery{2, Refusal::order_full}.whole());
+static_assert(whole(dvs::Result<dvs::Delivery>(dvs::Delivery{})) && !whole(dvs::Result<dvs::Delivery>(dvs::Delivery{2, Refusal::order_full})));
+static_assert(!whole(dvs::Result<dvs::Delivery>(Refusal::records_unsound)));
 #ifdef __cpp_lib_ranges
 static_assert(std::input_iterator<dvs::MessagesIn::Iterator> && std::ranges::input_range<dvs::MessagesIn &>);
 #endif
@@ -218,6 +221,20 @@ void packets() {
   EXPECT(*book.deliver_packet(buffer, Member{2}) == (dvs::Delivery{3, Refusal::unknown_kind}) && book.look().taken() == 6);
   EXPECT(*book.deliver_packet(packet.bytes(), Member{3}) == (dvs::Delivery{0, Refusal::sender_not_in_view}) && book.look().taken() == 6);
   EXPECT(*book.deliver_packet(dvs::Bytes(), Member{3}) == dvs::Delivery{} && book.look().registrations() == Set{6} && book.look().infos() == Set{6});
+
+  // The rest of a packet begins with the message that stopped it, and is what the next call takes; of a whole packet nothing is left.
+  const auto rest_from = [&](dvs::Bytes bytes, std::size_t delivered) { return dvs::rest_of(bytes, {delivered, Refusal::unknown_kind}); };
+  const auto is_end = [&](dvs::Bytes bytes, std::size_t from) { return bytes.data() == buffer.data() + from && bytes.size() == buffer.size() - from; };
+  EXPECT(is_end(rest_from(buffer, 0), 0) && is_end(rest_from(buffer, 1), 7) && is_end(rest_from(buffer, 2), 22) && is_end(rest_from(buffer, 3), 34));
+  EXPECT(is_end(rest_from(buffer, 4), 34) && rest_from(packet.bytes(), 3).empty() && rest_from(dvs::Bytes(), 1).empty());
+  dvs::Book other;
+  std::array<std::uint8_t, 14> halves{};
+  dvs::PacketWriter two(halves);
+  EXPECT(*two.add(registered) == 7 && *two.add({dvs::MessageKind::registered, Identifier{8}, 0, {}}) == 7);
+  EXPECT(other.start(1, Set{1}, Member{0}) && other.join({Identifier{7}, Set{1}}));
+  const auto stopped = other.deliver_packet(halves, Member{0});
+  EXPECT(stopped && *stopped == (dvs::Delivery{1, Refusal::another_view}) && !stopped->whole() && !whole(stopped));
+  EXPECT(other.join({Identifier{8}, Set{1}}) && whole(other.deliver_packet(dvs::rest_of(halves, *stopped), Member{0})) && other.look().taken() == 1);
 
   // What a book gives out goes behind what is there already, as long as there is room.
   dvs::Book sender;
