@@ -308,7 +308,8 @@ uint32_t dvs_check(const uint8_t *book, size_t book_size) DVS_MUST_CHECK;
 /* Reads the message at the front of the bytes, and gives how many of them it took in `length` (DVS_LENGTH_SIZE bytes): what lies behind them is not
  * looked at, and a packet is read by reading its front until no byte is left. Every byte of the record is written, 0 where the message has nothing. 4,
  * 32 to 34 as the bytes come, then 35 to 37. */
-uint32_t dvs_read_front(const uint8_t *bytes, size_t bytes_size, uint8_t *message, size_t message_size, uint8_t *length, size_t length_size) DVS_MUST_CHECK;
+uint32_t dvs_read_front(const uint8_t *bytes, size_t bytes_size, uint8_t *message, size_t message_size, uint8_t *length,
+                        size_t length_size) DVS_MUST_CHECK;
 
 /* Reads one message, which the bytes must be as a whole; every byte of the record is written, 0 where the message has nothing. 4, 32 to 34 as the
  * bytes come, then 35 to 38. */
@@ -355,7 +356,8 @@ uint32_t dvs_group_steps(uint8_t *list, size_t list_size, uint8_t *books, size_t
                          const uint8_t *steps, size_t steps_size, uint8_t *answers, size_t answers_size) DVS_MUST_CHECK;
 
 /* Whether the three ranges are a sound group, which every step takes: nothing changes. 4. */
-uint32_t dvs_group_check(const uint8_t *list, size_t list_size, const uint8_t *books, size_t books_size, const uint8_t *queues, size_t queues_size) DVS_MUST_CHECK;
+uint32_t dvs_group_check(const uint8_t *list, size_t list_size, const uint8_t *books, size_t books_size, const uint8_t *queues,
+                         size_t queues_size) DVS_MUST_CHECK;
 
 /*
  * ---- readers of what calls write: each looks at its own bytes alone, and asks for a range of its length

@@ -39,7 +39,7 @@ inline namespace DVS_INLINE_NAMESPACE {
 
 namespace detail {
 
-// What the data() of an Owner points at, which a function took as Owner &&. A temporary counts as const: nothing may be written to it.
+// What data() points at, of an argument that a function takes as Owner &&. A temporary counts as const, so that no range to write to is made from it.
 template <class Owner>
 using Element = std::remove_pointer_t<decltype(std::data(std::declval<const Owner &>()))>;
 
@@ -52,8 +52,8 @@ constexpr bool is_other_byte = (std::is_same_v<std::remove_const_t<Byte>, char> 
 template <class Owner, class Byte>
 constexpr bool is_view = std::is_trivially_copyable_v<Owner> && std::is_constructible_v<Owner, Byte *, std::size_t>;
 
-// There is this type only if Owner && is a temporary that owns its bytes. Whoever keeps a view of bytes deletes the overload that takes such a one, since
-// the view would outlive them.
+// This type exists only if Owner && is a temporary that owns its bytes. What keeps a view of its argument deletes the overload for such a temporary, since
+// the view would outlive the bytes.
 template <class Owner>
 using Temporary = std::enable_if_t<!std::is_lvalue_reference_v<Owner> && !is_view<Owner, Element<Owner>>>;
 

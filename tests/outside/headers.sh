@@ -22,8 +22,10 @@ calls=$(tr '\n' ' ' < include/dvs.h | grep -oE '\buint(32|64)_t dvs_[a-z_]+\([^)
 
 warns() { # compiler version
   local said
-  said=$(printf '#include "dvs.h"\nvoid ignore(void);\nvoid ignore(void) {\n%s\n}\n' "$calls" | "$1" -x c -std="$2" -S -o /dev/null -Wall -I include - 2>&1)
-  [ "$(grep -c Wunused-result <<< "$said")" = "$(wc -l <<< "$calls")" ] || { echo "$1, $2: a call whose answer is ignored has no warning"; echo "$said"; exit 1; }
+  said=$(printf '#include "dvs.h"\nvoid ignore(void);\nvoid ignore(void) {\n%s\n}\n' "$calls" |
+    "$1" -x c -std="$2" -S -o /dev/null -Wall -I include - 2>&1) || { echo "$said"; exit 1; }
+  [ "$(grep -c Wunused-result <<< "$said")" = "$(wc -l <<< "$calls")" ] ||
+    { echo "$1, $2: a call whose answer is ignored has no warning"; echo "$said"; exit 1; }
   count=$((count + 1))
 }
 

@@ -74,7 +74,7 @@ void buffers(dvs::Book &book) {
   use(dvs::Group(dvs::GroupMemory<1>{}));  // refused: cannot bind|no matching
 }
 
-// A packet that was stopped is accepted: it is no test of the packet that the call was accepted.
+// A call that stops a packet is accepted too, so 'accepted' does not mean that the whole packet was taken.
 void packets(dvs::Book &book, dvs::Bytes bytes, dvs::Member sender) {
   if (whole(book.deliver_packet(bytes, sender))) use(bytes);
   if (book.deliver_packet(bytes, sender).accepted()) use(bytes);

@@ -125,7 +125,8 @@ void messages() {
 // Buffers of char and of std::byte are bytes, as a whole, by a pointer and a length, to be read and to be written; a view of them is the same bytes.
 static_assert(!std::is_convertible_v<const std::string &, dvs::MutableBytes> && !std::is_constructible_v<dvs::MutableBytes, const std::byte *, std::size_t>);
 static_assert(!std::is_convertible_v<std::vector<int> &, dvs::Bytes> && !std::is_convertible_v<const char *, dvs::Bytes>);
-static_assert(std::is_trivially_copyable_v<dvs::Bytes> && std::is_convertible_v<dvs::MutableBytes, dvs::Bytes> && !std::is_convertible_v<dvs::Bytes, dvs::MutableBytes>);
+static_assert(std::is_convertible_v<dvs::MutableBytes, dvs::Bytes> && !std::is_convertible_v<dvs::Bytes, dvs::MutableBytes>);
+static_assert(std::is_trivially_copyable_v<dvs::Bytes> && std::is_trivially_copyable_v<dvs::MutableBytes>);
 #ifdef __cpp_lib_span
 static_assert(std::is_convertible_v<dvs::Bytes, std::span<const std::uint8_t>> && std::is_convertible_v<std::span<const std::uint8_t>, dvs::Bytes>);
 static_assert(std::is_convertible_v<dvs::MutableBytes, std::span<std::uint8_t>> && std::is_convertible_v<std::span<std::uint8_t>, dvs::Bytes>);

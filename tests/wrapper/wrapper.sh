@@ -67,7 +67,8 @@ refuses() { # compiler and flags
   grep -n '' "$misuse" | sed -nE 's|^([0-9]+):.*// refused: (.*)$|\1 \2|p' > "$work/wanted"
   [ -s "$work/wanted" ]
   while read -r line pattern; do
-    grep -qE "^$misuse:$line:[0-9]+: error: .*($pattern)" "$work/log" || { echo "$*: $misuse:$line is not refused by '$pattern':"; cat "$work/log"; exit 1; }
+    grep -qE "^$misuse:$line:[0-9]+: error: .*($pattern)" "$work/log" ||
+      { echo "$*: $misuse:$line is not refused by '$pattern':"; cat "$work/log"; exit 1; }
   done < "$work/wanted"
   sed -nE 's|^([^ ]+:[0-9]+):[0-9]+: (fatal )?error: .*|\1|p' "$work/log" | sort -u > "$work/errors"
   [ "$(wc -l < "$work/errors")" = "$(wc -l < "$work/wanted")" ] || { echo "$*: more is refused than $misuse says:"; cat "$work/log"; exit 1; }
@@ -82,7 +83,8 @@ aborts() { # compiler and flags
     "$work/unasserted" "$way"
     local status=0
     { (ulimit -c 0; exec "$work/unaccepted" "$way") || status=$?; } 2> "$work/log"
-    [ "$status" = 134 ] && grep -q 'the value of a refused call' "$work/log" || { echo "$*: '$way' of a refused call: status $status"; cat "$work/log"; exit 1; }
+    [ "$status" = 134 ] && grep -q 'the value of a refused call' "$work/log" ||
+      { echo "$*: '$way' of a refused call: status $status"; cat "$work/log"; exit 1; }
   done
 }
 
