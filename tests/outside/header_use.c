@@ -46,7 +46,7 @@ unsigned use(uint8_t *at, size_t size) {
   sum += dvs_group_step(at, size, at, size, at, size, 1, 1, 1, at, size);
   sum += dvs_group_form(at, size, at, size, at, size, 1, at, size);
   sum += dvs_group_steps(at, size, at, size, at, size, at, size, at, size);
-  sum += dvs_check(at, size) + dvs_group_check(at, size, at, size, at, size) + dvs_version();
+  sum += dvs_check(at, size) + dvs_group_check(at, size, at, size, at, size) + dvs_version() + (unsigned)*dvs_refusal_text(sum);
   return sum + dvs_group_run(at, size, at, size, at, size, 1, 1, at, size, at, size);
 }
 
