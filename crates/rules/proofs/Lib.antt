@@ -6,6 +6,10 @@ pub mod Holding
 pub mod Ties
 pub mod Run
 pub mod Demand3
+pub mod Final
+pub mod FinalCases
+pub mod Exchange
+pub mod ExchangeCase
 pub mod NeverWedged
 pub mod Forming
 pub mod Alone

@@ -5,6 +5,8 @@ pub mod Group
 pub mod Figure1
 pub mod Runs
 pub mod Promise
+pub mod Final
+pub mod Exchange
 pub mod Forming
 pub mod Alone
 pub mod Cases

@@ -54,7 +54,7 @@ registered-more : {M : Type 0} (v₀ : View) (l k : List (Event M)) (g p : ℕ) 
 registered-more v₀ l k g p (inl t) = inl t
 registered-more v₀ l k g p (inr h) = inr (in-left k h)
 
-first-current : (b : Bool) (n g : ℕ) → cond b (suc n) 0 ≡ suc g → n ≡ g
+pub first-current : (b : Bool) (n g : ℕ) → cond b (suc n) 0 ≡ suc g → n ≡ g
 first-current true n g e = omega arith
 first-current false n g e = absurd (omega arith)
 
@@ -71,7 +71,7 @@ module _ {M : Type 0} where
   created-stays (D.safes p v x h c t u) w i = i
 
   -- the view of a new-view event is created, and is the member's current view after it
-  event-step : {d e : Outer M} {k : List (Event M)} → Act d e k → (p : ℕ) (v : View) → In (attempt p v) k → In v (e .created) × (suc (idOf v) ≡ e .current p)
+  pub event-step : {d e : Outer M} {k : List (Event M)} → Act d e k → (p : ℕ) (v : View) → In (attempt p v) k → In v (e .created) × (suc (idOf v) ≡ e .current p)
   event-step (D.create v m h) q u i = absurd (in-nil i)
   event-step (D.order p g m r h) q u i = absurd (in-nil i)
   event-step {d} (D.newView p v h t l) q u top = (h, sym (upd-here p (suc (idOf v)) (d .current)))
@@ -81,7 +81,7 @@ module _ {M : Type 0} where
   event-step (D.receives p g x h t) q u (pop i) = absurd (in-nil i)
   event-step (D.safes p v x h c t z) q u (pop i) = absurd (in-nil i)
 
-  current-rises : {d e : Outer M} {k : List (Event M)} → Act d e k → (p : ℕ) → d .current p ≤ e .current p
+  pub current-rises : {d e : Outer M} {k : List (Event M)} → Act d e k → (p : ℕ) → d .current p ≤ e .current p
   current-rises (D.create v m h) p = omega arith
   current-rises (D.order q g m r h) p = omega arith
   current-rises {d} (D.newView q v h t l) p = upd-up q (suc (idOf v)) (d .current) (omega arith) p
@@ -91,7 +91,7 @@ module _ {M : Type 0} where
   current-rises (D.safes q v x h c t z) p = omega arith
 
   -- a current view was current before, or the step showed it
-  current-step : {d e : Outer M} {k : List (Event M)} → Act d e k → (p g : ℕ) → e .current p ≡ suc g
+  pub current-step : {d e : Outer M} {k : List (Event M)} → Act d e k → (p g : ℕ) → e .current p ≡ suc g
       → (d .current p ≡ suc g) ⊎ ((v : View) × (idOf v ≡ g) × In (attempt p v) k)
   current-step (D.create v m h) p g c = inl c
   current-step (D.order q i m r h) p g c = inl c
