@@ -16,6 +16,8 @@ pub use Rattle.group_bytes.proofs.GroupForms.{taken-given, all-or-none}
 -- 8. The contracts of `dvs_group_start`, `dvs_group_step`, `dvs_group_steps` and `dvs_group_form` say `Begins`, `Steps`, `GoesOn` and `Forms` of the
 -- ranges: the checker holds their code to that.
 -- 9. Demand 3 and never wedged of a host's calls, by 6, 7 and 8: `demand3-calls` and `never-wedged-calls` below.
+-- 10. In whatever demand 3 promises, what is reported safe is final if members register last; so it is in a host's calls: `finality-calls` below.
+pub use Rattle.rules.proofs.Final.{finality-promised}
 use mathlib.Core.Path.{_≡_, refl, sym, ap, _∙_, subst}
 use mathlib.Core.Bool.{Bool, true, false}
 use mathlib.Core.List.{List, [], _∷_, _++_, append-nil}
@@ -47,7 +49,7 @@ use Rattle.c_answers.proofs.AnswerLaws.{sized-met, sized-unmet}
 use Rattle.group_run.specs.Records.{stepSize, stepAt, stepsFrom, stepsIn, eventsIn}
 use Rattle.group_run.specs.Runs.{goOnVerdict}
 use Rattle.dvs.specs.GroupCalls.{Begins, Steps, stepping, GoesOn, Forms, forming}
-use Rattle.dvs.specs.Promises.{Called, none, call, list, form, Demand3, NeverWedged}
+use Rattle.dvs.specs.Promises.{Called, none, call, list, form, Demand3, Finality, NeverWedged}
 use Rattle.dvs.proofs.GroupLaws.{step-left}
 use Rattle.dvs.proofs.FormLaws.{form-left}
 
@@ -184,6 +186,9 @@ pub demand3-calls : Demand3
 demand3-calls n S r d f l b k =
     let (s, e, (steps, given, shown, _)) = from-start n S r d f l b k in
     subst (λ (m : List (Outward ℕ)). Promised one S m) shown (demand3-ranges n S r s e steps given)
+
+pub finality-calls : Finality
+finality-calls n S r d f l b k = finality-promised one S l (demand3-calls n S r d f l b k)
 
 pub never-wedged-calls : NeverWedged
 never-wedged-calls n S r d f l b k =

@@ -1,5 +1,5 @@
--- Demand 3 and never wedged of a host's calls: a start of a group that gave 0, then calls of step, of a list of steps
--- and of form in any order, each on the ranges left before.
+-- Demand 3, never wedged and what is final, of a host's calls: a start of a group that gave 0, then calls of step, of a
+-- list of steps and of form in any order, each on the ranges left before.
 -- Demand 2 of its messages: what is read is written again, and what is written is read again.
 use mathlib.Core.Path.{_≡_}
 use mathlib.Core.Bool.{true}
@@ -15,6 +15,7 @@ use Rattle.wire.specs.Records.{recordSize, recordBytes, frameOf}
 use Rattle.wire.specs.Promises.{canonical}
 use Rattle.rules.specs.Data.{Identifier, Step, Event as Outward}
 use Rattle.rules.specs.Promise.{Promised}
+use Rattle.rules.specs.Final.{SafeIsFinal}
 use Rattle.group_bytes.specs.Groups.{Ranges, rangesSound}
 use Rattle.group_bytes.specs.Steps.{stepReply, repliesOf}
 use Rattle.group_bytes.specs.Forming.{formTaken}
@@ -45,6 +46,10 @@ pub data Called : Ranges → List (Outward ℕ) → Ranges → Type 0 where
 -- among them
 abbrev pub Demand3 : Type 0
 Demand3 = (n S : ℕ) (r d f : Ranges) (l : List (Outward ℕ)) → Begins r n S d 0 → Called d l f → Promised one S l
+
+-- what such calls report safe is final if members register last
+abbrev pub Finality : Type 1
+Finality = (n S : ℕ) (r d f : Ranges) (l : List (Outward ℕ)) → Begins r n S d 0 → Called d l f → SafeIsFinal l
 
 -- such calls lead to no ranges that 4 refuses
 abbrev pub NeverWedged : Type 0

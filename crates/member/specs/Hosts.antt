@@ -24,6 +24,7 @@ use Rattle.rules.specs.Group.{firstView}
 use Rattle.rules.specs.Figure1.{At}
 use Rattle.rules.specs.Alone.{sentOf, passedBytes}
 use Rattle.rules.specs.Promise.{Promised}
+use Rattle.rules.specs.Final.{SafeIsFinal}
 use Rattle.events.specs.Replies.{replyOf, verdictOf}
 use Rattle.events.specs.Shown.{shownBy}
 use Rattle.book_bytes.specs.Books.{bookIn, bytesSound}
@@ -146,6 +147,10 @@ pub data History (n S : ℕ) : World → List (Event ℕ) → Type 0 where
 -- demand 3, the same as of a group
 abbrev pub Demand3Hosts : Type 0
 Demand3Hosts = (n S : ℕ) (w : World) (l : List (Event ℕ)) → History n S w l → Promised one S l
+
+-- what is reported safe is final if members register last
+abbrev pub FinalityHosts : Type 1
+FinalityHosts = (n S : ℕ) (w : World) (l : List (Event ℕ)) → History n S w l → SafeIsFinal l
 
 -- no book gets 4
 abbrev pub NeverFourHosts : Type 0

@@ -27,6 +27,7 @@ use Rattle.rules.proofs.Flat.Firm.{sender}
 use Rattle.rules.proofs.Hosts.Runs.{well, demand3-hosts}
 use Rattle.rules.proofs.Hosts.Kept.{never-wedged-hosts}
 use Rattle.rules.proofs.Hosts.Takes.{takes-next}
+use Rattle.rules.proofs.Final.{finality-promised}
 use Rattle.events.specs.Replies.{verdictOf}
 use Rattle.events.proofs.ReplyLaws.{accepts}
 use Rattle.events.proofs.ShownLaws.{answer-shown}
@@ -37,7 +38,7 @@ use Rattle.book_steps.proofs.Means.{gave}
 use Rattle.member.specs.Calls.{startCall, passCall}
 use Rattle.member.specs.Promises.{AreBook}
 use Rattle.member.specs.Hosts as H
-use Rattle.member.specs.Hosts.{World, called, shows, passed, Happens, History, Demand3Hosts, NeverFourHosts, TakesNext}
+use Rattle.member.specs.Hosts.{World, called, shows, passed, Happens, History, Demand3Hosts, FinalityHosts, NeverFourHosts, TakesNext}
 use Rattle.member.proofs.CallLaws.{need-gave}
 use Rattle.member.proofs.CallMeans.{after-gave, pass-call}
 use Rattle.member.proofs.PassReads.{passed-reads}
@@ -172,6 +173,9 @@ module _ (n S : ℕ) where
 
 pub demand3-host-bytes : Demand3Hosts
 demand3-host-bytes n S w l g = let (t, r, s) = follows n S g in demand3-hosts one n S t l r
+
+pub finality-hosts : FinalityHosts
+finality-hosts n S w l g = finality-promised one S l (demand3-host-bytes n S w l g)
 
 pub never-four-hosts : NeverFourHosts
 unfolding bytesSound
