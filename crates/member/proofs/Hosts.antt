@@ -2,6 +2,7 @@
 pub mod Related
 pub mod Calls
 pub mod Follows
+pub mod Packets
 use mathlib.Core.Path.{_≡_, _∙_}
 use mathlib.Core.List.{List}
 use Prim.Native.Nat.{ℕ, _<_}

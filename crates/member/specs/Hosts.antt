@@ -18,6 +18,7 @@ use Rattle.views.specs.Sets.{one, fits}
 use Rattle.views.specs.Lists.{idOf, viewOf}
 use Rattle.wire.specs.Widths.{AreBytes}
 use Rattle.wire.specs.Single.{readOne}
+use Rattle.wire.specs.Packets.{piecesIn}
 use Rattle.rules.specs.Data.{Identifier, Member, Message, Entry, Book, Event, Result, refused, accepted}
 use Rattle.rules.specs.Member.{Done, Passing, outgoes}
 use Rattle.rules.specs.Group.{firstView}
@@ -33,6 +34,7 @@ use Rattle.book_steps.specs.Acts.{joinBytes, passBytes, attemptBytes, registerB
 use Rattle.book_steps.specs.Acts.{safeBytes, collectBytes}
 use Rattle.member.specs.Calls.{startCall, joinCall, passCall, deliverCall, deliverBytes, attemptCall}
 use Rattle.member.specs.Calls.{registerCall, sendCall, handCall, tellCall, safeCall, collectCall}
+use Rattle.member.specs.Drives.{packet, after}
 use Rattle.member.specs.Promises.{AreBook}
 
 -- a message in a view's order
@@ -61,13 +63,12 @@ world0 n S lent = record {
 
 -- ---- what a call leaves: an accepted one the new bytes of the book, a refused one the old; and what its reply shows
 
+-- other bytes for the book of p
+abbrev pub rebooked : World → Member → List ℕ → World
+rebooked w p new = record { views = w .views; books = at p new (w .books); sent = w .sent; order = w .order }
+
 abbrev pub called : World → Member → Result Done → List ℕ → World
-called w p r new = record {
-  views = w .views;
-  books = at p (left (verdictOf r) new (w .books p)) (w .books);
-  sent = w .sent;
-  order = w .order;
-}
+called w p r new = rebooked w p (left (verdictOf r) new (w .books p))
 
 abbrev pub shows : Result Done → List (Event ℕ)
 shows r = shownBy (replyOf r .verdict) (replyOf r .event)
@@ -165,3 +166,21 @@ TakesNext =
     → (p : Member) → p < n → (v : View) (q : Member) (bytes : List ℕ) → bookOf w p .carrier .view ≡ some v
     → Next w p v q bytes → (r : Refusal) → verdictOf (deliverCall bytes q (w .books p)) ≡ Refused r
     → (r ≡ OrderFull) ⊎ (r ≡ TooManyOpen)
+
+-- ---- packets
+
+-- the messages of a list, all from q, are in order for p: the first, and if it is taken, the others after it
+unfoldable pub EachInOrder : World → Member → List (List ℕ) → Member → Type 0
+EachInOrder w p [] q = Unit {0}
+EachInOrder w p (bytes ∷ l) q =
+    InOrder w p bytes q
+    × (verdictOf (deliverCall bytes q (w .books p)) ≡ Accepted
+    → EachInOrder (rebooked w p (deliverBytes bytes q (w .books p))) p l q)
+
+-- a packet whose messages are in order leaves a world that a history comes to with the same events: what is promised of
+-- every history is promised with such packets among its calls
+abbrev pub PacketsHosts : Type 0
+PacketsHosts =
+    (n S : ℕ) (w : World) (l : List (Event ℕ)) → History n S w l
+    → (p : Member) → p < n → (s : List ℕ) (q : Member) → AreBytes s → EachInOrder w p (piecesIn s) q
+    → History n S (rebooked w p (after (packet s q) (w .books p))) l
