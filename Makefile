@@ -72,9 +72,9 @@ offices: $(BUILT)/offices
 	$< > $<.txt; status=$$?; cat $<.txt; exit $$status
 	diff examples/offices/expected.txt $<.txt
 
-# What comes of it where a host breaks a duty of docs/HOST.md: its stories beside what they should tell.
+# What comes of it if a host breaks a duty of docs/HOST.md: its stories beside what they should tell.
 .PHONY: duties
-$(BUILT)/duties: tests/duties/duties.cpp include/dvs.h $(LIBRARY)
+$(BUILT)/duties: tests/duties/duties.cpp tests/duties/offices.hpp include/dvs.h $(LIBRARY)
 	$(CXX) $(HOSTFLAGS) -o $@ $< $(LIBRARY)
 duties: $(BUILT)/duties
 	$< > $<.txt; status=$$?; cat $<.txt; exit $$status
