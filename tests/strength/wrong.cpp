@@ -121,7 +121,7 @@ extern "C" uint32_t __real_dvs_group_form(THREE, uint32_t v, uint8_t* count, siz
 extern "C" uint32_t __wrap_dvs_group_form(THREE, uint32_t v, uint8_t* count, size_t count_size);
 extern "C" uint32_t __wrap_dvs_group_form(THREE, uint32_t v, uint8_t* count, size_t count_size) {
   if (has_fault("dvs_group_form", "driver-"))
-    return WrongDriver{fault, list, books, queues, list_size, books_size, queues_size, v}.form(count, count_size);
+    return WrongDriver{{fault, list, books, queues, list_size, books_size, queues_size}, v}.form(count, count_size);
   uint32_t answer = __real_dvs_group_form(list, list_size, books, books_size, queues, queues_size, v, count, count_size);
   return spoil("dvs_group_form", answer, {IN(list), IN(books), IN(queues), IN(count)});
 }
@@ -133,7 +133,7 @@ extern "C" uint32_t __real_dvs_group_steps(THREE, LISTS);
 extern "C" uint32_t __wrap_dvs_group_steps(THREE, LISTS);
 extern "C" uint32_t __wrap_dvs_group_steps(THREE, LISTS) {
   if (has_fault("dvs_group_steps", "list-"))
-    return WrongList{fault, list, books, queues, list_size, books_size, queues_size}.steps(steps, steps_size, answers, answers_size);
+    return WrongList{{fault, list, books, queues, list_size, books_size, queues_size}}.steps(steps, steps_size, answers, answers_size);
   uint32_t answer =
       __real_dvs_group_steps(list, list_size, books, books_size, queues, queues_size, steps, steps_size, answers, answers_size);
   return spoil("dvs_group_steps", answer, {IN(list), IN(books), IN(queues), IN(answers)});

@@ -34,21 +34,12 @@
 //   driver-delivers-all               a server takes whatever is there
 #pragma once
 
-#include <cstring>
 #include <vector>
 
-#include "../../include/dvs.h"
+#include "wrong_group.hpp"
 
-extern "C" uint32_t __real_dvs_group_step(uint8_t*, size_t, uint8_t*, size_t, uint8_t*, size_t, uint32_t, uint32_t, uint64_t, uint8_t*, size_t);
-extern "C" uint32_t __real_dvs_group_check(const uint8_t*, size_t, const uint8_t*, size_t, const uint8_t*, size_t);
-
-struct WrongDriver {
-  const char* fault;
-  uint8_t *list, *books, *queues;
-  size_t list_size, books_size, queues_size;
+struct WrongDriver : WrongGroup {
   uint32_t view;
-
-  bool is(const char* name) const { return strcmp(fault + strlen("driver-"), name) == 0; }
 
   unsigned members() const { return books[DVS_BOOK_MEMBERS]; }
   unsigned made() const { return dvs_queues_made(queues); }
@@ -93,7 +84,7 @@ struct WrongDriver {
 
   uint32_t step(uint32_t kind, unsigned p) const {
     uint8_t event[DVS_EVENT_SIZE];
-    return __real_dvs_group_step(list, list_size, books, books_size, queues, queues_size, kind, p, view, event, sizeof event);
+    return WrongGroup::step(kind, p, view, event);
   }
   uint32_t steps(uint32_t kind, unsigned p) const {
     unsigned most = kind != DVS_STEP_DELIVER || is("delivers-one") ? 1 : is("delivers-all") ? DVS_ORDERED : ones(set());
@@ -142,8 +133,7 @@ struct WrongDriver {
   }
 
   uint32_t form(uint8_t* count, size_t count_size) const {
-    if (count_size != DVS_LENGTH_SIZE || __real_dvs_group_check(list, list_size, books, books_size, queues, queues_size) != 0)
-      return DVS_REFUSED_RECORDS_UNSOUND;
+    if (count_size != DVS_LENGTH_SIZE || !sound()) return DVS_REFUSED_RECORDS_UNSOUND;
     uint32_t refused = asked(), k = ones(set()), taken = 2 * k * k + 8 * k - (is("counts-short") ? k : 0);
     if (refused == 0) {
       const std::vector<uint8_t> old_books(books, books + books_size), old_queues(queues, queues + queues_size);

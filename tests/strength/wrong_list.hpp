@@ -23,30 +23,18 @@
 //   dvs_group_steps: list-narrows-second          of its second operand the last four bytes count
 #pragma once
 
-#include <cstring>
 #include <utility>
 #include <vector>
 
-#include "../../include/dvs.h"
 #include "../outside/layout.hpp"
+#include "wrong_group.hpp"
 
-extern "C" uint32_t __real_dvs_group_step(uint8_t*, size_t, uint8_t*, size_t, uint8_t*, size_t, uint32_t, uint32_t, uint64_t, uint8_t*, size_t);
-extern "C" uint32_t __real_dvs_group_check(const uint8_t*, size_t, const uint8_t*, size_t, const uint8_t*, size_t);
-
-struct WrongList {
-  const char* fault;
-  uint8_t *list, *books, *queues;
-  size_t list_size, books_size, queues_size;
-
-  bool is(const char* name) const { return strcmp(fault + strlen("list-"), name) == 0; }
-
-  bool sound() const { return __real_dvs_group_check(list, list_size, books, books_size, queues, queues_size) == 0; }
-
+struct WrongList : WrongGroup {
   uint32_t step(const uint8_t* record, uint8_t* event) const {
     plain::StepRecord s = plain::get_step(record);
     if (is("narrows-first")) s.first &= 255;
     if (is("narrows-second")) s.second &= UINT32_MAX;
-    return __real_dvs_group_step(list, list_size, books, books_size, queues, queues_size, s.kind, s.first, s.second, event, DVS_EVENT_SIZE);
+    return WrongGroup::step(s.kind, s.first, s.second, event);
   }
 
   // A step on a group that a join left unsound: the carrier view has more items than were taken. They are hidden from the step, and what the client
