@@ -219,7 +219,7 @@ class BookReader {
 using BookBytes = std::array<std::uint8_t, DVS_BOOK_SIZE>;
 
 // One office's part, over a carrier of the host's own. A book must never go back: once anything has left, only what was saved last may be loaded again, by
-// this office alone. So a book is not copied; moving takes it away, and what it is taken from is no book (Refusal::records_unsound).
+// this office alone. So a book is not copied; moving takes it away, and what it is taken from is not a book (Refusal::records_unsound).
 class Book {
  public:
   Book() noexcept = default;

@@ -65,7 +65,7 @@ fn steps(line: &[u8], list: &mut [u8], books: &mut [u8], queues: &mut [u8], room
     lists(line, &mut list[..e], books, &mut queues[..f], &steps[..n]);
 }
 
-// So many steps as the fourth word says are those of the run; the others, if there are any, are the second list.
+// The fourth word says how many of the steps are those of the run; the others, if there are any, are the second list.
 fn lists(line: &[u8], list: &mut [u8], books: &mut [u8], queues: &mut [u8], steps: &[u8]) {
     let k = test_script::operand::byte(line, 3);
     let at = test_script::parse::front(k as u64 * group_run::STEP as u64, steps);
