@@ -1,7 +1,7 @@
 #!/usr/bin/env python3
-"""header_check.py: holds include/dvs.h to the Rattle sources.
+"""header_check.py: holds the C headers in include/ to the Rattle sources.
 
-It compares every constant, length, place and refusal number of the header, and the name and parameter list of every exported function, with
+It compares every constant, length, place and refusal number of the headers, and the name and parameter list of every exported function, with
 crates/*/src, and the version with the Makefile's. Each function must have DVS_MUST_CHECK. It prints each difference and exits with 1 where there is one."""
 import re
 import sys
@@ -35,6 +35,11 @@ def version():
     return number
 
 
+def layout():
+    """The layout's number, as docs/LAYOUT.md gives it."""
+    return int(found(r'^This is layout (\d+)\b', (ROOT / 'docs' / 'LAYOUT.md').read_text(), 'docs/LAYOUT.md', re.M))
+
+
 def screaming(name):
     return re.sub(r'(?<=[a-z])(?=[A-Z])', '_', name).upper()
 
@@ -53,6 +58,7 @@ def expected_constants():
     wanted['DVS_QUEUES_ORDER(i)'] = '(%du + %du * DVS_COUNT(i))' % (groups['HEAD'], groups['TABLE'])
     waiting = groups['HEAD'] + groups['ORDER'], groups['TABLE'], groups['WAITING']
     wanted['DVS_QUEUES_WAITING(i, p)'] = '(%du + %du * DVS_COUNT(i) + %du * DVS_COUNT(p))' % waiting
+    wanted['DVS_LAYOUT'] = layout()
     wanted['DVS_MUST_CHECK'] = '__attribute__((warn_unused_result))'
     wanted['DVS_COUNT(views)'] = '((size_t)(views))'  # as C has it, the last of the two
     wanted.update({'DVS_BOOK_' + name: books[name] for name in BOOK_PLACES})
@@ -126,11 +132,12 @@ def compare(sort, wanted, given):
     return len(wanted)
 
 
-text = re.sub(r'/\*.*?\*/', '', (ROOT / 'include' / 'dvs.h').read_text(), flags=re.S)
+headers = sorted((ROOT / 'include').glob('*.h'))
+text = re.sub(r'/\*.*?\*/', '', '\n'.join(header.read_text() for header in headers), flags=re.S)
 numbers = compare('constant', expected_constants(), given_constants(text))
 functions = compare('function', expected_functions(), given_functions(text))
 for fault in faults:
     print(fault)
 if faults:
     sys.exit(1)
-print('include/dvs.h agrees with the sources: %d constants, %d functions' % (numbers, functions))
+print('%s agree with the sources: %d constants, %d functions' % (', '.join(header.name for header in headers), numbers, functions))

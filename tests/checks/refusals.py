@@ -101,12 +101,64 @@ def proof_of_numbers():
     return text + ')\n'
 
 
-def constants():
-    """The header's constants, their words aligned behind them."""
+def c_header():
+    """include/dvs_refusals.h: the constants with their words in a column, and the words as a function."""
     defined = ['#define DVS_REFUSED_%s %du' % (r.screaming, r.number) for r in REFUSALS]
     width = max(map(len, defined))
-    text = ''.join('%s /* %s */\n' % (d.ljust(width), r.words) for d, r in zip(defined, REFUSALS))
-    return text + '\n#define DVS_REFUSALS %du /* how many there are: the highest number */\n' % len(REFUSALS)
+    return """/*
+ * dvs_refusals.h: the refusals by number and in words; dvs.h includes it. It is written from docs/REFUSALS.md, which has a section for each.
+ */
+#ifndef DVS_REFUSALS_H
+#define DVS_REFUSALS_H
+
+#include <stdint.h>
+
+#define DVS_ACCEPTED 0u
+%s
+#define DVS_REFUSALS %du /* how many there are: the highest number */
+
+/* Returns the words of what a call returned, 0 or a refusal's number, for a log. */
+#if defined(__cpp_constexpr) && __cpp_constexpr >= 201304L
+constexpr
+#endif
+static inline const char *dvs_refusal_text(uint32_t refusal) {
+  switch (refusal) {
+    case DVS_ACCEPTED: return "accepted";
+%s  }
+  return "no refusal of this library";
+}
+
+#endif
+""" % (''.join('%s /* %s */\n' % (d.ljust(width), r.words) for d, r in zip(defined, REFUSALS)), len(REFUSALS),
+       each('    case DVS_REFUSED_{r.screaming}: return "{r.words}";\n'))
+
+
+def cpp_header():
+    """include/dvs_refusals.hpp: the refusals as an enumeration."""
+    return """// dvs_refusals.hpp: the refusals as an enumeration; dvs_types.hpp includes it. It is written from docs/REFUSALS.md, which has a section for each.
+#ifndef DVS_REFUSALS_HPP
+#define DVS_REFUSALS_HPP
+
+#include "dvs_refusals.h"
+
+#include <cstdint>
+
+namespace dvs {
+
+// Why a call was refused. Later versions may have more: a switch needs a default.
+enum class Refusal : std::uint32_t {
+  none = DVS_ACCEPTED,
+%s};
+
+constexpr std::uint32_t number(Refusal refusal) noexcept { return static_cast<std::uint32_t>(refusal); }
+
+// The refusal in plain words, for a log.
+constexpr const char *text(Refusal refusal) noexcept { return dvs_refusal_text(number(refusal)); }
+
+}  // namespace dvs
+
+#endif
+""" % each('  {r.lower} = DVS_REFUSED_{r.screaming},\n')
 
 
 WHOLE = ''  # before, or behind, all of the file
@@ -119,9 +171,8 @@ PARTS = [
     ('crates/*/proofs/**/refusal/number/Proof.antt', '.Tie as tie\n\n', WHOLE, proof_of_numbers()),
     ('crates/*/proofs/**/Numbers.antt', '.Refusal.{Refusal}\n', 'use Rattle.views.specs.Refusals.{numberOf}\n', imports),
     ('crates/*/proofs/**/Numbers.antt', 'eqb (numberOf r) 0 ≡ false\n', WHOLE, each('never-0 {r.name} = refl\n')),
-    ('include/dvs.h', '#define DVS_ACCEPTED 0u\n', '\n/*\n', constants()),
-    ('include/dvs_types.hpp', '  none = DVS_ACCEPTED,\n', '};\n', each('  {r.lower} = DVS_REFUSED_{r.screaming},\n')),
-    ('include/dvs.h', '    case DVS_ACCEPTED: return "accepted";\n', '  }\n', each('    case DVS_REFUSED_{r.screaming}: return "{r.words}";\n')),
+    ('include/dvs_refusals.h', WHOLE, WHOLE, c_header()),
+    ('include/dvs_refusals.hpp', WHOLE, WHOLE, cpp_header()),
     ('tests/outside/refusals.inc', WHOLE, WHOLE, '/* The answers of include/dvs.h in the order of their numbers, from 0. */\n' +
      rows(['DVS_ACCEPTED'] + ['DVS_REFUSED_' + r.screaming for r in REFUSALS])),
     ('tests/reference/refusals.inc', WHOLE, WHOLE, '// The refusals of the plain implementations in C++, for an enum of theirs.\n' +

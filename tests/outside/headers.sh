@@ -32,11 +32,14 @@ warns() { # compiler version
 for compilers in "gcc g++" "clang clang++"; do
   read -r c cxx <<< "$compilers"
   command -v "$c" "$cxx" > /dev/null || { echo "no $c here"; continue; }
-  for version in c99 c11 c17; do try "$c" c $version dvs.h; use "$c" c $version; warns "$c" $version; done
+  for version in c99 c11 c17; do
+    for header in dvs_layout.h dvs_refusals.h dvs.h; do try "$c" c $version $header; done
+    use "$c" c $version
+    warns "$c" $version
+  done
   for version in c++17 c++20; do
-    try "$cxx" c++ $version dvs.h
     use "$cxx" c++ $version
-    for header in dvs_types.hpp dvs.hpp; do try "$cxx" c++ $version $header; done
+    for header in dvs_layout.h dvs_refusals.h dvs.h dvs_refusals.hpp dvs_types.hpp dvs.hpp; do try "$cxx" c++ $version $header; done
   done
 done
 echo "$count compilations"

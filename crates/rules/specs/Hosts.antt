@@ -3,8 +3,8 @@
 --
 -- 1. No two views share an identifier, and every view's set has members, all of them among the n.
 -- 2. In a view every member takes a prefix of one order of messages.
--- 3. In that order stand, of each sender, the first messages that it gave out in that view, in that order, with none
---    left out between: a lost message stops its sender in this view.
+-- 3. That order holds a prefix of what each sender gave out in that view: its first messages, in the order sent,
+--    without gaps. So a lost message stops its sender in this view.
 -- 4. A member's book never goes back, but for the outgoing list of a member that joins next.
 --
 -- Nothing else: views and messages are as many as there come, views come in any order of identifiers, members of a view
