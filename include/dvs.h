@@ -1,5 +1,5 @@
 /*
- * dvs.h: primary views for up to eight register servers, after the service DVS of MIT-LCS-TR-873.
+ * dvs.h: primary views for a group of up to eight members, after the service DVS of MIT-LCS-TR-873.
  *
  * This header has the functions. dvs_layout.h has limits, lengths, places and readers, and dvs_refusals.h the refusals; both are included here. The
  * documents that are named here are installed to share/doc/dvs.

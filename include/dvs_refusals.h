@@ -51,7 +51,7 @@
 #define DVS_REFUSED_SENDER_NOT_IN_VIEW 42u   /* the sender is not in the view */
 #define DVS_REFUSED_TOO_MANY_OPEN 43u        /* more than 31 views would be open */
 #define DVS_REFUSED_VIEW_NOT_FRESH 44u       /* the view to form is not the newest, or a member has joined it */
-#define DVS_REFUSED_FORM_TEST_FAILED 45u     /* the view to form has no majority of a view that one of its servers holds */
+#define DVS_REFUSED_FORM_TEST_FAILED 45u     /* the view to form has no majority of a view that one of its members holds */
 
 #define DVS_REFUSALS 45u /* how many there are: the highest number */
 
@@ -106,7 +106,7 @@ static inline const char *dvs_refusal_text(uint32_t refusal) {
     case DVS_REFUSED_SENDER_NOT_IN_VIEW: return "the sender is not in the view";
     case DVS_REFUSED_TOO_MANY_OPEN: return "more than 31 views would be open";
     case DVS_REFUSED_VIEW_NOT_FRESH: return "the view to form is not the newest, or a member has joined it";
-    case DVS_REFUSED_FORM_TEST_FAILED: return "the view to form has no majority of a view that one of its servers holds";
+    case DVS_REFUSED_FORM_TEST_FAILED: return "the view to form has no majority of a view that one of its members holds";
   }
   return "no refusal of this library";
 }
