@@ -1,7 +1,6 @@
 #!/usr/bin/env python3
 """documents_check.py: whether the documents name files that are there, docs/TRUST.md counts their lines right, docs/DECISIONS.md names every
-public function that asks something of its callers, docs/ARCHITECTURE.md names edits that are there, and README.md shows the stored session of the
-bench and the stored example.
+public function that asks something of its callers, and README.md shows the stored session of the bench and the stored example.
 
     python3 tests/checks/documents_check.py          says what is wrong, and exits with 1 where something is
     python3 tests/checks/documents_check.py write    puts the right counts into docs/TRUST.md"""
