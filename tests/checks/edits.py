@@ -1,12 +1,16 @@
 #!/usr/bin/env python3
-"""edits.py: whether the prover refuses the wrong answers that stand beside the crates.
+"""edits.py: whether the prover refuses the wrong answers that are kept beside the crates.
 
-    python3 tests/checks/edits.py [--gate | --listed | --all] [--jobs N] [--place DIR] [--proving PROCESS] [CRATE...]
+    python3 tests/checks/edits.py [--gate | --listed | --all] [--jobs N] [--place DIR] [--proving PROCESS] [CRATE | CRATE/NAME ...]
     python3 tests/checks/edits.py --fit     only whether every edit fits its crate, in a second
 
-The gate tries the edits of crates/CRATE/must-fail/ and those of more-edits/ that gate_edits.txt lists. This program tries the others of more-edits/;
-with --gate the gate's, with --listed those of the list, in its order, with --all every edit. An edit has lines 'file: ', 'old: ' and 'new: ': the old
-text, which must be in that file of src/ or specs/ once, is replaced by the new one; a 'file: ' line holds for the pairs after it.
+The gate tries the edits of crates/CRATE/must-fail/ and those of crates/CRATE/more-edits.txt that gate_edits.txt lists. This program tries the others of
+more-edits.txt; with --gate the gate's, with --listed those of the list, in its order, with --all every edit. A CRATE leaves out the edits of the others.
+An edit that is named, CRATE/NAME, is tried in any case.
+
+An edit has lines 'file: ', 'old: ' and 'new: ': the old text, which must be in that file of src/ or specs/ once, is replaced by the new one; a 'file: '
+line holds for the pairs after it. In more-edits.txt an edit begins with a line 'edit: NAME', and a line '# ' is a comment. In must-fail/, which rt reads
+too, an edit is a file of its own.
 
 rt checks a whole crate for each edit of must-fail/. Here a crate is checked once as it is, by 'rt dev' in a repository of its own under DIR/rooms, and
 then again after each edit, which costs what the edit reaches. That a wrong answer is refused needs no trust in what an earlier check kept. An edit is
@@ -28,6 +32,7 @@ import shutil
 import subprocess
 import sys
 import time
+import typing
 
 ROOT = pathlib.Path(__file__).resolve().parents[2]
 CRATES = ROOT / 'crates'
@@ -42,36 +47,73 @@ class BadEdit(Exception):
     """An edit that does not fit its crate."""
 
 
-def listed():
-    """The edits of the gate's list, in its order. A name that is there twice, or that has no edit, ends the program."""
-    names = [line for line in LIST.read_text().splitlines() if not line.startswith('#')]
-    twice = sorted({name for name in names if names.count(name) > 1})
-    edits = [CRATES / crate / 'more-edits' / (label + '.edit') for crate, _, label in (name.partition('/') for name in names)]
-    without = [name for name, edit in zip(names, edits) if not edit.is_file()]
-    if twice or without:
-        sys.exit('\n'.join(['%s lists %s twice' % (LIST.name, name) for name in twice] +
-                           ["%s lists '%s', which is no edit of more-edits/" % (LIST.name, name) for name in without]))
+class Edit(typing.NamedTuple):
+    """A wrong answer: its crate, its name within the crate, its lines, and whether rt tries it too."""
+    crate: str
+    label: str
+    lines: list
+    must_fail: bool
+
+    @property
+    def name(self):
+        return '%s/%s' % (self.crate, self.label)
+
+
+def more_of(file):
+    """The edits of a more-edits.txt. A line that is no line of an edit ends the program."""
+    edits = []
+    for number, line in enumerate(file.read_text().split('\n'), 1):
+        if re.fullmatch(r'edit: \w+', line):
+            edits.append(Edit(file.parent.name, line[len('edit: '):], [], False))
+        elif edits and re.match('file: |old: |new:', line):
+            edits[-1].lines.append(line)
+        elif line and not line.startswith('# '):
+            sys.exit('%s:%d: this is no line of an edit: %s' % (file.relative_to(ROOT), number, line))
     return edits
 
 
-def chosen(which):
-    """The edits to try."""
-    in_list = listed()
-    if which == 'listed':
-        return in_list
-    must_fail, more = (list(CRATES.glob('*/%s/*.edit' % folder)) for folder in ('must-fail', 'more-edits'))
-    edits = {'gate': must_fail + in_list, 'all': must_fail + more, 'rest': set(more) - set(in_list)}[which]
-    return sorted(edits, key=lambda edit: (crate_of(edit), edit.stem))
+def every():
+    """Every edit by its name, CRATE/NAME, in the order of the names. A name that two edits have ends the program."""
+    edits = [Edit(file.parents[1].name, file.stem, file.read_text().split('\n'), True) for file in CRATES.glob('*/must-fail/*.edit')]
+    edits += [edit for file in CRATES.glob('*/more-edits.txt') for edit in more_of(file)]
+    known = {edit.name: edit for edit in sorted(edits)}
+    if len(known) < len(edits):
+        sys.exit('\n'.join('%s is the name of two edits' % edit.name for edit in edits if known[edit.name] is not edit))
+    return known
 
 
-def crate_of(edit):
-    return edit.parents[1].name
+def listed(edits):
+    """The names of the gate's list, in its order. A name that is there twice, or that has no edit, ends the program."""
+    names = [line for line in LIST.read_text().splitlines() if not line.startswith('#')]
+    twice = sorted({name for name in names if names.count(name) > 1})
+    without = [name for name in names if name not in edits or edits[name].must_fail]
+    if twice or without:
+        sys.exit('\n'.join(['%s lists %s twice' % (LIST.name, name) for name in twice] +
+                           ["%s lists '%s', which is no edit of more-edits.txt" % (LIST.name, name) for name in without]))
+    return names
+
+
+def chosen(which, words=()):
+    """The edits to try: with words only those of the crates named, and the edits named. A word that chooses none ends the program."""
+    edits = every()
+    in_list = listed(edits)
+    gate = [name for name in edits if edits[name].must_fail or name in in_list]
+    names = {'listed': in_list, 'gate': gate, 'all': list(edits), 'rest': [name for name in edits if name not in gate]}[which]
+    without = [word for word in words if word not in edits and word not in {edits[name].crate for name in names}]
+    if without:
+        sys.exit('no such edits: %s' % ' '.join(without))
+    if words:
+        names = [name for name in names if edits[name].crate in words] + [word for word in words if word in edits]
+    return [edits[name] for name in dict.fromkeys(names)]
 
 
 def pairs_of(edit):
     """The replacements of an edit: file, old text, new text."""
+    kinds = [line[:4] for line in edit.lines if re.match('old: |new:', line)]
+    if kinds != ['old:', 'new:'] * (len(kinds) // 2):
+        raise BadEdit("its 'old:' and 'new:' lines are not in pairs")
     file = old = ''
-    for line in edit.read_text().split('\n'):
+    for line in edit.lines:
         if line.startswith('file: '):
             file = line[len('file: '):]
         elif line.startswith('old: '):
@@ -148,7 +190,7 @@ class Room:
         before = {path: path.read_text() for path in texts}
         for path, text in texts.items():
             path.write_text(text)
-        status, output = self.check(edit.stem)
+        status, output = self.check(edit.label)
         for path, text in before.items():
             path.write_text(text)
         if status == 0:
@@ -192,11 +234,11 @@ def try_crate(given, crate, edits):
     reason = obstacle(room, given.proving)
     refused, others = 0, []
     for edit in edits:
-        name, began = '%s/%s' % (crate, edit.stem), time.monotonic()
+        began = time.monotonic()
         fine, words = (False, 'NOT TRIED: ' + reason) if reason else room.attempt(edit)
-        print('%s: %.1f s, %s' % (name, time.monotonic() - began, words), flush=True)
+        print('%s: %.1f s, %s' % (edit.name, time.monotonic() - began, words), flush=True)
         refused += fine
-        others += [] if fine else [name]
+        others += [] if fine else [edit.name]
     return refused, others
 
 
@@ -209,7 +251,7 @@ def arguments():
     parser.add_argument('--jobs', type=int, default=min(MOST_JOBS, os.cpu_count() or 1), choices=range(1, MOST_JOBS + 1), help='crates at a time')
     parser.add_argument('--place', type=pathlib.Path, default=PROVED / 'edits', metavar='DIR', help='for the rooms and the logs')
     parser.add_argument('--proving', type=int, metavar='PROCESS', help='what proves all crates at the same time')
-    parser.add_argument('crates', nargs='*', metavar='CRATE')
+    parser.add_argument('words', nargs='*', metavar='CRATE[/NAME]', help='only the edits of these crates, and these edits')
     parser.set_defaults(which='rest')
     return parser.parse_args()
 
@@ -219,9 +261,9 @@ def fitting():
     edits, faults = chosen('all'), 0
     for edit in edits:
         try:
-            changed(edit.parents[1], edit)
+            changed(CRATES / edit.crate, edit)
         except BadEdit as fault:
-            print('%s/%s: BAD EDIT: %s' % (crate_of(edit), edit.stem, fault))
+            print('%s: BAD EDIT: %s' % (edit.name, fault))
             faults += 1
     print('%d edits fit their crates, %d do not' % (len(edits) - faults, faults))
     return not faults
@@ -232,12 +274,8 @@ def main():
     if given.which == 'fit':
         sys.exit(0 if fitting() else 1)
     wanted = {}
-    for edit in chosen(given.which):
-        if not given.crates or crate_of(edit) in given.crates:
-            wanted.setdefault(crate_of(edit), []).append(edit)
-    without = [crate for crate in given.crates if crate not in wanted]
-    if without:
-        sys.exit('no such edits: %s' % ' '.join(without))
+    for edit in chosen(given.which, given.words):
+        wanted.setdefault(edit.crate, []).append(edit)
     if not given.proving and subprocess.run(['rt', 'check', *wanted], cwd=ROOT, stdout=subprocess.DEVNULL).returncode:
         sys.exit('the crates are not proved as they stand: rt check says where')
     with concurrent.futures.ThreadPoolExecutor(given.jobs) as jobs:
