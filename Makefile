@@ -90,7 +90,8 @@ headers:
 	python3 tests/checks/header_check.py
 	tests/outside/headers.sh
 
-# The library beside a plain implementation in C++: every length, limit and refusal, and random cases. Once with the host's code sanitized.
+# The library beside a plain implementation in C++: every length, limit and refusal, and random cases. Once with the host's code sanitized. Then the
+# driver, which the bench has no line for, beside the reference in Python, by random scripts.
 .PHONY: outside
 REFERENCE := tests/reference/reference_group.hpp tests/reference/refusals.inc
 OUTSIDE := $(wildcard tests/outside/*.hpp tests/outside/*.cpp tests/outside/*.inc) $(REFERENCE) include/dvs.h
@@ -98,6 +99,7 @@ OUTSIDE_FLAGS := $(CXXFLAGS) -Wpedantic
 outside: $(BUILT)/outside_test $(BUILT)/outside_test_sanitized
 	$(BUILT)/outside_test_sanitized short 1 > $(BUILT)/outside_sanitized.log || { cat $(BUILT)/outside_sanitized.log; false; }
 	$(BUILT)/outside_test short 2
+	python3 tests/reference/compare.py forms 3 20000 "$(BUILT)/outside_test lines"
 $(BUILT)/outside_test: $(OUTSIDE) $(LIBRARY)
 	$(CXX) $(OUTSIDE_FLAGS) -o $@ tests/outside/outside_test.cpp $(LIBRARY)
 $(BUILT)/outside_test_sanitized: $(OUTSIDE) $(LIBRARY)
@@ -144,13 +146,12 @@ target/reference-unchecked: tests/reference/reference.cpp $(REFERENCE)
 	$(CXX) $(CXXFLAGS) -DNO_CHECK -o $@ $<
 
 # The benches beside each other: every script with its answers, a random script, and others sent line by line, some in pieces too, with `all` before them
-# and without; what fails. The driver, which the bench has no line for, by the plain implementations alone.
+# and without; what fails.
 .PHONY: compare
 BENCH := $(if $(UNPROVED),target/unproved,target/bin)/bench
 compare: $(BENCH) reference-cpp
 	python3 tests/reference/compare.py corpus tests/scripts $(BENCH) target/reference target/reference-unchecked
 	python3 tests/reference/compare.py random 1 20000 $(BENCH) target/reference target/reference-unchecked
-	python3 tests/reference/compare.py forms 3 20000 "target/reference forms" "target/reference-unchecked forms"
 	python3 tests/reference/compare.py live 2 2000 $(BENCH)
 	python3 tests/scripts/bench_waits.py $(BENCH)
 	python3 tests/scripts/bench_fails.py $(BENCH)

@@ -3,6 +3,7 @@
 //   outside_test short SEED          lengths, limits and some thousand random cases; every answer must have been seen
 //   outside_test fuzz SECONDS SEED   random cases until the time is over
 //   outside_test case SEED NUMBER    one of these cases, every call of it printed
+//   outside_test lines               answers lines, the driver's among them: lines.hpp
 #include <chrono>
 #include <cstdlib>
 #include <ctime>
@@ -13,6 +14,7 @@
 #include "form_refusals.hpp"
 #include "group_cases.hpp"
 #include "huge.hpp"
+#include "lines.hpp"
 #include "list_cases.hpp"
 #include "member_cases.hpp"
 #include "message_cases.hpp"
@@ -105,6 +107,8 @@ class Test {
     printf("no difference in case %" PRIu64 " of seed %" PRIu64 "\n", number, seed);
     return 0;
   }
+
+  int run_lines() { return Lines(calls_).run() ? 0 : 1; }
 };
 
 }  // namespace
@@ -116,6 +120,7 @@ int main(int count, char** words) {
   if (what == "short" && count == 3) return test.run_short(number(2));
   if (what == "fuzz" && count == 4) return test.run_fuzz(strtod(words[2], nullptr), number(3));
   if (what == "case" && count == 4) return test.run_one(number(2), number(3));
-  fprintf(stderr, "outside_test short SEED | fuzz SECONDS SEED | case SEED NUMBER\n");
+  if (what == "lines" && count == 2) return test.run_lines();
+  fprintf(stderr, "outside_test short SEED | fuzz SECONDS SEED | case SEED NUMBER | lines\n");
   return 2;
 }

@@ -64,10 +64,12 @@ def accepted(reply):
 
 class Script:
     """Lines with their replies, without a first line `all`; `seed` determines both. With `forms` there are lines
-    `form IDENTIFIER` among them, which no bench reads: they are put to the references alone."""
+    `form IDENTIFIER` among them, which no bench reads, and none that is hostile."""
 
     def __init__(self, seed, forms=False):
         self.forms = forms
+        # How often the driver refused a view for an open view alone: it passed against every settled one.
+        self.open_alone = 0
         self.draw = random.Random(seed)
         self.group = None
         self.lines = []
@@ -85,12 +87,12 @@ class Script:
     def write(self, count):
         """`count` lines more."""
         end = len(self.lines) + count
-        while self.draw.random() < 0.7 and len(self.lines) < end:
+        while not self.forms and self.draw.random() < 0.7 and len(self.lines) < end:
             self.put(self.hostile_line())
         while len(self.lines) < end:
             if self.group is None or self.lines_left <= 0:
                 self.begin()
-            elif self.draw.randrange(100) < HOSTILE:
+            elif not self.forms and self.draw.randrange(100) < HOSTILE:
                 self.put(self.hostile_line())
             elif self.forms and self.draw.randrange(1000) < FORMS:
                 self.form()
@@ -117,11 +119,28 @@ class Script:
 
     def form(self):
         """A view is made and formed, whether or not the last one was settled; or any other one is."""
+        if self.draw.random() < 0.3:
+            self.leave_open()
         identifier = self.some_identifier()
         if self.draw.random() < 0.8:
             identifier = self.new_identifier()
             self.put(line_of((1, identifier, self.new_set())))
-        self.keep(b"form %d" % identifier, self.group.form(identifier))
+        new_set, reply = self.group.views[-1][1], self.group.form(identifier)
+        self.keep(b"form %d" % identifier, reply)
+        settled = [self.group.member[p]["settled"][1] for p in reference.members_of(new_set)]
+        self.open_alone += reply == ("refused", 45) and all(reference.passes_test(new_set, held) for held in settled)
+        # Nothing more can be formed once the list is full: another group is begun.
+        if len(self.group.views) == self.group.room:
+            self.lines_left = 0
+
+    def leave_open(self):
+        """A view is made and, by hand, attempted by its members; nobody registers, so it stays open."""
+        self.put(line_of((1, self.new_identifier(), self.new_set())))
+        for kind, *operands in reference.form_steps(self.group.views[-1]):
+            name, _, widths = reference.STEPS[kind]
+            if name == "register":
+                break
+            self.put(line_of((kind, *operands[: len(widths)])))
 
     def next_step(self):
         draw = self.draw

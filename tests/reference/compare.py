@@ -1,7 +1,8 @@
 """Benches beside each other: the same script for every command, their answers line by line.
 
     python3 tests/reference/compare.py random SEED LINES CMD...   a random script
-    python3 tests/reference/compare.py forms SEED LINES CMD...    one with lines for the driver, of references alone
+    python3 tests/reference/compare.py forms SEED LINES CMD...    one with lines for the driver, and none that is hostile:
+                                                                  tests/outside/lines.hpp
     python3 tests/reference/compare.py live SEED LINES CMD...     each line sent when the last was answered
     python3 tests/reference/compare.py corpus DIR CMD...          every DIR/NAME.txt, with DIR/NAME.out as answers, and those
                                                                   that begin with `all` without it too
@@ -9,8 +10,8 @@
     python3 tests/reference/compare.py histogram SEED LINES       how often each answer comes in it
 
 A command is one argument, taken apart at spaces. The answers of tests/reference/reference.py are
-always among those compared. A random script is put to each twice: with `all` as its first line, and without it, where
-a refusal gets no answer. The exit status is 1 where two answers differ.
+always among those compared. A random script of a bench is put to each twice: with `all` as its first line, and without
+it, where a refusal gets no answer. The exit status is 1 where two answers differ.
 """
 
 import collections
@@ -101,12 +102,16 @@ def compare_random(seed, script, commands):
 
 
 def compare_forms(seed, script, commands):
-    """The driver: views of every size, and each of its refusals that steps lead to, must have come."""
+    """The driver: views of every size, each of its refusals that steps lead to, and 45 for an open view alone, must have come."""
     seen = {reply for line, reply in zip(script.lines, script.replies) if line.startswith(b"form ")}
     wanted = {f"formed {2 * k * k + 8 * k}" for k in range(1, 9)} | {"refused 10", "refused 44", "refused 45"}
     for reply in sorted(seen ^ wanted):
         print(f"seed {seed}: the driver's answer '{reply}' {'was not seen' if reply in wanted else 'is none of its own'}")
-    return compare_random(seed, script, commands) and seen == wanted
+    if not script.open_alone:
+        print(f"seed {seed}: no view was refused for an open view alone")
+    lines, expected = script.answers(bench_script.everything)
+    good = all([same(lines, expected, c, run(c, script.bytes()), f"seed {seed}, forms") for c in commands])
+    return good and seen == wanted and script.open_alone > 0
 
 
 def compare_live(seed, lines, commands):

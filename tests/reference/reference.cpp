@@ -1,6 +1,4 @@
 // The bench over the plain C++ group, to compare answers and speed with: the specification's lines in, its replies out.
-// With the word `forms` behind its name it reads lines `form IDENTIFIER` too, which no bench has, and says how many steps
-// formed the view.
 #include <cerrno>
 #include <unistd.h>
 
@@ -25,8 +23,6 @@ constexpr Command kCommands[] = {
     {"hand", 9, 1, {kByte, 0}},       {"tell", 10, 1, {kByte, 0}},      {"safe", 11, 1, {kByte, 0}},
     {"collect", 12, 1, {kByte, 0}},
 };
-constexpr uint8_t kForm = 255;
-constexpr Command kFormCommand = {"form", kForm, 1, {kWord, 0}};
 
 // Takes a numeral at the front; false if there is none within the width.
 bool numeral(const char*& at, const char* end, uint64_t widest, uint64_t& value) {
@@ -45,8 +41,8 @@ bool named(const Command& c, const char* line, size_t size) {
   return size > name && memcmp(line, c.name, name) == 0 && line[name] == ' ';
 }
 
-const Command* parse(const char* line, size_t size, bool forms, uint64_t operands[2]) {
-  const Command* c = forms && named(kFormCommand, line, size) ? &kFormCommand : nullptr;
+const Command* parse(const char* line, size_t size, uint64_t operands[2]) {
+  const Command* c = nullptr;
   for (const Command& other : kCommands)
     if (named(other, line, size)) c = &other;
   if (!c) return nullptr;
@@ -78,9 +74,6 @@ class Output {
     bytes_[size_++] = ' ';
     while (count) bytes_[size_++] = digits[--count];
   }
-  void formed(const Reply& r) {
-    room(), text("formed"), number(r.number), text("\n");
-  }
   void reply(const Reply& r) {
     static const char* const names[] = {"ok", "attempt", "register", "send", "hand", "safe"};
     room();
@@ -98,7 +91,7 @@ class Output {
 
 struct Bench {
   Group group;
-  bool running, forms;
+  bool running;
   bool begun, refusals;  // a line has come; it was `all`, so refusals are shown
   Output out;
 
@@ -115,12 +108,8 @@ struct Bench {
   }
   void answer(const char* line, size_t size) {
     uint64_t operands[2] = {0, 0};
-    const Command* c = size > kLine ? nullptr : parse(line, size, forms, operands);
+    const Command* c = size > kLine ? nullptr : parse(line, size, operands);
     if (!c || (c->kind != 0 && !running)) return show(refuse(kLineUnreadable));
-    if (c->kind == kForm) {
-      Reply r = group.form(operands[0]);
-      return r.refusal == kAccepted ? out.formed(r) : show(r);
-    }
     if (c->kind != 0) return show(group.step(c->kind, operands[0], operands[1]));
     Refusal r = group.start(operands[0], operands[1], kLent);
     if (r == kAccepted) running = true;
@@ -132,9 +121,8 @@ Bench bench;
 
 }  // namespace
 
-int main(int count, char** words) {
+int main() {
   static char input[1 << 16];
-  bench.forms = count == 2 && strcmp(words[1], "forms") == 0;
   char rest[kLine + 1];  // the beginning of a line whose end has not come, as far as it matters
   size_t kept = 0;
   auto keep = [&](const char* from, size_t size) {
