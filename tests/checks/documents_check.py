@@ -1,12 +1,14 @@
 #!/usr/bin/env python3
 """documents_check.py: whether the documents name files that are there, docs/TRUST.md counts their lines right, docs/DECISIONS.md names every
-public function that asks something of its callers, and README.md shows the stored session of the bench and the stored example.
+public function that asks something of its callers, docs/WRONG_ANSWERS.md names edits that are there and two wrong programs of every exported function, and
+README.md shows the stored session of the bench and the stored example.
 
     python3 tests/checks/documents_check.py          says what is wrong, and exits with 1 where something is
     python3 tests/checks/documents_check.py write    puts the right counts into docs/TRUST.md"""
 import re
 import sys
 
+import edits
 from documents import ROOT, TRUST, files_of, function, host_functions
 
 DOCUMENTS = [ROOT / 'README.md'] + sorted((ROOT / 'docs').glob('*.md')) + sorted((ROOT / 'tests').glob('**/README.md'))
@@ -88,6 +90,21 @@ for crate, path in host_functions():
         faults.append('docs/DECISIONS.md names %s::%s, which is no public function' % (crate, path))
     elif 'requires {' in contract:
         faults.append('%s::%s, which a host may call, asks something of its caller' % (crate, path))
+
+
+# wrong answers: those that are named are there, and every exported function has a row with two different wrong programs
+wrong = (ROOT / 'docs' / 'WRONG_ANSWERS.md').read_text()
+answers = edits.every()
+for crate, name in re.findall(r'`(\w+)/(\w+)`', wrong):
+    if '%s/%s' % (crate, name) not in answers:
+        faults.append('docs/WRONG_ANSWERS.md names %s/%s, which is no edit' % (crate, name))
+rows = {row[0]: row[1:] for row in re.findall(r'^\| `(dvs_\w+)` \| `([^`]+)` \| `([^`]+)` \|$', wrong, re.M)}
+exported = {path.split('::')[-1] for crate, path in host_functions() if crate == 'dvs'}
+faults.extend('docs/WRONG_ANSWERS.md has no row with two wrong programs of %s' % name for name in sorted(exported - rows.keys()))
+faults.extend('docs/WRONG_ANSWERS.md has a row of %s, which is no exported function' % name for name in sorted(rows.keys() - exported))
+faults.extend('docs/WRONG_ANSWERS.md names one wrong program of %s twice' % name for name, (one, other) in rows.items() if one == other)
+used = [name for row in rows.values() for name in row]
+faults.extend('docs/WRONG_ANSWERS.md gives %s to two functions' % name for name in sorted(set(used)) if used.count(name) > 1)
 
 
 def shown(heading):
