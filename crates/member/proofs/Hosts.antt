@@ -3,6 +3,8 @@ pub mod Related
 pub mod Calls
 pub mod Follows
 pub mod Packets
+pub mod Later
+pub mod Turns
 use mathlib.Core.Path.{_≡_, _∙_}
 use mathlib.Core.List.{List}
 use Prim.Native.Nat.{ℕ, _<_}

@@ -3,3 +3,4 @@ pub mod Parts
 pub mod Drives
 pub mod Promises
 pub mod Hosts
+pub mod HostTurns
