@@ -5,6 +5,7 @@ pub mod Follows
 pub mod Packets
 pub mod Later
 pub mod Turns
+pub mod SavedAtOnce
 use mathlib.Core.Path.{_≡_, _∙_}
 use mathlib.Core.List.{List}
 use Prim.Native.Nat.{ℕ, _<_}

@@ -13,7 +13,6 @@ use Rattle.rules.specs.Data.{Identifier, Member, Event, Result, refused, accept
 use Rattle.rules.specs.Member.{Done, Passing}
 use Rattle.rules.specs.Alone.{passedBytes}
 use Rattle.events.specs.Replies.{verdictOf}
-use Rattle.book_bytes.specs.Starts.{startBytes}
 use Rattle.book_steps.specs.Acts.{passBytes}
 use Rattle.member.specs.Calls.{startCall, passCall}
 use Rattle.member.specs.Drives.{packet, after}
@@ -51,6 +50,10 @@ pub record Hosts : Type 0 where
 -- the world as p has it at its turn
 abbrev pub seen : Hosts → Member → World
 seen h p = withTurn (withTurn (h .world) p (h .disk p)) p (h .memory p)
+
+-- all was published that was done
+abbrev pub quiet : World → Hosts
+quiet w = record { world = w; disk = λ p. idle (w .books p); memory = λ p. idle (w .books p) }
 
 -- ---- a turn after one more call, after a pass, and after a packet
 
@@ -105,11 +108,7 @@ pub data Works (n : ℕ) : Hosts → Hosts → List (Event ℕ) → Type 0 where
 pub data Worked (n S : ℕ) : Hosts → List (Event ℕ) → Type 0 where
   begin : (lent : Member → List ℕ) → 0 < n
       → ((p : Member) → p < n → verdictOf (startCall n S p (lent p)) ≡ Accepted)
-      → Worked n S (record {
-        world = world0 n S lent;
-        disk = λ p. idle (startBytes n S p (lent p));
-        memory = λ p. idle (startBytes n S p (lent p));
-      }) []
+      → Worked n S (quiet (world0 n S lent)) []
   then : {h k : Hosts} {l e : List (Event ℕ)} → Worked n S h l → Works n h k e → Worked n S k (l ++ e)
 
 -- ---- what is promised of such hosts
@@ -123,3 +122,7 @@ pub record TurnsPromised (n S : ℕ) (h : Hosts) (l : List (Event ℕ)) : Type 0
 
 abbrev pub TurnsHosts : Type 0
 TurnsHosts = (n S : ℕ) (h : Hosts) (l : List (Event ℕ)) → Worked n S h l → TurnsPromised n S h l
+
+-- such hosts are no special case: every history is one of hosts that save and publish after each call
+abbrev pub HistoriesTurns : Type 0
+HistoriesTurns = (n S : ℕ) (w : World) (l : List (Event ℕ)) → History n S w l → Worked n S (quiet w) l

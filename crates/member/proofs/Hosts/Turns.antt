@@ -47,7 +47,7 @@ turn-same : (p : Member) (w t : World) (m : Turn) → withTurn t p m .books p �
 turn-same p w t m = upd-here p (m .book) (t .books) ∙ sym (upd-here p (m .book) (w .books))
 
 module _ (p : Member) (w : World) where
-  idle-turn : (b : List ℕ) → w .books p ≡ b → withTurn w p (idle b) ≡ w
+  pub idle-turn : (b : List ℕ) → w .books p ≡ b → withTurn w p (idle b) ≡ w
   idle-turn b e =
       let books : at p b (w .books) ≡ w .books = ap (λ (c : List ℕ). at p c (w .books)) (sym e) ∙ upd-itself p (w .books) in
       let none : (λ (g : Identifier). w .sent p g ++ []) ≡ w .sent p = fun-ext (λ g. append-nil (w .sent p g)) in
@@ -59,13 +59,13 @@ module _ (p : Member) (w : World) where
   books-turn : (m : Turn) (new : List ℕ → List ℕ) → at p (new (at p (m .book) (w .books) p)) (at p (m .book) (w .books)) ≡ at p (new (m .book)) (w .books)
   books-turn m new = upd-again p (m .book) _ (w .books) ∙ ap (λ (b : List ℕ). at p (new b) (w .books)) (upd-here p (m .book) (w .books))
 
-  called-turn : (m : Turn) (r : Result Done) (new : List ℕ) → called (withTurn w p m) p r new ≡ withTurn w p (calledIn m r new)
+  pub called-turn : (m : Turn) (r : Result Done) (new : List ℕ) → called (withTurn w p m) p r new ≡ withTurn w p (calledIn m r new)
   called-turn m r new = same-world w (books-turn m (left (verdictOf r) new)) refl
 
   delivered-turn : (m : Turn) (s : List ℕ) (q : Member) → rebooked (withTurn w p m) p (after (packet s q) (at p (m .book) (w .books) p)) ≡ withTurn w p (deliveredIn m s q)
   delivered-turn m s q = same-world w (books-turn m (after (packet s q))) refl
 
-  passed-turn : (m : Turn) (r : Result Passing) → passed (withTurn w p m) p r ≡ withTurn w p (passedIn m r)
+  pub passed-turn : (m : Turn) (r : Result Passing) → passed (withTurn w p m) p r ≡ withTurn w p (passedIn m r)
   passed-turn m (refused f) = refl
   passed-turn m (accepted x) =
       let g = idOf (x .to) in
