@@ -19,7 +19,7 @@
 //   auto registered = book.register_view();                                   // last: when all have attempted the view and brought what they held
 //   if (auto event = book.safe()) keep(event->sender, event->entry);          // every office of the view has it: final if all register last
 //   while (packet.pass(book)) {}                                              // a dvs::PacketWriter: what is to go over the line
-//   my_disk.save_and_sync(book.bytes(), my_copy, events);                     // then publish the events
+//   my_disk.save_and_sync(book.save(), my_copy, events);                      // then publish the events
 //   my_carrier.post(packet.bytes());                                          // and after them post the messages
 //
 // Being in a primary view is no licence: two groups of offices may hand out entries at the same time. dvs.h lists above dvs_start what the host has to
@@ -27,6 +27,7 @@
 #ifndef DVS_HPP
 #define DVS_HPP
 
+#include "dvs_saved.hpp"
 #include "dvs_types.hpp"
 
 #include <array>
@@ -179,6 +180,8 @@ class BookReader {
   constexpr explicit BookReader(Bytes book) noexcept : book_(book) {}
   template <class Owner, class = detail::Temporary<Owner>>
   explicit BookReader(Owner &&) = delete;
+  // A saved book has an envelope around the book, so its places are others: unwrap gives the book.
+  explicit BookReader(const SavedBook &) = delete;
 
   constexpr std::uint32_t members() const noexcept { return detail::byte(book_, DVS_BOOK_MEMBERS); }
   constexpr Member own() const noexcept { return static_cast<Member>(detail::byte(book_, DVS_BOOK_SELF)); }
@@ -216,8 +219,6 @@ class BookReader {
   Bytes book_;
 };
 
-using BookBytes = std::array<std::uint8_t, DVS_BOOK_SIZE>;
-
 // One office's part, over a carrier of the host's own. A book must never go back: once anything has left, only what was saved last may be loaded again, by
 // this office alone. So a book is not copied; moving takes it away, and what it is taken from is not a book (Refusal::records_unsound).
 class Book {
@@ -234,15 +235,15 @@ class Book {
   }
   ~Book() = default;
 
-  // The bytes to keep: on disk once a turn, before a message or an event of the turn leaves this office.
-  BookBytes save() const noexcept { return bytes_; }
-  // The bytes that were saved last. Refused, and nothing done, where they are no sound book; whether they are the last, nobody can tell from them.
-  // An office that comes back joins a view before any other call.
-  Result<void> load(Bytes saved) noexcept {
-    const Refusal refusal = refused(dvs_check(saved.data(), saved.size()));
-    if (refusal != Refusal::none) return refusal;
-    for (std::size_t i = 0; i < bytes_.size(); ++i) bytes_[i] = saved[i];
-    return {};
+  // Gives the bytes to keep on disk: the book in its envelope (dvs_saved.hpp). A host saves once a turn, before a message or an event of the turn leaves
+  // this office. A book that was not started is saved too, and load refuses it.
+  SavedBook save() const noexcept { return wrap(bytes_); }
+  // Takes the bytes that save gave last. Other bytes are a fault, and the book stays as it was: text(loaded.fault()) says in words why, and what to do.
+  // That they are the last ones, nobody can tell from them. Afterwards this office joins a view before any other call.
+  Loaded load(Bytes saved) noexcept {
+    const Unwrapped unwrapped = unwrap(saved);
+    for (std::size_t i = 0; i < unwrapped.book().size(); ++i) bytes_[i] = unwrapped.book()[i];
+    return unwrapped;
   }
   // Whether this is a sound book, which every call takes: a new one is not before its start.
   Result<void> check() const noexcept { return refused(dvs_check(bytes_.data(), bytes_.size())); }

@@ -29,7 +29,12 @@ inline dvs::Result<dvs::Event> attempt(dvs::Book &book) {
   const std::optional<dvs::View> passing = first_passing(book.look(), book.look().carrier()->set);
   if (!passing) return answer;
 
-  const dvs::BookBytes before = book.save();
+  const auto bytes_of = [](const dvs::Book &from) {
+    dvs::BookBytes bytes;
+    std::copy(from.bytes().begin(), from.bytes().end(), bytes.begin());
+    return bytes;
+  };
+  const dvs::BookBytes before = bytes_of(book);
   const dvs::ViewList open = book.look().open();
   const auto copy = [&before](std::size_t at, std::size_t end, dvs::BookBytes &to, std::size_t place) {
     std::copy(before.data() + at, before.data() + end, to.data() + place);
@@ -38,13 +43,13 @@ inline dvs::Result<dvs::Event> attempt(dvs::Book &book) {
   for (std::size_t i = 0; i < open.size(); ++i)
     if (open[i] == *passing) copy(kOpen + DVS_VIEW_SIZE * i, kOpen + DVS_VIEW_SIZE * (i + 1), bytes, kSettled);
   bytes[kOpenCount] = 0;
-  if (auto loaded = book.load(bytes); !loaded) return loaded.refusal();
+  if (!book.load(dvs::wrap(bytes))) return dvs::Refusal::records_unsound;
   const dvs::Result<dvs::Event> event = book.attempt();
-  bytes = book.save();
+  bytes = bytes_of(book);
   copy(kSettled, kSettled + DVS_VIEW_SIZE, bytes, kSettled);
   copy(kOpenCount, kOpenEnd, bytes, kOpenCount);
   copy(kCarrier, kCarrier + DVS_VIEW_SIZE, bytes, kOpen + DVS_VIEW_SIZE * bytes[kOpenCount]++);
-  if (auto loaded = book.load(bytes); !loaded) return loaded.refusal();
+  if (!book.load(dvs::wrap(bytes))) return dvs::Refusal::records_unsound;
   return event;
 }
 

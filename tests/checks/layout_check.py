@@ -1,5 +1,7 @@
 #!/usr/bin/env python3
-"""layout_check.py: holds the offsets and lengths of docs/LAYOUT.md to the Rattle sources. It prints each difference and exits with 1 where there is one."""
+"""layout_check.py: holds the offsets and lengths of docs/LAYOUT.md to the Rattle sources, and its section on a saved book to include/dvs_saved.hpp.
+
+It prints each difference and exits with 1 where there is one."""
 import re
 import sys
 
@@ -23,6 +25,16 @@ def behind(apart, place):
     return '%di' % apart + (' + %d' % place if place else '')
 
 
+def saved_places(text):
+    """The places of a saved book, by the constants of the C++ header, and its length."""
+    known = {}
+    for name, value in re.findall(r'constexpr std::size_t kSaved(\w+) = ([^;]+);', text):
+        known[name] = eval(value.replace('DVS_BOOK_SIZE', str(book['SIZE'])).replace('kSaved', ''), {}, known)
+    return known
+
+
+saved_header = (ROOT / 'include' / 'dvs_saved.hpp').read_text()
+saved = saved_places(saved_header)
 front = 1 + identifier + 1
 order, waiting = (group['TABLE'], 'i'), (group['WAITING'], 'p')
 waits = group['HEAD'] + group['ORDER']
@@ -37,6 +49,7 @@ wanted = {
     + [book[name] for name in ('REGISTERED', 'HANDED', 'TOLD', 'REPORTED', 'TAKEN', 'INFOS', 'REGISTRATIONS')]
     + [at(book['TOLDS'], (1, 'q')), book['SIDE'], book['OPENS'], at(book['OPENS'] + 1, (view, 'i')), book['OUTGOING']]
     + [at(book['OUTGOING'] + 1, (slot['SLOT'], 'i')), book['INWARD'], book['INWARD'] + book['APART']],
+    'A saved book': [saved[name] for name in ('Magic', 'Layout', 'Length', 'Book', 'Checksum')],
     'The list': [behind(view, 0), behind(view, identifier)],
     'The queues': [group['MADE'], 1, at(group['HEAD'], order), at(waits, order, waiting)]
     + [at(waits + 1, order, waiting, (slot['SLOT'], 'k'))],
@@ -51,6 +64,7 @@ lengths = {
     'An inward list': inward['SIZE'],
     'An order': line['SIZE'],
     "A member's book": book['SIZE'],
+    'A saved book': saved['Size'],
     'The books': group['BOOKS'],
     'An event': event['EVENT'],
     'A number that a call gives out': event['LENGTH'],
@@ -68,5 +82,17 @@ for title, length in lengths.items():
         faults.append("docs/LAYOUT.md, '%s', does not begin with its length, %s bytes" % (title, '{:,}'.format(length)))
 if '{} + {:,} × '.format(group['HEAD'], group['TABLE']) not in sections.get('The queues', ''):
     faults.append("docs/LAYOUT.md, 'The queues', has another length than %d + %d for each view" % (group['HEAD'], group['TABLE']))
+# of a saved book also the sizes, the mark and the order of the faults
+kept = sections.get('A saved book', '')
+ends = wanted['A saved book'][1:] + [saved['Size']]
+sizes_wanted = [end - place for place, end in zip(wanted['A saved book'], ends)]
+mark = list(int(re.search(r'kMagic = 0x(\w+)u;', saved_header).group(1), 16).to_bytes(4, 'big'))
+reasons = re.findall(r'^  (\w+) = [1-9]\d*,', saved_header, re.M)
+for what, written, given in (
+        ('sizes', [int(size) for size in re.findall(r'^\| \d+ \| (\d+) \|', kept, re.M)], sizes_wanted),
+        ('mark', [int(byte) for byte in re.findall(r'the bytes ([\d, ]+)', kept)[0].split(', ')] if 'the bytes ' in kept else [], mark),
+        ('faults', re.findall(r'^\d\. `(\w+)`', kept, re.M), reasons)):
+    if written != given:
+        faults.append("docs/LAYOUT.md, 'A saved book', has the %s %s, include/dvs_saved.hpp %s" % (what, written, given))
 print(*faults or ['docs/LAYOUT.md agrees with the sources: %d offsets' % sum(map(len, wanted.values()))], sep='\n')
 sys.exit(1 if faults else 0)

@@ -39,21 +39,26 @@ void views(const dvs::Book &book, dvs::PacketWriter &writer) {
   for (const dvs::Message &message : dvs::messages_in(packet)) use(message);
   for (const dvs::Message &message : dvs::messages_in(receive())) use(message);  // refused: deleted
 
-  const dvs::BookBytes saved = book.save();
-  use(dvs::BookReader(saved), dvs::BookReader(book.bytes()), book.look());
+  const dvs::SavedBook saved = book.save();
+  const dvs::Unwrapped unwrapped = dvs::unwrap(saved);
+  use(dvs::BookReader(unwrapped.book()), dvs::BookReader(book.bytes()), book.look(), dvs::unwrap(packet), dvs::unwrap(std::string_view()));
   use(dvs::BookReader(book.save()));  // refused: deleted
+  use(dvs::BookReader(saved));  // refused: deleted
+  use(dvs::unwrap(book.save()));  // refused: deleted
+  use(dvs::unwrap(receive_text()));  // refused: deleted
 
   use(dvs::rest_of(packet, dvs::Delivery{}), dvs::rest_of(writer.bytes(), dvs::Delivery{}));
   use(dvs::rest_of(receive(), dvs::Delivery{}));  // refused: deleted
 
 #ifdef __cpp_lib_span
-  use(dvs::messages_in(std::span<const std::uint8_t>(array)), dvs::messages_in(std::span(packet)), dvs::BookReader(std::span(saved)));
+  use(dvs::messages_in(std::span<const std::uint8_t>(array)), dvs::messages_in(std::span(packet)), dvs::unwrap(std::span(saved)));
 #endif
 }
 
 // What is only read while a call lasts may be a temporary.
 void calls(dvs::Book &book) {
   use(dvs::read(receive()), dvs::read_front(receive_text()), book.load(receive()), book.deliver(receive_array(), dvs::Member{0}));
+  use(book.load(dvs::Book().save()), book.load(dvs::wrap(dvs::BookBytes{})));
 }
 
 // A buffer to write to that is gone when the statement is over, or that is not to be written to.
@@ -85,6 +90,13 @@ void packets(dvs::Book &book, dvs::Bytes bytes, dvs::Member sender) {
   if (taken && !taken->whole()) use(dvs::rest_of(bytes, *taken));
 }
 
+// What became of a saved book is looked at.
+void loads(dvs::Book &book, dvs::Bytes bytes) {
+  if (const auto loaded = book.load(bytes); !loaded) use(text(loaded.fault()), loaded.layout());
+  book.load(bytes);  // refused: nodiscard|unused-result
+  dvs::unwrap(bytes);  // refused: nodiscard|unused-result
+}
+
 // The null character of a literal is no byte of a message.
 void literals(dvs::Book &book, dvs::Member sender) {
   char buffer[7] = {};
@@ -94,4 +106,4 @@ void literals(dvs::Book &book, dvs::Member sender) {
 
 }  // namespace
 
-int main() { use(views, calls, buffers, packets, literals); }
+int main() { use(views, calls, buffers, packets, loads, literals); }

@@ -94,6 +94,8 @@ for compiler in g++ clang++; do
     flags=(-std=c++"$standard" -O1 -g "${warnings[@]}" "${cflags[@]}" -fsanitize=address,undefined -fno-sanitize-recover=all)
     "$compiler" "${flags[@]}" -fno-exceptions -fno-rtti -o "$work/wrapper" tests/wrapper/wrapper.cpp "${libs[@]}"
     "$work/wrapper" > "$work/out"
+    "$compiler" "${flags[@]}" -fno-exceptions -fno-rtti -o "$work/saved" tests/wrapper/saved.cpp "${libs[@]}"
+    "$work/saved" >> "$work/out"
     "$compiler" "${flags[@]}" -o "$work/first" examples/first/first.cpp "${libs[@]}"
     "$work/first" | diff examples/first/expected.txt -
     "$compiler" "${flags[@]}" -o "$work/offices" examples/offices/*.cpp "${libs[@]}"
