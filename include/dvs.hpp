@@ -27,6 +27,7 @@
 #ifndef DVS_HPP
 #define DVS_HPP
 
+#include "dvs_lines.hpp"
 #include "dvs_saved.hpp"
 #include "dvs_types.hpp"
 

@@ -1,8 +1,8 @@
 // dvs_saved.hpp: a saved book, the form in which a host keeps a book on disk. dvs.hpp includes it: Book::save writes this form, and Book::load reads it.
 //
 // A saved book is the book's bytes in an envelope: a mark, the number of the layout, the length, the bytes, and a checksum over all of it. docs/LAYOUT.md,
-// 'A saved book', has the table; a program in C may write and read the same form by it. The checks find every change of up to three bits, and every change
-// within 32 bits in a row. Of other accidental changes they miss one in about four billion. Nothing in a saved book can tell whether it is the last one.
+// 'A saved book', has the table; a program in C may write and read the same form by it. Load refuses every change of up to three bits. Of larger accidental
+// changes it misses about one in four billion. Nothing in a saved book can tell whether it is the last one.
 #ifndef DVS_SAVED_HPP
 #define DVS_SAVED_HPP
 

@@ -39,7 +39,7 @@ for compilers in "gcc g++" "clang clang++"; do
   done
   for version in c++17 c++20; do
     use "$cxx" c++ $version
-    for header in dvs_layout.h dvs_refusals.h dvs.h dvs_refusals.hpp dvs_types.hpp dvs_saved.hpp dvs.hpp; do try "$cxx" c++ $version $header; done
+    for header in dvs_layout.h dvs_refusals.h dvs.h dvs_refusals.hpp dvs_types.hpp dvs_lines.hpp dvs_saved.hpp dvs.hpp; do try "$cxx" c++ $version $header; done
   done
 done
 echo "$count compilations"

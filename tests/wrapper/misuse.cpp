@@ -90,6 +90,14 @@ void packets(dvs::Book &book, dvs::Bytes bytes, dvs::Member sender) {
   if (taken && !taken->whole()) use(dvs::rest_of(bytes, *taken));
 }
 
+// The letters of a line are in the line.
+void lines(const dvs::Event &event) {
+  const dvs::Line named = dvs::line(event);
+  use(named.text(), named.c_str(), dvs::line(event) == named);
+  use(dvs::line(event).text());  // refused: deleted
+  use(dvs::line(event).c_str());  // refused: deleted
+}
+
 // What became of a saved book is looked at.
 void loads(dvs::Book &book, dvs::Bytes bytes) {
   if (const auto loaded = book.load(bytes); !loaded) use(text(loaded.fault()), loaded.layout());
@@ -106,4 +114,4 @@ void literals(dvs::Book &book, dvs::Member sender) {
 
 }  // namespace
 
-int main() { use(views, calls, buffers, packets, loads, literals); }
+int main() { use(views, calls, buffers, packets, lines, loads, literals); }

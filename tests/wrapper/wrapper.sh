@@ -88,6 +88,9 @@ aborts() { # compiler and flags
   done
 }
 
+# Scripts of the bench without an unreadable line: together they have every word of its replies.
+scripts=(tests/scripts/{readme-session,trap-safe-in-every-hand,split-and-merge,views-pass-and-fail})
+
 for compiler in g++ clang++; do
   command -v "$compiler" > /dev/null || continue
   for standard in 17 20; do
@@ -96,6 +99,8 @@ for compiler in g++ clang++; do
     "$work/wrapper" > "$work/out"
     "$compiler" "${flags[@]}" -fno-exceptions -fno-rtti -o "$work/saved" tests/wrapper/saved.cpp "${libs[@]}"
     "$work/saved" >> "$work/out"
+    "$compiler" "${flags[@]}" -fno-exceptions -fno-rtti -o "$work/lines" tests/wrapper/lines.cpp "${libs[@]}"
+    "$work/lines" "${scripts[@]}" >> "$work/out"
     "$compiler" "${flags[@]}" -o "$work/first" examples/first/first.cpp "${libs[@]}"
     "$work/first" | diff examples/first/expected.txt -
     "$compiler" "${flags[@]}" -o "$work/offices" examples/offices/*.cpp "${libs[@]}"
