@@ -44,19 +44,26 @@ target/staticlib/libdvs.a: $(SOURCES)
 target/unproved/libdvs.a: $(SOURCES)
 	.ci/unproved dvs
 
-# The library, its headers, what is written for its hosts, and its files for pkg-config and CMake, to PREFIX; DESTDIR goes before it, for those who make
-# a package. The version stands here alone; tests/checks/header_check.py holds the header and the library to it.
+# For operators: dvs-show BOOK says what a book holds and whom it waits for. It is linked with the library, so its verdicts are the library's own.
+.PHONY: show
+show: $(BUILT)/dvs-show
+$(BUILT)/dvs-show: tools/dvs-show.cpp $(HEADERS) $(LIBRARY)
+	$(CXX) $(HOSTFLAGS) -o $@ $< $(LIBRARY)
+
+# The library, its headers, dvs-show, what is written for its hosts, and its files for pkg-config and CMake, to PREFIX; DESTDIR goes before it, for those who
+# make a package. The version stands here alone; tests/checks/header_check.py holds the header and the library to it.
 .PHONY: install
 PREFIX ?= /usr/local
 VERSION := 0.5.0
 HOST_DOCUMENTS := $(wildcard $(addprefix docs/,HOST.md LAYOUT.md REFUSALS.md SPEC.md))
 CMAKE_FILES := dvsConfig.cmake dvsConfigVersion.cmake
-install: $(LIBRARY)
+install: $(LIBRARY) $(BUILT)/dvs-show
 	mkdir -p target/package
 	for file in dvs.pc $(CMAKE_FILES); do \
 	    sed -e 's|@PREFIX@|$(PREFIX)|' -e 's|@VERSION@|$(VERSION)|' include/$$file.in > target/package/$$file || exit 1; \
 	done
-	install -d $(addprefix $(DESTDIR)$(PREFIX)/,include lib/pkgconfig lib/cmake/dvs share/doc/dvs)
+	install -d $(addprefix $(DESTDIR)$(PREFIX)/,bin include lib/pkgconfig lib/cmake/dvs share/doc/dvs)
+	install -m 755 $(BUILT)/dvs-show $(DESTDIR)$(PREFIX)/bin
 	install -m 644 $(HEADERS) $(DESTDIR)$(PREFIX)/include
 	install -m 644 $(LIBRARY) $(DESTDIR)$(PREFIX)/lib
 	install -m 644 target/package/dvs.pc $(DESTDIR)$(PREFIX)/lib/pkgconfig

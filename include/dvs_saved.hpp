@@ -49,7 +49,7 @@ constexpr const char *text(SavedFault fault) noexcept {
     case SavedFault::wrong_length: return "a saved book that was cut or has bytes after its end: bring back a whole copy of the same save, never an older one";
     case SavedFault::damaged: return "a saved book that was damaged after it was saved: bring back a good copy of the same save, never an older one";
     case SavedFault::other_layout: return "a saved book of another layout: load it with the library that wrote it";
-    case SavedFault::unsound: return "a saved book that is whole but not sound: it was saved before its start, or changed before it was saved";
+    case SavedFault::unsound: return "a saved book that is whole but not sound: its host saved it before its start or changed its bytes, so correct the host";
   }
   return "no fault of a saved book";
 }

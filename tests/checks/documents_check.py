@@ -1,7 +1,7 @@
 #!/usr/bin/env python3
 """documents_check.py: whether the documents name files that are there, docs/TRUST.md counts their lines right, docs/DECISIONS.md names every
-public function that asks something of its callers, docs/WRONG_ANSWERS.md names edits that are there and two wrong programs of every exported function, and
-README.md shows the stored session of the bench and the stored example.
+public function that asks something of its callers, docs/WRONG_ANSWERS.md names edits that are there and two wrong programs of every exported function,
+README.md shows the stored session of the bench and the stored example, and docs/HOST.md what dvs-show says.
 
     python3 tests/checks/documents_check.py          says what is wrong, and exits with 1 where something is
     python3 tests/checks/documents_check.py write    puts the right counts into docs/TRUST.md"""
@@ -44,7 +44,7 @@ for document in DOCUMENTS:
     for link in re.findall(r'\]\(([^)#]+)\)', document.read_text()):
         if not link.startswith('http') and not (document.parent / link).exists():
             faults.append('%s links to %s, which is not there' % (document.relative_to(ROOT), link))
-    for name in re.findall(r'`((?:crates|tests|examples|include|docs)/[\w./-]+\.\w+)`', document.read_text()):
+    for name in re.findall(r'`((?:crates|tests|examples|tools|include|docs)/[\w./-]+\.\w+)`', document.read_text()):
         if not (ROOT / name).exists():
             faults.append('%s names %s, which is not there' % (document.relative_to(ROOT), name))
 
@@ -107,9 +107,9 @@ used = [name for row in rows.values() for name in row]
 faults.extend('docs/WRONG_ANSWERS.md gives %s to two functions' % name for name in sorted(set(used)) if used.count(name) > 1)
 
 
-def shown(heading):
-    """The indented lines of a section of README.md."""
-    section = (ROOT / 'README.md').read_text().split('\n## %s\n' % heading)[1].split('\n## ')[0]
+def shown(heading, document='README.md'):
+    """The indented lines of a section of a document."""
+    section = (ROOT / document).read_text().split('\n## %s\n' % heading)[1].split('\n## ')[0]
     return [line[4:] for line in section.split('\n') if line.startswith('    ')]
 
 
@@ -125,6 +125,10 @@ session = [(line[:18].rstrip(), line[18:38].rstrip()) for line in shown('A sessi
 typed, answers = stored('tests/scripts/readme-session.txt'), [''] + stored('tests/scripts/readme-session.out')
 if len(typed) != len(answers) or session != list(zip(typed, answers)):
     faults.append('README.md shows another session than tests/scripts/readme-session')
+sample = shown("An operator's view", 'docs/HOST.md')
+said = (ROOT / 'tests' / 'show' / 'expected.txt').read_text().split('--- dvs-show ')
+if not sample or sample not in [[line for line in book.splitlines() if line in sample] for book in said]:
+    faults.append('docs/HOST.md shows what dvs-show does not say, by tests/show/expected.txt')
 example = [line for line in stored('examples/first/first.cpp') if line and not line.startswith('//')]
 if example != [line for line in shown('How to link it') if line in example]:
     faults.append('README.md shows another example than examples/first/first.cpp')

@@ -1,7 +1,8 @@
 #!/usr/bin/env bash
 # Installs the library to a folder of its own and links against it by pkg-config alone: the wrapper's cases, the first example and the offices, with
 # every compiler here, in C++17 and C++20, with all warnings and sanitizers; the C header in a C99 program; the archive in a shared object; and the first
-# example by CMake, where it is here. What must not compile, and what must end a program, is tried too.
+# example by CMake, where it is here. What must not compile, and what must end a program, is tried too. So is dvs-show, as it is installed and as every
+# compiler makes it.
 set -euo pipefail
 cd "$(dirname "${BASH_SOURCE[0]}")/../.."
 work=$(mktemp -d)
@@ -88,6 +89,14 @@ aborts() { # compiler and flags
   done
 }
 
+# dvs-show, which is a program in C++17, as this compiler makes it and as it is installed.
+shows() { # compiler and flags
+  "$@" -o "$work/situations" tests/show/situations.cpp "${libs[@]}"
+  "$@" -o "$work/dvs-show" tools/dvs-show.cpp "${libs[@]}"
+  local program
+  for program in "$work/dvs-show" "$work/root/opt/dvs/bin/dvs-show"; do tests/show/run.sh "$work/situations" "$program"; done
+}
+
 # Scripts of the bench without an unreadable line: together they have every word of its replies.
 scripts=(tests/scripts/{readme-session,trap-safe-in-every-hand,split-and-merge,views-pass-and-fail})
 
@@ -101,6 +110,7 @@ for compiler in g++ clang++; do
     "$work/saved" >> "$work/out"
     "$compiler" "${flags[@]}" -fno-exceptions -fno-rtti -o "$work/lines" tests/wrapper/lines.cpp "${libs[@]}"
     "$work/lines" "${scripts[@]}" >> "$work/out"
+    [ "$standard" != 17 ] || shows "$compiler" "${flags[@]}"
     "$compiler" "${flags[@]}" -o "$work/first" examples/first/first.cpp "${libs[@]}"
     "$work/first" | diff examples/first/expected.txt -
     "$compiler" "${flags[@]}" -o "$work/offices" examples/offices/*.cpp "${libs[@]}"
