@@ -1,12 +1,16 @@
 #!/usr/bin/env python3
-"""layout_check.py: holds the offsets and lengths of docs/LAYOUT.md to the Rattle sources, and its section on a saved book to include/dvs_saved.hpp.
+"""layout_check.py: holds the offsets and lengths of docs/LAYOUT.md to the Rattle sources, its section on a saved book to include/dvs_saved.hpp, and the
+number of the layout to the places that it stands for.
 
 It prints each difference and exits with 1 where there is one."""
+import hashlib
 import re
 import sys
 
 from sources import ROOT, constants
 
+# the layout's number, and a digest of the places that it stands for: a book or a group with other places has another number
+NUMBER, DIGEST = 1, '2ba6cef5aea0d36d'
 LAYOUT = (ROOT / 'docs' / 'LAYOUT.md').read_text()
 book, slot, group = constants('book_bytes/src/lib.rt'), constants('slots/src/lib.rt'), constants('group_bytes/src/lib.rt')
 inward, line = constants('slots/src/inward.rt'), constants('slots/src/order.rt')
@@ -94,5 +98,10 @@ for what, written, given in (
         ('faults', re.findall(r'^\d\. `(\w+)`', kept, re.M), reasons)):
     if written != given:
         faults.append("docs/LAYOUT.md, 'A saved book', has the %s %s, include/dvs_saved.hpp %s" % (what, written, given))
+lent = ('A queue entry', 'An inward list', 'An order', "A member's book", 'The list', 'The queues')
+digest = hashlib.sha256(repr([(title, wanted[title], lengths.get(title)) for title in lent]).encode()).hexdigest()[:16]
+if digest != DIGEST or not re.search(r'^This is layout %d,' % NUMBER, LAYOUT, re.M):
+    faults.append('these are not the places of layout %d: raise DVS_LAYOUT, its number in docs/LAYOUT.md and the minor version; here it is %d, with the digest '
+                  '%s' % (NUMBER, NUMBER + 1, digest))
 print(*faults or ['docs/LAYOUT.md agrees with the sources: %d offsets' % sum(map(len, wanted.values()))], sep='\n')
 sys.exit(1 if faults else 0)
