@@ -3,7 +3,7 @@
 //     dvs-show BOOK...
 //
 // A BOOK is a file with a saved book (docs/LAYOUT.md), or with the bytes of a book alone, as a host in C may keep them. It is only read. Whether a call would
-// be accepted is the library's own answer: each call is made on a copy of the book. It exits with 1 if a file is not a book, and with 2 without a file.
+// be accepted is the library's own answer: each call is made on a copy of the book. It exits with 1 if a file is not a book, and with 2 if no file is named.
 #include <dvs.hpp>
 
 #include <algorithm>
@@ -153,8 +153,9 @@ bool show(const char *name) {
 }  // namespace
 
 int main(int count, char **names) {
-  if (count < 2) {
-    std::fputs("usage: dvs-show BOOK...\n", stderr);
+  if (count < 2 || names[1][0] == '-') {
+    std::fputs("usage: dvs-show BOOK...\n"
+               "says what a book holds and what its member waits for; a BOOK is a file with a saved book, and is only read\n", stderr);
     return 2;
   }
   bool fine = true;

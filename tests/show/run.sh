@@ -23,6 +23,7 @@ show() { # program, books
     show "$2" "$book"
   done
   show "$2"
+  show "$2" --help
   show "$2" missing raw
 } > ../said
 diff "$expected" ../said

@@ -144,7 +144,7 @@ void changes() {
   Buffer longer(saved.begin(), saved.end());
   longer.push_back(0);
   EXPECT(refuser.refuses(longer, SavedFault::wrong_length));
-  // A length that no range has, whatever the width of a size: 16 more than it is 4 GB and 0 more.
+  // Other lengths, among them those to which 16 more is 0 or 15 in a number of 32 bits.
   for (std::uint32_t length : {0xFFFFFFFFu, 0xFFFFFFF0u, 0u, 5233u, 5235u}) {
     Buffer other;
     number(other, length);
