@@ -1,11 +1,11 @@
 // dvs.hpp: dvs.h in today's C++, from C++17 on.
 //
-// Header only, over the same library. Nothing here is thrown or allocated. A call gives a Result: a value, or the Refusal that stands in its place;
-// after a refusal every byte is as it was. Ranges are std::spans where the library of C++20 has them, and a small type of the same use before that; the
-// two are different types in namespaces of their own, so parts of a program that pass them to each other are compiled under one standard. A buffer of
-// char or std::byte is taken where a range is. What keeps a range does not take a temporary that owns its bytes: it would outlive them.
+// Header only, over the same library. Nothing here throws or allocates. A call gives a Result: a value, or the Refusal in its place. After a refusal every
+// byte is as it was. A range is a std::span if the library of C++20 has it, and otherwise a small type with the same use. The two are different types in
+// namespaces of their own, so parts of a program that pass them to each other are compiled under one standard. A buffer of char or std::byte may be given
+// as a range. A class that keeps a range does not take a temporary that owns its bytes, because the class would outlive them.
 //
-//   dvs::Book book;                                                           // one office's part: 5,234 bytes, held by value
+//   dvs::Book book;                                                           // one member's part: 5,234 bytes, held by value
 //   auto started = book.start(5, dvs::Set::below(5), dvs::Member{2});         // member 2 of 5, all in the first view
 //   if (!started) log(dvs::text(started.refusal()));
 //
@@ -14,16 +14,16 @@
 //   auto joined = book.join({dvs::Identifier{1}, dvs::Set{0b111}});           // the carrier gave a view
 //   auto taken = book.deliver(bytes, dvs::Member{0});                         // what came over the line, own messages too, in the view's order
 //   auto some = book.deliver_packet(bytes, dvs::Member{0});                   // several messages: some->whole(), or some->delivered and some->stopped
-//   if (auto event = book.attempt()) work_in(event->view, event->set);        // the view is now this office's primary one
+//   if (auto event = book.attempt()) work_in(event->view, event->set);        // the view is now this member's primary one
 //   if (auto event = book.hand()) take(event->sender, event->entry);          // to be withdrawn if it never becomes safe
 //   auto registered = book.register_view();                                   // last: when all have attempted the view and brought what they held
-//   if (auto event = book.safe()) keep(event->sender, event->entry);          // every office of the view has it: final if all register last
+//   if (auto event = book.safe()) keep(event->sender, event->entry);          // every member of the view has it: final if all register last
 //   while (packet.pass(book)) {}                                              // a dvs::PacketWriter: what is to go over the line
 //   my_disk.save_and_sync(book.save(), my_copy, events);                      // then publish the events
 //   my_carrier.post(packet.bytes());                                          // and after them post the messages
 //
-// Being in a primary view is no licence: two groups of offices may hand out entries at the same time. dvs.h lists above dvs_start what the host has to
-// see to, and docs/HOST.md says it in full.
+// Being in a primary view is no licence: two groups of members may hand out entries at the same time. dvs.h has the host's duties in short, above
+// dvs_start, and docs/HOST.md has them in full.
 #ifndef DVS_HPP
 #define DVS_HPP
 
@@ -208,8 +208,8 @@ class BookReader {
     for (std::size_t i = 0; i < count && i < DVS_OPEN; ++i) views.push_back(detail::view(book_, DVS_BOOK_OPENS + 1 + DVS_VIEW_SIZE * i));
     return views;
   }
-  // Whether the view that the carrier gave last is the one that the member attempted last: without it this office is in no primary view now. It is no
-  // licence: another group of offices may be in a primary view of its own at the same time, and may go on without this one.
+  // Whether the view that the carrier gave last is the one that the member attempted last. If not, this member is in no primary view now. If so, it is no
+  // licence: another group of members may be in a primary view of its own at the same time, and may go on without this one.
   constexpr bool in_primary() const noexcept { return carrier() && client() && carrier()->identifier == client()->identifier; }
 
  private:
@@ -220,8 +220,8 @@ class BookReader {
   Bytes book_;
 };
 
-// One office's part, over a carrier of the host's own. A book must never go back: once anything has left, only what was saved last may be loaded again, by
-// this office alone. So a book is not copied; moving takes it away, and what it is taken from is not a book (Refusal::records_unsound).
+// One member's part, over a carrier of the host's own. A book must never go back: once anything has left, only what was saved last may be loaded again, and
+// only by this member. So a book is not copied. Moving takes it away, and the object that it was moved from is not a book (Refusal::records_unsound).
 class Book {
  public:
   Book() noexcept = default;
@@ -236,11 +236,11 @@ class Book {
   }
   ~Book() = default;
 
-  // Gives the bytes to keep on disk: the book in its envelope (dvs_saved.hpp). A host saves once a turn, before a message or an event of the turn leaves
-  // this office. A book that was not started is saved too, and load refuses it.
+  // Gives the bytes to keep on disk: the book in its envelope (dvs_saved.hpp). A host saves once a turn, before a message or an event of the turn leaves it.
+  // A book that was not started is saved too, and load refuses it.
   SavedBook save() const noexcept { return wrap(bytes_); }
   // Takes the bytes that save gave last. Other bytes are a fault, and the book stays as it was: text(loaded.fault()) says in words why, and what to do.
-  // That they are the last ones, nobody can tell from them. Afterwards this office joins a view before any other call.
+  // Nobody can tell from them whether they are the last ones. Afterwards this member joins a view before any other call.
   Loaded load(Bytes saved) noexcept {
     const Unwrapped unwrapped = unwrap(saved);
     for (std::size_t i = 0; i < unwrapped.book().size(); ++i) bytes_[i] = unwrapped.book()[i];
@@ -270,7 +270,7 @@ class Book {
     if (refusal != Refusal::none) return refusal;
     return static_cast<std::size_t>(detail::get(length, 0, length.size()));
   }
-  // The next message of the carrier view's order, from its first on, this office's own too. Refusal::another_view has two causes: a
+  // The next message of the carrier view's order, from its first on, this member's own too. Refusal::another_view has two causes: a
   // message of a view below the carrier view is late, and is dropped; one of a view above it came before the join, and is kept in order until then. So is
   // a message that is refused with Refusal::no_carrier_view.
   Result<void> deliver(Bytes message, Member sender) noexcept {
@@ -286,11 +286,11 @@ class Book {
     if (refusal != Refusal::none) return refusal;
     return Delivery::from(delivery);
   }
-  // The carrier view becomes the client view, this office's primary one. Refusal::test_failed: it is not to be one.
+  // The carrier view becomes the client view, this member's primary one. Refusal::test_failed: it must not be one.
   Result<Event> attempt() noexcept {
     return with_event([this](std::uint8_t *event) { return dvs_attempt(data(), size(), event, DVS_EVENT_SIZE); });
   }
-  // The client registers in the client view (C++ keeps the word `register` for itself): last, when every office of the view has attempted it and this
+  // The client registers in the client view (C++ keeps the word `register` for itself): last, when every member of the view has attempted it and this
   // one has taken over all that each of them held then.
   Result<Event> register_view() noexcept {
     return with_event([this](std::uint8_t *event) { return dvs_register(data(), size(), event, DVS_EVENT_SIZE); });
@@ -305,7 +305,7 @@ class Book {
   }
   // The others are told how many entries the client has. Those are on disk with the book before the message leaves.
   Result<void> tell() noexcept { return refused(dvs_tell(data(), size())); }
-  // The next entry that is safe: it was in the hands of every office of the view, and is final if every office registers last.
+  // The next entry that is safe: every member of the view had it, and it is final if every member registers last.
   Result<Event> safe() noexcept {
     return with_event([this](std::uint8_t *event) { return dvs_safe(data(), size(), event, DVS_EVENT_SIZE); });
   }
@@ -403,7 +403,7 @@ class Group {
                                                 steps.data(), steps.size(), answers.data(), answers.size()));
   }
   // The newest view, which no member has joined, is taken from made to settled: all its steps, and how many they are, or none. FormedEvents lists
-  // their events. It registers for all its offices at once, so the host brings all their copies up to date before the call. On ranges that no calls lead
+  // their events. It registers for all its members at once, so the host brings all their copies up to date before the call. On ranges that no calls lead
   // to it may take 88 KB of stack.
   Result<std::size_t> form(Identifier view) noexcept {
     detail::LengthBytes count{};
