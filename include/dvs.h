@@ -45,7 +45,7 @@ extern "C" {
 
 /* ---- the version: major * 10000 + minor * 100 + patch. A host compares it once with what dvs_version() returns. */
 
-#define DVS_VERSION 500u
+#define DVS_VERSION 600u
 
 /*
  * ---- the library itself
