@@ -1,65 +1,102 @@
-// Every exported function, called with the plain implementation beside it: the same number must come out, and every byte
-// of every lent range must be the same afterwards.
+// Every call of calls.inc, made with its plain twin beside it: the same number must come out, and every byte of every lent
+// range must be the same afterwards.
 #pragma once
 
-#include <initializer_list>
+#include <tuple>
+#include <vector>
 
 #include "../../include/dvs.h"
-#include "driver.hpp"
 #include "tally.hpp"
+#include "twins.hpp"
 
 namespace outside {
 
 class Calls {
-  using Numbers = std::initializer_list<uint64_t>;
-  using Ranges = std::initializer_list<Lent*>;
+  // In the place of a range, and of a number, that a case gives with the call. All other ranges are this class's own.
+  struct GivenRange {};
+  template <class Type> struct GivenNumber {};
+  static constexpr GivenRange book{}, list{}, books{}, queues{};
 
-  static void print_call(Function f, Ranges ranges, Numbers numbers) {
-    printf("%s", kPromises[f].name);
-    for (uint64_t n : numbers) printf(" %" PRIu64, n);
-    for (Lent* lent : ranges) printf(" %s[%zu]", lent->name(), lent->size());
-    printf("\n");
+  // What a call takes, in its order: in the places of what is given is what the case gives, one after another.
+  template <size_t Next, class Case> static std::tuple<> taken(const Case&) {
+    static_assert(Next == std::tuple_size<Case>::value, "the call does not take all that is given");
+    return {};
+  }
+  template <size_t Next, class Case, class... Rest> static auto taken(const Case& given, Lent& own, Rest&&... rest) {
+    return std::tuple_cat(std::tie(own), taken<Next>(given, rest...));
+  }
+  template <size_t Next, class Case, class... Rest> static auto taken(const Case& given, const GivenRange&, Rest&&... rest) {
+    return std::tuple_cat(std::tie(std::get<Next>(given)), taken<Next + 1>(given, rest...));
+  }
+  template <size_t Next, class Case, class Type, class... Rest>
+  static auto taken(const Case& given, const GivenNumber<Type>&, Rest&&... rest) {
+    return std::tuple_cat(std::make_tuple(static_cast<Type>(std::get<Next>(given))), taken<Next + 1>(given, rest...));
   }
 
-  [[noreturn]] void report(Function f, Ranges ranges, Numbers numbers, uint32_t theirs, uint32_t mine) {
+  // A parameter as the library takes it, and as the twin does.
+  static std::tuple<uint8_t*, size_t> theirs(Lent& lent) { return {lent.theirs(), lent.size()}; }
+  static plain::Range mine(Lent& lent) { return lent.range(); }
+  template <class Number> static std::tuple<Number> theirs(Number n) { return {n}; }
+  template <class Number> static Number mine(Number n) { return n; }
+
+  // A call that is made: its ranges and its numbers, each in their order.
+  struct Made {
+    const char* name;
+    std::vector<Lent*> ranges = {};
+    std::vector<uint64_t> numbers = {};
+
+    void add(Lent& lent) { ranges.push_back(&lent); }
+    void add(uint64_t number) { numbers.push_back(number); }
+
+    uint64_t bytes() const {
+      uint64_t sum = 0;
+      for (Lent* lent : ranges) sum += lent->size();
+      return sum;
+    }
+    bool same() const {
+      bool all = true;
+      for (Lent* lent : ranges) all = all && lent->same();
+      return all;
+    }
+    void print() const {
+      printf("%s", name);
+      for (uint64_t n : numbers) printf(" %" PRIu64, n);
+      for (Lent* lent : ranges) printf(" %s[%zu]", lent->name(), lent->size());
+      printf("\n");
+    }
+  };
+
+  [[noreturn]] void report(const Made& made, uint32_t theirs, uint32_t mine) {
     printf("\nDIFFERENCE in ");
-    print_call(f, ranges, numbers);
+    made.print();
     printf("  the library answers %" PRIu32 ", expected %" PRIu32 "\n", theirs, mine);
-    for (Lent* lent : ranges)
+    for (Lent* lent : made.ranges)
       if (!lent->same() || lent->before()) print_difference(*lent);
     tally.say_again();
   }
 
-  template <class Theirs, class Mine>
-  uint32_t both(Function f, Ranges ranges, Numbers numbers, Theirs theirs, Mine mine) {
-    uint32_t expected = beside(f, ranges, numbers, theirs, mine);
-    tally.count(f, expected, bytes_of(ranges));
-    return expected;
-  }
-
-  static uint64_t bytes_of(Ranges ranges) {
-    uint64_t sum = 0;
-    for (Lent* lent : ranges) sum += lent->size();
-    return sum;
-  }
-
-  // The call and its twin, compared and not yet counted.
-  template <class Theirs, class Mine>
-  uint32_t beside(Function f, Ranges ranges, Numbers numbers, Theirs theirs, Mine mine) {
-    for (Lent* lent : ranges) lent->remember();
-    if (tally.verbose) print_call(f, ranges, numbers);
-    uint32_t answer = theirs(), expected = mine();
-    if (tally.verbose) printf("  %" PRIu32 "\n", answer);
-    bool same = answer == expected;
-    for (Lent* lent : ranges) same = same && lent->same();
-    if (!same) report(f, ranges, numbers, answer, expected);
-    return expected;
+  // The call and its twin. What they answer, and how many bytes they were lent, goes to `count`.
+  template <class Theirs, class Mine, class Taken, class Count>
+  uint32_t both(const char* name, Theirs their_call, Mine my_call, const Taken& taken, Count count) {
+    Made made{name};
+    auto call = [&](auto&... parameter) {
+      (made.add(parameter), ...);
+      for (Lent* lent : made.ranges) lent->remember();
+      if (tally.verbose) made.print();
+      uint32_t answer = std::apply(their_call, std::tuple_cat(theirs(parameter)...)), expected = my_call(mine(parameter)...);
+      if (tally.verbose) printf("  %" PRIu32 "\n", answer);
+      if (answer != expected || !made.same()) report(made, answer, expected);
+      return expected;
+    };
+    uint32_t answer = std::apply(call, taken);
+    count(answer, made.bytes());
+    return answer;
   }
 
  public:
   Tally& tally;
   // What calls are lent besides books and a group's ranges. Their contents are whatever the last call left.
-  Lent event{"event", 64}, buffer{"buffer", 512}, length{"length", 16}, bytes{"bytes", 1 << 16}, record{"message", 256};
+  Lent event{"event", 64}, buffer{"buffer", 512}, length{"length", 16}, bytes{"bytes", 1 << 16}, message{"message", 256};
   Lent steps{"steps", 4096 * plain::kStepSize}, answers{"answers", 4096 * plain::kAnswerSize};
   Lent count{"count", 64}, delivery{"delivery", 64};
 
@@ -68,170 +105,43 @@ class Calls {
   // The lengths that are right, with the contents there are.
   void usual() {
     event.resize(DVS_EVENT_SIZE, kBack), length.resize(DVS_LENGTH_SIZE, kBack), bytes.resize(0, kBack);
-    buffer.resize(DVS_LONGEST, kBack), record.resize(DVS_MESSAGE_SIZE, kBack);
+    buffer.resize(DVS_LONGEST, kBack), message.resize(DVS_MESSAGE_SIZE, kBack);
     steps.resize(2 * DVS_STEP_SIZE, kBack), answers.resize(2 * DVS_ANSWER_SIZE, kBack), count.resize(DVS_LENGTH_SIZE, kBack);
     delivery.resize(DVS_DELIVERY_SIZE, kBack);
-    for (Lent* lent : {&event, &length, &buffer, &record, &steps, &answers, &count, &delivery}) lent->copy_to_theirs();
+    for (Lent* lent : {&event, &length, &buffer, &message, &steps, &answers, &count, &delivery}) lent->copy_to_theirs();
   }
 
-  uint32_t start(Lent& book, uint32_t members, uint32_t first_set, uint32_t own) {
-    return both(kFnStart, {&book}, {members, first_set, own},
-                [&] { return dvs_start(book.theirs(), book.size(), members, first_set, own); },
-                [&] { return plain::Alone(book.range()).start(members, first_set, own); });
+  // Each call under its own name. A case gives a book, or a group's three ranges, and the call's numbers.
+#define LENT(range) range
+#define GIVEN(type, name) GivenNumber<type>()
+#define BOTH(name, count) both(#name, ::name, twin::name, taken<0>(std::tie(given...), name##_takes(LENT, LENT, GIVEN)), count)
+#define CALL(name, ...)                                                                                                \
+  template <class... Case> uint32_t name(Case&&... given) {                                                            \
+    return BOTH(name, [&](uint32_t answer, uint64_t lent) { tally.count(kFn_##name, answer, lent); });                 \
   }
-  uint32_t join(Lent& book, uint32_t view, uint32_t set) {
-    return both(kFnJoin, {&book}, {view, set}, [&] { return dvs_join(book.theirs(), book.size(), view, set); },
-                [&] { return plain::Alone(book.range()).join(view, set); });
-  }
-  uint32_t pass(Lent& book) {
-    return both(kFnPass, {&book, &buffer, &length}, {},
-                [&] {
-                  return dvs_pass(book.theirs(), book.size(), buffer.theirs(), buffer.size(), length.theirs(),
-                                  length.size());
-                },
-                [&] { return plain::Alone(book.range()).pass(buffer.range(), length.range()); });
-  }
-  uint32_t deliver(Lent& book, uint32_t sender) {
-    return both(kFnDeliver, {&book, &bytes}, {sender},
-                [&] { return dvs_deliver(book.theirs(), book.size(), bytes.theirs(), bytes.size(), sender); },
-                [&] { return plain::Alone(book.range()).deliver(bytes.mine(), bytes.size(), sender); });
-  }
-  // What stopped the packet, and how many it took, is in the delivery where the answer is 0.
-  uint32_t deliver_packet(Lent& book, uint32_t sender) {
-    uint32_t answer = beside(kFnPacket, {&book, &bytes, &delivery}, {sender},
-                             [&] {
-                               return dvs_deliver_packet(book.theirs(), book.size(), bytes.theirs(), bytes.size(), sender,
-                                                         delivery.theirs(), delivery.size());
-                             },
-                             [&] {
-                               return plain::Alone(book.range())
-                                   .deliver_packet(bytes.mine(), bytes.size(), sender, delivery.range());
-                             });
-    uint64_t lent = bytes_of({&book, &bytes, &delivery});
-    if (answer != plain::kAccepted) tally.count(kFnPacket, answer, lent);
-    else tally.count(delivered() == 0 ? kFnPacketNone : kFnPacketSome, stopped(), lent);
-    return answer;
+#define SPLIT(name, ...)
+#include "calls.inc"
+
+  // A packet is counted by what it came to, which is in the delivery if the answer is 0.
+  template <class... Case> uint32_t dvs_deliver_packet(Case&&... given) {
+    return BOTH(dvs_deliver_packet, [&](uint32_t answer, uint64_t lent) {
+      if (answer != plain::kAccepted) return tally.count(kFn_dvs_deliver_packet, answer, lent);
+      tally.count(delivered() == 0 ? kFn_dvs_deliver_packet_none : kFn_dvs_deliver_packet_some, stopped(), lent);
+    });
   }
   uint32_t delivered() { return static_cast<uint32_t>(plain::get(delivery.mine() + plain::kDelivered, 4)); }
   uint32_t stopped() { return delivery.mine()[plain::kStopped]; }
-  uint32_t attempt(Lent& book) {
-    return both(kFnAttempt, {&book, &event}, {},
-                [&] { return dvs_attempt(book.theirs(), book.size(), event.theirs(), event.size()); },
-                [&] { return plain::Alone(book.range()).attempt(event.range()); });
-  }
-  uint32_t enroll(Lent& book) {
-    return both(kFnRegister, {&book, &event}, {},
-                [&] { return dvs_register(book.theirs(), book.size(), event.theirs(), event.size()); },
-                [&] { return plain::Alone(book.range()).enroll(event.range()); });
-  }
-  uint32_t send(Lent& book, uint64_t entry) {
-    return both(kFnSend, {&book, &event}, {entry},
-                [&] { return dvs_send(book.theirs(), book.size(), entry, event.theirs(), event.size()); },
-                [&] { return plain::Alone(book.range()).send(entry, event.range()); });
-  }
-  uint32_t hand(Lent& book) {
-    return both(kFnHand, {&book, &event}, {},
-                [&] { return dvs_hand(book.theirs(), book.size(), event.theirs(), event.size()); },
-                [&] { return plain::Alone(book.range()).hand(event.range()); });
-  }
-  uint32_t tell(Lent& book) {
-    return both(kFnTell, {&book}, {}, [&] { return dvs_tell(book.theirs(), book.size()); },
-                [&] { return plain::Alone(book.range()).tell(); });
-  }
-  uint32_t safe(Lent& book) {
-    return both(kFnSafe, {&book, &event}, {},
-                [&] { return dvs_safe(book.theirs(), book.size(), event.theirs(), event.size()); },
-                [&] { return plain::Alone(book.range()).safe(event.range()); });
-  }
-  uint32_t collect(Lent& book) {
-    return both(kFnCollect, {&book}, {}, [&] { return dvs_collect(book.theirs(), book.size()); },
-                [&] { return plain::Alone(book.range()).collect(); });
-  }
 
-  uint32_t check(Lent& book) {
-    return both(kFnCheck, {&book}, {}, [&] { return dvs_check(book.theirs(), book.size()); },
-                [&] { return plain::Alone(book.range()).check(); });
+  // A step is counted by its kind, the first number after the three ranges.
+  template <class... Case> uint32_t dvs_group_step(Case&&... given) {
+    return BOTH(dvs_group_step, [&](uint32_t answer, uint64_t lent) {
+      auto kind = static_cast<uint32_t>(std::get<3>(std::tie(given...)));
+      tally.count(static_cast<Function>(kFn_dvs_group_step + (kind <= DVS_STEP_COLLECT ? kind : 0)), answer, lent);
+    });
   }
-
-  uint32_t read_front() {
-    return both(kFnReadFront, {&bytes, &record, &length}, {},
-                [&] {
-                  return dvs_read_front(bytes.theirs(), bytes.size(), record.theirs(), record.size(), length.theirs(),
-                                        length.size());
-                },
-                [&] { return plain::read_front_record(bytes.mine(), bytes.size(), record.range(), length.range()); });
-  }
-  uint32_t read() {
-    return both(kFnRead, {&bytes, &record}, {},
-                [&] { return dvs_read(bytes.theirs(), bytes.size(), record.theirs(), record.size()); },
-                [&] { return plain::read_record(bytes.mine(), bytes.size(), record.range()); });
-  }
-  uint32_t write() {
-    return both(kFnWrite, {&record, &buffer, &length}, {},
-                [&] {
-                  return dvs_write(record.theirs(), record.size(), buffer.theirs(), buffer.size(), length.theirs(),
-                                   length.size());
-                },
-                [&] { return plain::write_record(record.mine(), record.size(), buffer.range(), length.range()); });
-  }
-
-  uint32_t group_start(Lent& list, Lent& books, Lent& queues, uint32_t members, uint32_t first_set) {
-    return both(kFnGroupStart, {&list, &books, &queues}, {members, first_set},
-                [&] {
-                  return dvs_group_start(list.theirs(), list.size(), books.theirs(), books.size(), queues.theirs(),
-                                         queues.size(), members, first_set);
-                },
-                [&] { return plain::Group(list.range(), books.range(), queues.range()).start(members, first_set); });
-  }
-  uint32_t group_run(Lent& list, Lent& books, Lent& queues, uint32_t members, uint32_t first_set) {
-    return both(kFnGroupRun, {&list, &books, &queues, &steps, &answers}, {members, first_set},
-                [&] {
-                  return dvs_group_run(list.theirs(), list.size(), books.theirs(), books.size(), queues.theirs(),
-                                       queues.size(), members, first_set, steps.theirs(), steps.size(), answers.theirs(),
-                                       answers.size());
-                },
-                [&] {
-                  return plain::Group(list.range(), books.range(), queues.range())
-                      .run(members, first_set, steps.range(), answers.range());
-                });
-  }
-  uint32_t group_steps(Lent& list, Lent& books, Lent& queues) {
-    return both(kFnGroupSteps, {&list, &books, &queues, &steps, &answers}, {},
-                [&] {
-                  return dvs_group_steps(list.theirs(), list.size(), books.theirs(), books.size(), queues.theirs(),
-                                         queues.size(), steps.theirs(), steps.size(), answers.theirs(), answers.size());
-                },
-                [&] {
-                  return plain::Group(list.range(), books.range(), queues.range()).steps(steps.range(), answers.range());
-                });
-  }
-  uint32_t group_check(Lent& list, Lent& books, Lent& queues) {
-    return both(kFnGroupCheck, {&list, &books, &queues}, {},
-                [&] {
-                  return dvs_group_check(list.theirs(), list.size(), books.theirs(), books.size(), queues.theirs(),
-                                         queues.size());
-                },
-                [&] { return plain::Group(list.range(), books.range(), queues.range()).check(); });
-  }
-  uint32_t group_step(Lent& list, Lent& books, Lent& queues, uint32_t kind, uint32_t first, uint64_t second) {
-    auto f = static_cast<Function>(kFnStepOther + (kind >= 1 && kind <= 12 ? kind : 0));
-    return both(f, {&list, &books, &queues, &event}, {kind, first, second},
-                [&] {
-                  return dvs_group_step(list.theirs(), list.size(), books.theirs(), books.size(), queues.theirs(),
-                                        queues.size(), kind, first, second, event.theirs(), event.size());
-                },
-                [&] {
-                  return plain::Group(list.range(), books.range(), queues.range()).step(kind, first, second, event.range());
-                });
-  }
-  uint32_t group_form(Lent& list, Lent& books, Lent& queues, uint32_t view) {
-    return both(kFnGroupForm, {&list, &books, &queues, &count}, {view},
-                [&] {
-                  return dvs_group_form(list.theirs(), list.size(), books.theirs(), books.size(), queues.theirs(),
-                                        queues.size(), view, count.theirs(), count.size());
-                },
-                [&] { return plain::Driver(list.range(), books.range(), queues.range()).form(view, count.range()); });
-  }
+#undef LENT
+#undef GIVEN
+#undef BOTH
 };
 
 // What the library says of itself, beside the header's macros. False on a difference.

@@ -27,18 +27,18 @@ class Edges {
   }
 
   void all_calls() {
-    c_.join(book_, 1, 3), c_.pass(book_), c_.deliver(book_, 0), c_.deliver_packet(book_, 0), c_.attempt(book_);
-    c_.enroll(book_), c_.send(book_, 5);
-    c_.hand(book_), c_.tell(book_), c_.safe(book_), c_.collect(book_), c_.check(book_);
+    c_.dvs_join(book_, 1, 3), c_.dvs_pass(book_), c_.dvs_deliver(book_, 0), c_.dvs_deliver_packet(book_, 0), c_.dvs_attempt(book_);
+    c_.dvs_register(book_), c_.dvs_send(book_, 5);
+    c_.dvs_hand(book_), c_.dvs_tell(book_), c_.dvs_safe(book_), c_.dvs_collect(book_), c_.dvs_check(book_);
   }
 
   void book_lengths() {
     for (size_t size = 0; size <= plain::kBookSize + 20; ++size) {
       cut(book_, plain::kBookSize, false);
-      c_.start(book_, 2, 3, 0);
+      c_.dvs_start(book_, 2, 3, 0);
       for (unsigned null = 0; null < (size == 0 ? 2 : 1); ++null) {
         cut(book_, size, null == 1);
-        all_calls(), c_.start(book_, 2, 3, 0);
+        all_calls(), c_.dvs_start(book_, 2, 3, 0);
       }
     }
   }
@@ -47,26 +47,26 @@ class Edges {
     for (size_t size = 0; size <= 64; ++size) {
       for (unsigned null = 0; null < (size == 0 ? 2 : 1); ++null) {
         for (bool sound : {true, false}) {
-          c_.usual(), cut(book_, plain::kBookSize, false), c_.start(book_, 2, 3, 0);
+          c_.usual(), cut(book_, plain::kBookSize, false), c_.dvs_start(book_, 2, 3, 0);
           if (!sound) book_.poke(0, 0);
           cut(c_.event, size, null == 1), cut(c_.length, size <= 16 ? size : 4, null == 1);
           cut(c_.bytes, size, null == 1), cut(c_.buffer, size, null == 1), cut(c_.delivery, size, null == 1);
           all_calls();
           cut(c_.length, 4, false);
-          c_.join(book_, 2, 3), c_.pass(book_), c_.pass(book_);
+          c_.dvs_join(book_, 2, 3), c_.dvs_pass(book_), c_.dvs_pass(book_);
         }
       }
     }
     c_.usual();
     for (size_t size = 0; size <= plain::kRecordSize + 20; ++size)
-      for (unsigned null = 0; null < 2; ++null) cut(c_.record, size, null == 1), c_.read(), c_.read_front(), c_.write();
+      for (unsigned null = 0; null < 2; ++null) cut(c_.message, size, null == 1), c_.dvs_read(), c_.dvs_read_front(), c_.dvs_write();
     c_.usual();
     for (size_t size = 0; size <= 16; ++size) {
       plain::Message registered;
       registered.kind = plain::kRegistered;
-      plain::store_record(registered, c_.record.mine()), c_.record.copy_to_theirs();
-      cut(c_.length, size, true), c_.write();
-      cut(c_.length, 4, true), cut(c_.buffer, size, true), c_.write();
+      plain::store_record(registered, c_.message.mine()), c_.message.copy_to_theirs();
+      cut(c_.length, size, true), c_.dvs_write();
+      cut(c_.length, 4, true), cut(c_.buffer, size, true), c_.dvs_write();
     }
     c_.usual();
   }
@@ -80,18 +80,18 @@ class Edges {
       for (size_t length = 0; length <= 16; ++length)
         for (size_t bytes : {sizeof packet, size_t{7}, size_t{6}, size_t{0}}) {
           c_.bytes.set(packet, bytes, bytes == 0 && record % 2 ? kNull : kBack);
-          cut(c_.record, record, true), cut(c_.length, length, true), c_.read_front();
+          cut(c_.message, record, true), cut(c_.length, length, true), c_.dvs_read_front();
         }
     c_.usual(), cut(book_, plain::kBookSize, false);
     for (size_t delivery = 0; delivery <= 64; ++delivery)
       for (unsigned kind = 0; kind < 4; ++kind)
         for (size_t bytes = 0; bytes <= sizeof packet; ++bytes) {
-          c_.start(book_, 2, kind == 1 ? 2 : 3, 0);
-          if (kind != 1) c_.join(book_, 1, 3);
+          c_.dvs_start(book_, 2, kind == 1 ? 2 : 3, 0);
+          if (kind != 1) c_.dvs_join(book_, 1, 3);
           if (kind == 2) book_.poke(plain::kAtOwn, 2);
           if (kind == 3) book_.poke(plain::kAtSide, 2);
           c_.bytes.set(packet, bytes, bytes == 0 && delivery % 2 ? kNull : bytes % 2 ? kFront : kBack);
-          cut(c_.delivery, delivery, kind % 2 == 1), c_.deliver_packet(book_, 1), c_.deliver_packet(book_, 2);
+          cut(c_.delivery, delivery, kind % 2 == 1), c_.dvs_deliver_packet(book_, 1), c_.dvs_deliver_packet(book_, 2);
         }
     c_.usual();
   }
@@ -100,22 +100,22 @@ class Edges {
     cut(book_, plain::kBookSize, false);
     for (uint32_t members = 0; members <= 9; ++members)
       for (uint32_t set = 0; set <= 257; ++set)
-        for (uint32_t own = 0; own <= 9; ++own) c_.start(book_, members, set, own);
+        for (uint32_t own = 0; own <= 9; ++own) c_.dvs_start(book_, members, set, own);
     for (uint32_t a : kWords)
       for (uint32_t b : kWords)
-        for (uint32_t c : kWords) c_.start(book_, a, b, c);
+        for (uint32_t c : kWords) c_.dvs_start(book_, a, b, c);
     for (uint32_t id : kWords)
       for (uint32_t set : kWords)
-        for (uint32_t own : {0u, 7u}) c_.start(book_, 8, 0x81, own), c_.join(book_, id, set), c_.join(book_, id, set);
+        for (uint32_t own : {0u, 7u}) c_.dvs_start(book_, 8, 0x81, own), c_.dvs_join(book_, id, set), c_.dvs_join(book_, id, set);
     for (uint32_t sender : kWords) {
-      c_.start(book_, 8, 0x83, 7), c_.join(book_, 1, 0x83), c_.pass(book_);
+      c_.dvs_start(book_, 8, 0x83, 7), c_.dvs_join(book_, 1, 0x83), c_.dvs_pass(book_);
       c_.bytes.set(c_.buffer.mine(), plain::get(c_.length.mine(), 4), kBack);
-      c_.deliver(book_, sender), c_.deliver_packet(book_, sender);
+      c_.dvs_deliver(book_, sender), c_.dvs_deliver_packet(book_, sender);
     }
     for (uint64_t entry : kLongs) {
-      c_.start(book_, 1, 1, 0), c_.send(book_, entry), c_.pass(book_);
+      c_.dvs_start(book_, 1, 1, 0), c_.dvs_send(book_, entry), c_.dvs_pass(book_);
       c_.bytes.set(c_.buffer.mine(), plain::get(c_.length.mine(), 4), kBack);
-      c_.deliver(book_, 0), c_.hand(book_);
+      c_.dvs_deliver(book_, 0), c_.dvs_hand(book_);
     }
   }
 
@@ -124,15 +124,15 @@ class Edges {
       cut(list_, list, true), cut(books_, books, true), cut(queues_, queues, true);
     };
     auto calls = [&] {
-      c_.group_step(list_, books_, queues_, plain::kSend, 0, 5), c_.group_step(list_, books_, queues_, 13, 255, 0);
-      c_.group_steps(list_, books_, queues_);
-      c_.group_start(list_, books_, queues_, 2, 3), c_.group_start(list_, books_, queues_, 9, 0);
-      c_.group_start(list_, books_, queues_, 2, 4), c_.group_check(list_, books_, queues_);
-      c_.group_run(list_, books_, queues_, 9, 0), c_.group_run(list_, books_, queues_, 2, 4);
-      c_.group_run(list_, books_, queues_, 2, 3), c_.group_check(list_, books_, queues_);
-      c_.group_form(list_, books_, queues_, 0), c_.group_form(list_, books_, queues_, 1);
+      c_.dvs_group_step(list_, books_, queues_, plain::kSend, 0, 5), c_.dvs_group_step(list_, books_, queues_, 13, 255, 0);
+      c_.dvs_group_steps(list_, books_, queues_);
+      c_.dvs_group_start(list_, books_, queues_, 2, 3), c_.dvs_group_start(list_, books_, queues_, 9, 0);
+      c_.dvs_group_start(list_, books_, queues_, 2, 4), c_.dvs_group_check(list_, books_, queues_);
+      c_.dvs_group_run(list_, books_, queues_, 9, 0), c_.dvs_group_run(list_, books_, queues_, 2, 4);
+      c_.dvs_group_run(list_, books_, queues_, 2, 3), c_.dvs_group_check(list_, books_, queues_);
+      c_.dvs_group_form(list_, books_, queues_, 0), c_.dvs_group_form(list_, books_, queues_, 1);
     };
-    auto fresh = [&] { lend(10, plain::kBooksSize, plain::queues_size(2)), c_.group_start(list_, books_, queues_, 2, 3); };
+    auto fresh = [&] { lend(10, plain::kBooksSize, plain::queues_size(2)), c_.dvs_group_start(list_, books_, queues_, 2, 3); };
     for (size_t list = 0; list <= 5 * 36; ++list) {
       fresh();
       // The queues of the list's own room, and of another. Long ones are tried at whole records alone.
@@ -158,16 +158,16 @@ class Edges {
     cut(list_, 10, false), cut(books_, plain::kBooksSize, false), cut(queues_, plain::queues_size(2), false);
     for (size_t count = 0; count <= 40; ++count) {
       for (bool sound : {true, false}) {
-        c_.group_start(list_, books_, queues_, 2, 3), c_.group_step(list_, books_, queues_, plain::kCreate, 9, 3);
+        c_.dvs_group_start(list_, books_, queues_, 2, 3), c_.dvs_group_step(list_, books_, queues_, plain::kCreate, 9, 3);
         if (!sound) books_.poke(0, 0);
         cut(c_.count, count, true);
-        for (uint32_t view : {8u, 0u, 9u}) c_.group_form(list_, books_, queues_, view);
+        for (uint32_t view : {8u, 0u, 9u}) c_.dvs_group_form(list_, books_, queues_, view);
       }
     }
     c_.usual();
     for (uint32_t id : kWords) {
-      c_.group_start(list_, books_, queues_, 8, 255), c_.group_step(list_, books_, queues_, plain::kCreate, id, 255);
-      for (uint32_t view : kWords) c_.group_form(list_, books_, queues_, view);
+      c_.dvs_group_start(list_, books_, queues_, 8, 255), c_.dvs_group_step(list_, books_, queues_, plain::kCreate, id, 255);
+      for (uint32_t view : kWords) c_.dvs_group_form(list_, books_, queues_, view);
     }
   }
 
@@ -179,37 +179,37 @@ class Edges {
     for (size_t steps = 0; steps <= 4 * plain::kStepSize; ++steps)
       for (size_t answers = 0; answers <= 4 * plain::kAnswerSize; ++answers) {
         cut(c_.steps, steps, true), cut(c_.answers, answers, true);
-        c_.group_run(list_, books_, queues_, 2, steps % 2 ? 0 : 3);
-        for (uint8_t members : {2, 0, 2}) books_.poke(plain::kAtMembers, members), c_.group_steps(list_, books_, queues_);
+        c_.dvs_group_run(list_, books_, queues_, 2, steps % 2 ? 0 : 3);
+        for (uint8_t members : {2, 0, 2}) books_.poke(plain::kAtMembers, members), c_.dvs_group_steps(list_, books_, queues_);
       }
     for (uint32_t members : kWords)
-      for (uint32_t set : kWords) c_.group_run(list_, books_, queues_, members, set);
+      for (uint32_t set : kWords) c_.dvs_group_run(list_, books_, queues_, members, set);
     c_.usual();
   }
 
   void group_numbers() {
     cut(list_, 10, false), cut(books_, plain::kBooksSize, false), cut(queues_, plain::queues_size(2), false);
     for (uint32_t members : kWords)
-      for (uint32_t set : kWords) c_.group_start(list_, books_, queues_, members, set);
-    c_.group_start(list_, books_, queues_, 3, 7);
+      for (uint32_t set : kWords) c_.dvs_group_start(list_, books_, queues_, members, set);
+    c_.dvs_group_start(list_, books_, queues_, 3, 7);
     for (uint32_t kind : kWords)
       for (uint32_t first : kWords)
         for (uint64_t second : {uint64_t{0}, uint64_t{1}, UINT64_MAX})
-          c_.group_step(list_, books_, queues_, kind, first, second);
+          c_.dvs_group_step(list_, books_, queues_, kind, first, second);
     for (uint32_t kind = 0; kind <= 13; ++kind)
       for (uint32_t first : kWords)
-        for (uint64_t second : kLongs) c_.group_step(list_, books_, queues_, kind, first, second);
+        for (uint64_t second : kLongs) c_.dvs_group_step(list_, books_, queues_, kind, first, second);
   }
 
   // Every number of items in an inward list, and the sender of each, or of the place behind the last, no member.
   void inward_columns() {
-    cut(book_, plain::kBookSize, false), c_.start(book_, 3, 7, 0);
+    cut(book_, plain::kBookSize, false), c_.dvs_start(book_, 3, 7, 0);
     for (unsigned count = 0; count <= plain::kOrdered + 1; ++count) {
       book_.poke(plain::kAtTaken, static_cast<uint8_t>(count < plain::kOrdered ? count : plain::kOrdered));
-      book_.poke(plain::kAtInward0, static_cast<uint8_t>(count)), c_.check(book_);
+      book_.poke(plain::kAtInward0, static_cast<uint8_t>(count)), c_.dvs_check(book_);
       for (unsigned i = 0; i <= count && i < plain::kOrdered; ++i) {
         size_t sender = plain::kAtInward0 + plain::kItemSenders + i;
-        book_.poke(sender, 3), c_.check(book_), book_.poke(sender, 2);
+        book_.poke(sender, 3), c_.dvs_check(book_), book_.poke(sender, 2);
       }
     }
   }
@@ -225,7 +225,7 @@ class Edges {
     uint8_t bytes[plain::kLongest];
     plain::write(m, bytes, sizeof bytes);
     c_.bytes.set(bytes, plain::length(m), kBack);
-    c_.deliver(book_, sender);
+    c_.dvs_deliver(book_, sender);
   }
 
   // Every number of open views beside every number of views in an info: none of its open views, every third or each of
@@ -236,16 +236,16 @@ class Edges {
       for (unsigned opens = 0; opens <= plain::kOpen; ++opens)
         for (unsigned alike : {1u, 3u, 2 * plain::kViews})
           for (uint32_t settled : {0u, 2 * own + 1, 4 * (own / 2), 4 * own + 1}) {
-            c_.start(book_, 3, 7, 0), c_.join(book_, 1, 7);
+            c_.dvs_start(book_, 3, 7, 0), c_.dvs_join(book_, 1, 7);
             inform(0, own, 0, 1, 7, 0), inform(settled, opens, 2, alike, 3, 1);
-            c_.attempt(book_);
+            c_.dvs_attempt(book_);
           }
   }
 
   // Every number of entries in an order of all four kinds, and each of them, or the place behind the last, at fault.
   void order_columns() {
     cut(list_, 5, false), cut(books_, plain::kBooksSize, false), cut(queues_, plain::queues_size(1), false);
-    c_.group_start(list_, books_, queues_, 3, 7);
+    c_.dvs_group_start(list_, books_, queues_, 3, 7);
     constexpr size_t at = plain::kQueuesHead;
     for (unsigned i = 0; i < plain::kOrdered; ++i) {
       plain::Message m;
@@ -259,11 +259,11 @@ class Edges {
         {plain::kOrderSenders, 3}, {plain::kOrderKinds, 0}, {plain::kOrderKinds, 5},
         {plain::kOrderCounts, 0},  {plain::kOrderCounts, 33}, {plain::kOrderCounts, 129}};
     for (unsigned count = 0; count <= plain::kOrdered + 1; ++count) {
-      queues_.poke(at, static_cast<uint8_t>(count)), c_.group_check(list_, books_, queues_);
+      queues_.poke(at, static_cast<uint8_t>(count)), c_.dvs_group_check(list_, books_, queues_);
       for (unsigned i = 0; i <= count && i < plain::kOrdered; ++i) {
         auto fault = faults[(i + count) % (sizeof faults / sizeof faults[0])];
         uint8_t was = queues_.mine()[at + fault.column + i];
-        queues_.poke(at + fault.column + i, fault.value), c_.group_check(list_, books_, queues_);
+        queues_.poke(at + fault.column + i, fault.value), c_.dvs_group_check(list_, books_, queues_);
         queues_.poke(at + fault.column + i, was);
       }
     }
@@ -271,7 +271,7 @@ class Edges {
 
  public:
   explicit Edges(Calls& c) : c_(c) {
-    for (Lent* lent : {&book_, &list_, &books_, &c_.event, &c_.length, &c_.bytes, &c_.buffer, &c_.record, &c_.answers, &c_.count,
+    for (Lent* lent : {&book_, &list_, &books_, &c_.event, &c_.length, &c_.bytes, &c_.buffer, &c_.message, &c_.answers, &c_.count,
                        &c_.delivery}) {
       uint8_t noise[64];
       r_.fill(noise, sizeof noise);

@@ -21,7 +21,7 @@ class FormCases : LentGroup {
   void start(unsigned members, uint32_t set, unsigned room) {
     Random r(members, set);
     lend(r, room);
-    expect("start", c_.group_start(list_, books_, queues_, members, set), 0);
+    expect("start", c_.dvs_group_start(list_, books_, queues_, members, set), 0);
     third_->start(members, set, room), clean_ = true;
   }
   void create(uint32_t id, uint32_t set) { expect("create", call(DVS_STEP_CREATE, id, set), 0); }
@@ -165,7 +165,7 @@ class FormCases : LentGroup {
       copy_to_theirs();
       uint32_t id = r.chance(950) ? newest().id : view(r.below(made())).id;
       for (unsigned changes = r.chance(300) ? r.between(1, 3) : 0; changes > 0; --changes) damage(r);
-      if (form(id) == plain::kRecordsUnsound && c_.group_check(list_, books_, queues_) != 0) continue;
+      if (form(id) == plain::kRecordsUnsound && c_.dvs_group_check(list_, books_, queues_) != 0) continue;
       for (unsigned steps = r.below(4); steps > 0; --steps) call(r.between(2, 12), r.below(members()), newest().id);
       if (r.chance(500)) call(plain::kCreate, newest().id + 1, r.wide_set(members()));
       form(newest().id);

@@ -38,7 +38,7 @@ class FormRefusals : LentGroup {
   // Four servers in the first view, and two further views that nobody joined.
   void fresh() {
     lend(r_, 4), clean_ = false;
-    c_.group_start(list_, books_, queues_, 4, first_.set);
+    c_.dvs_group_start(list_, books_, queues_, 4, first_.set);
     scatter();
     call(plain::kCreate, lone_.id, lone_.set), call(plain::kCreate, new_.id, new_.set);
   }
@@ -81,7 +81,7 @@ class FormRefusals : LentGroup {
   // The case that was put there since `fresh` is sound, and gets this answer; what is refused leaves every byte.
   void expect(const char* what, uint32_t expected) {
     copy_to_theirs();
-    uint32_t sound = c_.group_check(list_, books_, queues_);
+    uint32_t sound = c_.dvs_group_check(list_, books_, queues_);
     std::vector<uint8_t> bytes[4];
     Lent* ranges[] = {&list_, &books_, &queues_, &c_.count};
     for (unsigned i = 0; i < 4; ++i) bytes[i].assign(ranges[i]->theirs(), ranges[i]->theirs() + ranges[i]->size());

@@ -143,7 +143,7 @@ class GroupCases : LentGroup {
     for (Lent* lent : {&list_, &books_, &queues_}) r.fill(lent->mine(), lent->size()), lent->copy_to_theirs();
     bool wide = r.chance(700);
     auto first = wide ? static_cast<uint8_t>((1u << members) - 1) : r.set(members);
-    c_.group_start(list_, books_, queues_, members, first);
+    c_.dvs_group_start(list_, books_, queues_, members, first);
     third_->start(members, first, room());
     clean_ = true;
     unsigned length = r.chance(800) ? 200 : 2000;
@@ -196,9 +196,9 @@ class GroupCases : LentGroup {
     r.fill(c_.answers.mine(), c_.answers.size());
     c_.steps.copy_to_theirs(), c_.answers.copy_to_theirs();
     auto all = static_cast<uint32_t>((1u << members) - 1);
-    c_.group_run(list_, books_, queues_, r.chance(970) ? members : r.odd_word(), r.chance(900) ? all : r.chance(500) ? r.set(members) : r.odd_word());
+    c_.dvs_group_run(list_, books_, queues_, r.chance(970) ? members : r.odd_word(), r.chance(900) ? all : r.chance(500) ? r.set(members) : r.odd_word());
     clean_ = false;
-    c_.group_check(list_, books_, queues_);
+    c_.dvs_group_check(list_, books_, queues_);
     if (room() < 1 || room() > plain::kViews) return;
     for (unsigned n = 0; n < 5; ++n) call(r.between(1, 12), r.below(members), r.below(views));
     form(r.below(views));
@@ -216,7 +216,7 @@ class GroupCases : LentGroup {
       call(r.chance(900) ? r.between(1, 12) : r.odd_word(), r.below(9), r.odd_long());
     form(r.odd_word());
     uint32_t members = r.chance(800) ? r.between(1, 8) : r.odd_word();
-    c_.group_start(list_, books_, queues_, members, r.chance(800) ? r.between(1, 255) : r.odd_word());
+    c_.dvs_group_start(list_, books_, queues_, members, r.chance(800) ? r.between(1, 255) : r.odd_word());
   }
 };
 

@@ -105,8 +105,8 @@ class LentGroup {
   }
 
   uint32_t call(uint32_t kind, uint32_t first, uint64_t second) {
-    if (++calls_ % 4 == 0) c_.group_check(list_, books_, queues_);
-    uint32_t answer = c_.group_step(list_, books_, queues_, kind, first, second);
+    if (++calls_ % 4 == 0) c_.dvs_group_check(list_, books_, queues_);
+    uint32_t answer = c_.dvs_group_step(list_, books_, queues_, kind, first, second);
     if (listing_ && kind <= 255) note({static_cast<uint8_t>(kind), first, second}, answer);
     if (!clean_ || kind > 255) return answer;
     reference::Reply reply = third_->step(static_cast<uint8_t>(kind), first, second);
@@ -131,7 +131,7 @@ class LentGroup {
     c_.answers.resize(plain::kAnswerSize * count, r.chance(500) ? kFront : kBack);
     r.fill(c_.answers.mine(), c_.answers.size()), c_.answers.copy_to_theirs();
     bool above = members() <= plain::kMembers && client_above();
-    uint32_t answer = c_.group_steps(list_, books_, queues_);
+    uint32_t answer = c_.dvs_group_steps(list_, books_, queues_);
     bool same = left() == after;
     for (size_t i = 0; i < answered_.size(); ++i)
       same = same && (answer == plain::kAccepted ? c_.answers.theirs()[i] == answered_[i]
@@ -145,7 +145,7 @@ class LentGroup {
 
   // The driver.
   uint32_t form(uint32_t id) {
-    uint32_t answer = c_.group_form(list_, books_, queues_, id);
+    uint32_t answer = c_.dvs_group_form(list_, books_, queues_, id);
     if (!clean_) return answer;
     reference::Reply reply = third_->form(id);
     uint64_t count = plain::get(c_.count.mine(), plain::kLengthSize);

@@ -29,7 +29,7 @@ class Lines : LentGroup {
   uint32_t start(uint32_t members, uint32_t set) {
     lend(r_, kLent);
     third_->start(members, set, kLent), clean_ = true;
-    return c_.group_start(list_, books_, queues_, members, set);
+    return c_.dvs_group_start(list_, books_, queues_, members, set);
   }
 
   void show_event() {

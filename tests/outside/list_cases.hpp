@@ -32,7 +32,7 @@ class ListCases : LentGroup {
       if (number == 0) memcpy(&expected[plain::kAnswerSize * i], answer.data(), answer.size());
     }
     c_.steps.copy_to_theirs(), c_.answers.copy_to_theirs();
-    expect(what, c_.group_steps(list_, books_, queues_) == number);
+    expect(what, c_.dvs_group_steps(list_, books_, queues_) == number);
     expect(what, expected.empty() || memcmp(expected.data(), c_.answers.theirs(), expected.size()) == 0);
     expect(what, number == 0 || left() == before);
   }
@@ -40,7 +40,7 @@ class ListCases : LentGroup {
   // Three members in the first view, and views 1 and 2 of all of them, which nobody has joined.
   void start() {
     lend(r_, 3), clean_ = false;
-    c_.group_start(list_, books_, queues_, 3, 7);
+    c_.dvs_group_start(list_, books_, queues_, 3, 7);
     for (uint32_t id : {1, 2}) call(plain::kCreate, id, 7);
   }
   uint8_t* book(unsigned p) { return books_.mine() + plain::kBookSize * p; }
@@ -60,7 +60,7 @@ class ListCases : LentGroup {
                                            {{plain::kCreate, 3, 7}, {9}},
                                            {{plain::kJoin, 2, 2}, {0}}});
     answers("what the list before left", {{{plain::kDeliver, 1, 0}, {18}}, {{plain::kJoin, 2, 2}, {12}}});
-    expect("what the list left is a sound group", c_.group_check(list_, books_, queues_) == 0);
+    expect("what the list left is a sound group", c_.dvs_group_check(list_, books_, queues_) == 0);
     books_.poke(plain::kBookSize + plain::kAtSide, 2);
     answers("an unsound group", {{{plain::kSend, 0, 5}, {}}}, 4);
     answers("an unsound group and no step", {}, 4);
@@ -83,7 +83,7 @@ class ListCases : LentGroup {
           made_up(p, carrier, items);
           answers("steps before the join", {{elsewhere, {0}}, unknown, {{plain::kHand, (p + 1) % 3, 0}, {25}}});
           answers("steps after the join", {{elsewhere, {12}}, {join, {0}}, {hand, {4}}, {elsewhere, {4}}, {{0, 0, 0}, {4}}});
-          expect("the list leaves an unsound group", c_.group_check(list_, books_, queues_) == 4);
+          expect("the list leaves an unsound group", c_.dvs_group_check(list_, books_, queues_) == 4);
           answers("a list after it", {{hand, {}}}, 4);
           made_up(p, carrier, items);
           answers("the join last", {unknown, {join, {0}}});

@@ -73,31 +73,31 @@ class MemberCases {
   // One call of any function, with numbers and ranges that fit the book more often than not.
   uint32_t any_call(Random& r, Lent& book) {
     const uint8_t* b = book.mine();
-    c_.check(book);
+    c_.dvs_check(book);
     lend_event(r, r.chance(995) ? plain::kEventSize : r.below(24));
     switch (r.below(23)) {
       case 0: case 1: {
         auto own = static_cast<uint32_t>(plain::get(b + plain::kAtCarrier + 1, 4)) + r.between(0, 4) - 1;
         uint32_t set = r.wide_set(b[plain::kAtMembers] - 1u < 8 ? b[plain::kAtMembers] : 8);
         if (r.chance(100)) set = r.chance(500) ? r.byte() : r.odd_word();
-        return c_.join(book, r.chance(100) ? r.odd_word() : own, set);
+        return c_.dvs_join(book, r.chance(100) ? r.odd_word() : own, set);
       }
       case 2: case 3:
         c_.buffer.resize(r.chance(700) ? plain::kLongest : r.below(180), flush(r)), c_.buffer.copy_to_theirs();
-        return c_.pass(book);
+        return c_.dvs_pass(book);
       case 4: case 5: case 6: case 7: case 8: case 9:
         lend_message(r, random_message(r, b));
-        return c_.deliver(book, some_sender(r, b));
+        return c_.dvs_deliver(book, some_sender(r, b));
       case 20: case 21: case 22:
         lend_packet(r, b), lend_delivery(r, r.chance(995) ? plain::kDeliverySize : r.below(16));
-        return c_.deliver_packet(book, some_sender(r, b));
-      case 10: case 11: return c_.attempt(book);
-      case 12: return c_.enroll(book);
-      case 13: return c_.send(book, r.odd_long());
-      case 14: case 15: return c_.hand(book);
-      case 16: return c_.tell(book);
-      case 17: case 18: return c_.safe(book);
-      default: return c_.collect(book);
+        return c_.dvs_deliver_packet(book, some_sender(r, b));
+      case 10: case 11: return c_.dvs_attempt(book);
+      case 12: return c_.dvs_register(book);
+      case 13: return c_.dvs_send(book, r.odd_long());
+      case 14: case 15: return c_.dvs_hand(book);
+      case 16: return c_.dvs_tell(book);
+      case 17: case 18: return c_.dvs_safe(book);
+      default: return c_.dvs_collect(book);
     }
   }
 
@@ -126,7 +126,7 @@ class MemberCases {
     }
     probe_.copy_to_theirs();
     for (unsigned n = r.between(1, 4); n > 0 && probe_.size() >= plain::kAtOutgoing; --n) any_call(r, probe_);
-    c_.start(probe_, r.chance(900) ? r.between(1, 8) : r.odd_word(), r.chance(900) ? r.between(1, 255) : r.odd_word(),
+    c_.dvs_start(probe_, r.chance(900) ? r.between(1, 8) : r.odd_word(), r.chance(900) ? r.between(1, 255) : r.odd_word(),
              r.chance(900) ? r.below(8) : r.odd_word());
   }
 
@@ -147,7 +147,7 @@ class MemberCases {
     for (unsigned p = 0; p < members; ++p) {
       books_[p]->resize(plain::kBookSize, flush(r));
       r.fill(books_[p]->mine(), plain::kBookSize), books_[p]->copy_to_theirs();
-      c_.start(*books_[p], members, first, p);
+      c_.dvs_start(*books_[p], members, first, p);
     }
     unsigned length = r.chance(800) ? 300 : 3000;
     for (unsigned n = 0; n < length; ++n) {
@@ -171,13 +171,13 @@ class MemberCases {
     }
     if (which == 1) {
       View v = r.chance(800) ? views_.back() : views_[r.below(views_.size())];
-      c_.join(book, v.id, v.set);
+      c_.dvs_join(book, v.id, v.set);
       return;
     }
     if (which == 2) {
       std::vector<Sent>* order = order_of(b);
       c_.buffer.resize(r.chance(950) ? plain::kLongest : r.below(170), kBack), c_.buffer.copy_to_theirs();
-      if (c_.pass(book) == plain::kAccepted && order)
+      if (c_.dvs_pass(book) == plain::kAccepted && order)
         order->push_back({b[plain::kAtOwn], {c_.buffer.mine(), c_.buffer.mine() + plain::get(c_.length.mine(), 4)}});
       return;
     }
@@ -186,24 +186,24 @@ class MemberCases {
       unsigned taken = b[plain::kAtTaken];
       if (!order || taken >= order->size() || r.chance(10)) {
         lend_message(r, random_message(r, b));
-        if (r.chance(300) || taken >= 127) c_.deliver(book, some_sender(r, b));
+        if (r.chance(300) || taken >= 127) c_.dvs_deliver(book, some_sender(r, b));
         return;
       }
       const Sent& sent = (*order)[taken];
       if (r.chance(300)) return take_packet(r, book, *order);
       c_.bytes.set(sent.bytes.data(), sent.bytes.size(), flush(r));
-      c_.deliver(book, sent.sender);
+      c_.dvs_deliver(book, sent.sender);
       return;
     }
     lend_event(r, plain::kEventSize);
     switch (which) {
-      case 4: c_.attempt(book); break;
-      case 5: c_.enroll(book); break;
-      case 6: c_.send(book, r.odd_long()); break;
-      case 7: c_.hand(book); break;
-      case 8: c_.tell(book); break;
-      case 9: c_.safe(book); break;
-      default: c_.collect(book); break;
+      case 4: c_.dvs_attempt(book); break;
+      case 5: c_.dvs_register(book); break;
+      case 6: c_.dvs_send(book, r.odd_long()); break;
+      case 7: c_.dvs_hand(book); break;
+      case 8: c_.dvs_tell(book); break;
+      case 9: c_.dvs_safe(book); break;
+      default: c_.dvs_collect(book); break;
     }
   }
 
@@ -214,7 +214,7 @@ class MemberCases {
     for (size_t i = from; i < order.size() && i < most && order[i].sender == order[from].sender; ++i)
       packet.insert(packet.end(), order[i].bytes.begin(), order[i].bytes.end());
     c_.bytes.set(packet.data(), packet.size(), flush(r)), lend_delivery(r, plain::kDeliverySize);
-    c_.deliver_packet(book, order[from].sender);
+    c_.dvs_deliver_packet(book, order[from].sender);
   }
 
   // A copy of a book as a history left it, damaged, and put to some calls.

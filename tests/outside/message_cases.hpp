@@ -42,7 +42,7 @@ class MessageCases {
       size_t at = r.chance(500) ? r.below(20) : r.below(used);
       record[at] = other_byte(r, record[at]);
     }
-    c_.record.set(record, r.chance(990) ? plain::kRecordSize : r.below(plain::kRecordSize), flush(r));
+    c_.message.set(record, r.chance(990) ? plain::kRecordSize : r.below(plain::kRecordSize), flush(r));
   }
 
   void lend_out(Random& r, size_t near) {
@@ -55,17 +55,17 @@ class MessageCases {
 
   void lend_in(Random& r, const uint8_t* bytes, size_t size) {
     c_.bytes.set(bytes, size, flush(r));
-    c_.record.resize(r.chance(990) ? plain::kRecordSize : r.below(200), flush(r));
-    r.fill(c_.record.mine(), c_.record.size()), c_.record.copy_to_theirs();
+    c_.message.resize(r.chance(990) ? plain::kRecordSize : r.below(200), flush(r));
+    r.fill(c_.message.mine(), c_.message.size()), c_.message.copy_to_theirs();
   }
 
   // The bytes as a whole, and the message at their front, over a record and a length of any bytes.
   void read_both(Random& r, const uint8_t* bytes, size_t size) {
-    lend_in(r, bytes, size), c_.read();
+    lend_in(r, bytes, size), c_.dvs_read();
     lend_in(r, bytes, size);
     c_.length.resize(r.chance(990) ? plain::kLengthSize : r.below(9), flush(r));
     r.fill(c_.length.mine(), c_.length.size()), c_.length.copy_to_theirs();
-    c_.read_front();
+    c_.dvs_read_front();
   }
 
  public:
@@ -76,7 +76,7 @@ class MessageCases {
       plain::Message m = any_message(r);
       lend_record(r, m);
       lend_out(r, plain::length(m));
-      c_.write();
+      c_.dvs_write();
       uint8_t bytes[400];
       size_t size = plain::length(m);
       plain::encode(m, bytes);
@@ -107,14 +107,14 @@ class MessageCases {
         for (unsigned value = 0; value < 256; ++value) {
           uint8_t was = record[at];
           record[at] = static_cast<uint8_t>(value);
-          c_.record.set(record, sizeof record, flush(r)), lend_out(r, size), c_.write();
+          c_.message.set(record, sizeof record, flush(r)), lend_out(r, size), c_.dvs_write();
           record[at] = was;
         }
       }
       for (size_t room = 0; room <= size + 2; ++room) {
-        c_.record.set(record, sizeof record, flush(r)), lend_out(r, size);
+        c_.message.set(record, sizeof record, flush(r)), lend_out(r, size);
         c_.buffer.resize(room, room == 0 && n % 2 ? kNull : kBack), c_.buffer.copy_to_theirs();
-        c_.write();
+        c_.dvs_write();
       }
     }
   }

@@ -46,7 +46,7 @@ class Test {
     tally_.seed = seed, tally_.number = number;
     Random r(seed, number);
     // Nothing of an earlier case is left in what calls are lent besides books.
-    for (Lent* lent : {&calls_.event, &calls_.buffer, &calls_.length, &calls_.record, &calls_.answers, &calls_.count,
+    for (Lent* lent : {&calls_.event, &calls_.buffer, &calls_.length, &calls_.message, &calls_.answers, &calls_.count,
                        &calls_.delivery})
       r.fill(lent->mine(), lent->most());
     calls_.usual();
@@ -88,7 +88,7 @@ class Test {
     if (!std::make_unique<Huge>()->run() || !std::make_unique<Stack>()->run()) return 1;
     bool whole = tally_.print();
     print_rate();
-    if (!whole) printf("not every answer that the header names was seen, or another was\n");
+    if (!whole) printf("not every answer of calls.inc was seen, or another was\n");
     return whole ? 0 : 1;
   }
 

@@ -57,7 +57,7 @@ class PacketCases {
   }
 
   // Member 0 of three in view 1 of all of them.
-  void fresh() { c_.start(book_, 3, 7, 0), c_.join(book_, 1, 7); }
+  void fresh() { c_.dvs_start(book_, 3, 7, 0), c_.dvs_join(book_, 1, 7); }
   unsigned taken() { return book_.theirs()[DVS_BOOK_TAKEN]; }
 
   // Over a delivery of any bytes.
@@ -65,11 +65,11 @@ class PacketCases {
     c_.bytes.set(packet.data(), packet.size(), packet.empty() && r_.chance(500) ? kNull : r_.chance(500) ? kFront : kBack);
     c_.delivery.resize(plain::kDeliverySize, kBack);
     r_.fill(c_.delivery.mine(), plain::kDeliverySize), c_.delivery.copy_to_theirs();
-    return c_.deliver_packet(book, sender);
+    return c_.dvs_deliver_packet(book, sender);
   }
   uint32_t put_one(Lent& book, const uint8_t* bytes, size_t size, uint32_t sender) {
     c_.bytes.set(bytes, size, kBack);
-    return c_.deliver(book, sender);
+    return c_.dvs_deliver(book, sender);
   }
 
   struct Came { uint64_t count; uint32_t stop; };
@@ -100,9 +100,9 @@ class PacketCases {
   void empty() {
     fresh(), takes("empty", {}, 0, 0);
     for (uint32_t sender : {3u, 7u, 8u, 255u, 256u, UINT32_MAX}) takes("empty, from no member", {}, 0, 0, sender);
-    c_.join(book_, 2, 1), takes("empty, from one not in the view", {}, 0, 0);
+    c_.dvs_join(book_, 2, 1), takes("empty, from one not in the view", {}, 0, 0);
     takes("from one not in the view", joined({client(2, 5)}), 0, 42);
-    c_.start(book_, 3, 6, 0), takes("empty, without a carrier view", {}, 0, 0);
+    c_.dvs_start(book_, 3, 6, 0), takes("empty, without a carrier view", {}, 0, 0);
     takes("without a carrier view", joined({client(0, 5)}), 0, 13), takes("rubbish without a carrier view", {77}, 0, 13);
     book_.poke(plain::kAtOwn, 3), takes("empty, own number no member's", {}, 0, 0);
     takes("own number no member's", joined({client(0, 5)}), 0, 6);
@@ -178,9 +178,9 @@ class PacketCases {
     expect("told", dvs_book_told(book, 1), 128), expect("taken", taken(), 6), expect("open", book[DVS_BOOK_OPENS], 1);
     takes("of another sender", joined({registered(1), told(1, 9), info(1, 3, 1, 7), client(1, 6)}), 4, 0, 2);
     expect("infos", dvs_book_infos(book), 6), expect("told", dvs_book_told(book, 2), 9), expect("open", book[DVS_BOOK_OPENS], 2);
-    takes("of its own", joined({info(1, 2, 0, 7), client(1, 6)}), 2, 0, 0), expect("attempt", c_.attempt(book_), 0);
+    takes("of its own", joined({info(1, 2, 0, 7), client(1, 6)}), 2, 0, 0), expect("attempt", c_.dvs_attempt(book_), 0);
     for (uint64_t entry : {uint64_t{5}, UINT64_MAX, uint64_t{6}, uint64_t{6}})
-      expect("hand", c_.hand(book_), 0), expect("hand", dvs_event_entry(c_.event.theirs()), entry);
+      expect("hand", c_.dvs_hand(book_), 0), expect("hand", dvs_event_entry(c_.event.theirs()), entry);
   }
 
   // A sender is a number of 32 bits.
@@ -204,17 +204,17 @@ class PacketCases {
     random_book(r, book.data()), c_.usual();
     for (unsigned n = r.below(12); n > 0; --n) {
       plain::store_record(random_message(r, book.data()), record.data());
-      c_.record.set(record.data(), record.size(), kBack);
-      if (c_.write() != plain::kAccepted) continue;
+      c_.message.set(record.data(), record.size(), kBack);
+      if (c_.dvs_write() != plain::kAccepted) continue;
       records.push_back(record);
       packet.insert(packet.end(), c_.buffer.theirs(), c_.buffer.theirs() + dvs_length(c_.length.theirs()));
     }
     size_t at = 0;
     for (const Packet& m : records) {
       c_.bytes.set(&packet[at], packet.size() - at, r.chance(500) ? kFront : kBack);
-      r.fill(c_.record.mine(), plain::kRecordSize), c_.record.copy_to_theirs();
-      expect("what was written", c_.read_front(), 0, "dvs_read_front");
-      expect("what was written", memcmp(c_.record.theirs(), m.data(), plain::kRecordSize) != 0, 0, "dvs_read_front");
+      r.fill(c_.message.mine(), plain::kRecordSize), c_.message.copy_to_theirs();
+      expect("what was written", c_.dvs_read_front(), 0, "dvs_read_front");
+      expect("what was written", memcmp(c_.message.theirs(), m.data(), plain::kRecordSize) != 0, 0, "dvs_read_front");
       at += dvs_length(c_.length.theirs());
     }
     expect("what was written, its end", at, packet.size(), "dvs_read_front");

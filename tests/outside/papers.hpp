@@ -18,12 +18,12 @@ class Papers {
   }
 
   uint32_t step(uint32_t kind, uint32_t first, uint64_t second = 0) {
-    return c_.group_step(list_, books_, queues_, kind, first, second);
+    return c_.dvs_group_step(list_, books_, queues_, kind, first, second);
   }
 
   void start(uint32_t members, uint32_t set, size_t room = 8) {
     list_.resize(5 * room, kBack), books_.resize(plain::kBooksSize, kBack), queues_.resize(plain::queues_size(room), kBack);
-    expect("start", c_.group_start(list_, books_, queues_, members, set), 0);
+    expect("start", c_.dvs_group_start(list_, books_, queues_, members, set), 0);
   }
 
   // The view is made, its members join it, and each takes the infos of all.
@@ -83,11 +83,11 @@ class Papers {
 
   void message(const char* what, std::initializer_list<uint8_t> bytes, uint32_t expected) {
     c_.bytes.set(bytes.begin(), bytes.size(), kBack);
-    expect(what, c_.read(), expected);
+    expect(what, c_.dvs_read(), expected);
   }
 
   void messages() {
-    const uint8_t* record = c_.record.theirs();
+    const uint8_t* record = c_.message.theirs();
     message("registered in view 0", {3, 0, 0, 0, 0, 0, 0}, 0);
     expect("its record", record[DVS_MESSAGE_KIND] == DVS_REGISTERED && plain::get(record + DVS_MESSAGE_VIEW, 4) == 0, 1);
     message("info in view 1", {2, 0, 0, 0, 1, 1, 0, 0, 0, 0, 7, 0}, 0);
@@ -95,7 +95,7 @@ class Papers {
     expect("its views", record[DVS_MESSAGE_COUNT] == 1 && plain::get(record + DVS_MESSAGE_VIEWS, 5) == 7, 1);
     message("the same cut", {2, 0, 0, 0, 1, 1, 0, 0, 0, 0, 7}, 32);
     message("the same with one more", {2, 0, 0, 0, 1, 1, 0, 0, 0, 0, 7, 0, 0}, 38);
-    expect("its front", c_.read_front(), 0), expect("the bytes that it took", dvs_length(c_.length.theirs()), 12);
+    expect("its front", c_.dvs_read_front(), 0), expect("the bytes that it took", dvs_length(c_.length.theirs()), 12);
     message("nothing", {}, 32);
     message("an unknown kind", {5}, 33);
     message("33 views", {2, 0, 0, 0, 1, 33}, 34);

@@ -1,4 +1,4 @@
-// What was called and answered: the table at the end, what the header says each function can answer, and the report of
+// What was called and answered: the table at the end, beside what calls.inc says each function can answer, and the report of
 // a difference.
 #pragma once
 
@@ -23,63 +23,29 @@ constexpr bool named_in_order() {
 constexpr unsigned kAnswers = DVS_REFUSALS + 1;
 static_assert(named_in_order() && sizeof kNamed / sizeof kNamed[0] == kAnswers, "the header's refusals are numbered");
 
-// The exported functions; a group's step is counted by its kind, and a packet by what it came to: a refusal of the call, or
-// the stop, where it took none of its messages and where it took some.
+// The functions and parts of functions that are counted, as the table of calls has them: a packet by what it came to, and a
+// group's step by its kind, whose number is the distance of its part from the step of no kind.
 enum Function : unsigned {
-  kFnStart, kFnJoin, kFnPass, kFnDeliver, kFnPacket, kFnPacketNone, kFnPacketSome, kFnAttempt, kFnRegister, kFnSend,
-  kFnHand, kFnTell, kFnSafe, kFnCollect, kFnCheck, kFnReadFront, kFnRead, kFnWrite, kFnGroupStart, kFnGroupForm,
-  kFnGroupRun, kFnGroupSteps, kFnGroupCheck, kFnStepOther, kFnStepCreate, kFnStepJoin, kFnStepPass, kFnStepOrder,
-  kFnStepDeliver, kFnStepAttempt, kFnStepRegister, kFnStepSend, kFnStepHand, kFnStepTell, kFnStepSafe, kFnStepCollect,
+#define CALL(name, ...) kFn_##name,
+#define PART(name, part, ...) kFn_##name##_##part,
+#include "calls.inc"
   kFunctions
 };
+static_assert(kFn_dvs_group_step_create - kFn_dvs_group_step == DVS_STEP_CREATE, "the first kind of step");
+static_assert(kFn_dvs_group_step_collect - kFn_dvs_group_step == DVS_STEP_COLLECT, "the last kind of step");
 
 struct Promise {
   const char* name;
   bool accepts;
-  const char* refusals;  // in the order in which they are checked
+  uint32_t refusals[kAnswers];  // in the order in which they are checked, then 0
 };
 
-// After include/dvs.h. A group's step of each kind has its row of the specification's table behind 4 and 6. The driver has
-// its own refusals and, of made-up records, those of its steps that can be met; 4 is among these too. A packet that took
-// some of its messages is stopped by no 6, 13 or 42, which the first of them would have got; accepted means that nothing
-// stopped it.
+// What each can answer. Of a function with parts the accepted calls are those of its parts.
 constexpr Promise kPromises[kFunctions] = {
-    {"dvs_start", true, "4 1 2 6"},
-    {"dvs_join", true, "4 6 7 11 12"},
-    {"dvs_pass", true, "4 6 13 14 39"},
-    {"dvs_deliver", true, "4 6 13 32 33 34 35 36 37 38 7 41 42 16 43"},
-    {"dvs_deliver_packet", false, "4"},
-    {"dvs_deliver_packet none", true, "6 13 32 33 34 35 36 37 7 41 42 16 43"},
-    {"dvs_deliver_packet some", true, "32 33 34 35 36 37 7 41 16 43"},
-    {"dvs_attempt", true, "4 6 13 19 20 21 43"},
-    {"dvs_register", true, "4 6 22 23 24"},
-    {"dvs_send", true, "4 6 22 24"},
-    {"dvs_hand", true, "4 6 22 25"},
-    {"dvs_tell", true, "4 6 22 26 27 24"},
-    {"dvs_safe", true, "4 6 22 26 28 29"},
-    {"dvs_collect", true, "4 6 13 30 31"},
-    {"dvs_check", true, "4 6"},
-    {"dvs_read_front", true, "4 32 33 34 35 36 37"},
-    {"dvs_read", true, "4 32 33 34 35 36 37 38"},
-    {"dvs_write", true, "4 33 34 35 36 37 39"},
-    {"dvs_group_start", true, "4 1 2 3"},
-    {"dvs_group_form", true, "4 10 44 45 15 16 19 20 21 30 31"},
-    {"dvs_group_run", true, "4 1 2 3"},
-    {"dvs_group_steps", true, "4"},
-    {"dvs_group_check", true, "4"},
-    {"dvs_group_step ?", false, "4 5"},
-    {"dvs_group_step create", true, "4 7 8 9"},
-    {"dvs_group_step join", true, "4 6 10 11 12"},
-    {"dvs_group_step pass", true, "4 6 13 14 15"},
-    {"dvs_group_step order", true, "4 6 10 17 16"},
-    {"dvs_group_step deliver", true, "4 6 13 18"},
-    {"dvs_group_step attempt", true, "4 6 13 19 20 21"},
-    {"dvs_group_step register", true, "4 6 22 23 24"},
-    {"dvs_group_step send", true, "4 6 22 24"},
-    {"dvs_group_step hand", true, "4 6 22 25"},
-    {"dvs_group_step tell", true, "4 6 22 26 27 24"},
-    {"dvs_group_step safe", true, "4 6 22 26 28 29"},
-    {"dvs_group_step collect", true, "4 6 13 30 31"},
+#define CALL(name, ...) {#name, true, {__VA_ARGS__}},
+#define SPLIT(name, ...) {#name, false, {__VA_ARGS__}},
+#define PART(name, part, ...) {#name " " #part, true, {__VA_ARGS__}},
+#include "calls.inc"
 };
 
 class Tally {
@@ -115,8 +81,8 @@ class Tally {
   }
   uint64_t bytes() const { return bytes_; }
 
-  // Prints the table. False if an answer that the header names was never seen, or another was, or no list left a group
-  // unsound before its last step.
+  // Prints the table. False if an answer that calls.inc has was never seen, or another was, or no list left a group unsound
+  // before its last step.
   bool print() const {
     bool whole = true;
     printf("%-24s %10s %10s  refusals seen, each with its number of times\n", "function", "calls", "accepted");
@@ -125,16 +91,13 @@ class Tally {
       printf("%-24s %10" PRIu64 " %10" PRIu64 " ", p.name, calls(static_cast<Function>(f)), seen_[f][0]);
       bool named[kAnswers] = {};
       named[0] = p.accepts;
-      for (const char* at = p.refusals; *at;) {
-        char* end;
-        auto r = strtoul(at, &end, 10);
-        named[r] = true;
-        printf(" %lu:%" PRIu64, r, seen_[f][r]);
-        at = end;
+      for (const uint32_t* r = p.refusals; *r != 0; ++r) {
+        named[*r] = true;
+        printf(" %" PRIu32 ":%" PRIu64, *r, seen_[f][*r]);
       }
       for (unsigned a = 0; a < kAnswers; ++a) {
         if (named[a] == (seen_[f][a] > 0)) continue;
-        printf(named[a] ? "  NEVER SEEN: %u" : "  NOT NAMED IN THE HEADER: %u", a);
+        printf(named[a] ? "  NEVER SEEN: %u" : "  NOT IN THE TABLE: %u", a);
         whole = false;
       }
       printf("\n");
