@@ -33,27 +33,24 @@ static const unsigned refusals[] = {
 };
 HOLDS(refusals_numbered, sizeof refusals / sizeof refusals[0] == DVS_REFUSALS + 1);
 
-unsigned use(uint8_t *at, size_t size);
+/* Every call, each range being the same bytes and each number 1. */
+#define RANGE_USED(range) at, size
+#define NUMBER_USED(type, name) 1
+#define CALL(name, ...) sum += name(name##_takes(RANGE_USED, RANGE_USED, NUMBER_USED));
+#define GIVES(type, name) sum += name(name##_takes(RANGE_USED, RANGE_USED, NUMBER_USED));
+uint64_t use(uint8_t *at, size_t size);
 
-unsigned use(uint8_t *at, size_t size) {
-  uint32_t sum = refusals[size % (DVS_REFUSALS + 1)];
-  sum += dvs_start(at, size, 1, 1, 0) + dvs_join(at, size, 1, 1) + dvs_pass(at, size, at, size, at, size);
-  sum += dvs_deliver(at, size, at, size, 0) + dvs_attempt(at, size, at, size) + dvs_register(at, size, at, size);
-  sum += dvs_send(at, size, 1, at, size) + dvs_hand(at, size, at, size) + dvs_tell(at, size) + dvs_safe(at, size, at, size);
-  sum += dvs_collect(at, size) + dvs_read(at, size, at, size) + dvs_write(at, size, at, size, at, size);
-  sum += dvs_deliver_packet(at, size, at, size, 0, at, size) + dvs_read_front(at, size, at, size, at, size);
-  sum += dvs_group_start(at, size, at, size, at, size, 1, 1);
-  sum += dvs_group_step(at, size, at, size, at, size, 1, 1, 1, at, size);
-  sum += dvs_group_form(at, size, at, size, at, size, 1, at, size);
-  sum += dvs_group_steps(at, size, at, size, at, size, at, size, at, size);
-  sum += dvs_check(at, size) + dvs_group_check(at, size, at, size, at, size) + dvs_version() + (unsigned)*dvs_refusal_text(sum);
-  return sum + dvs_group_run(at, size, at, size, at, size, 1, 1, at, size, at, size);
+uint64_t use(uint8_t *at, size_t size) {
+  uint64_t sum = refusals[size % (DVS_REFUSALS + 1)];
+#include "calls.inc"
+  return sum + (unsigned)*dvs_refusal_text((uint32_t)sum);
 }
 
+/* Every reader. */
 uint64_t look(const uint8_t *at);
 
 uint64_t look(const uint8_t *at) {
-  uint64_t sum = dvs_size(DVS_SIZE_BOOK, 0) + dvs_get32(at) + dvs_get64(at) + dvs_length(at) + dvs_view_identifier(at) + dvs_view_set(at);
+  uint64_t sum = dvs_get32(at) + dvs_get64(at) + dvs_length(at) + dvs_view_identifier(at) + dvs_view_set(at);
   sum += dvs_event_kind(at) + dvs_event_member(at) + dvs_event_view(at) + dvs_event_set(at) + dvs_event_sender(at) + dvs_event_entry(at);
   sum += dvs_message_kind(at) + dvs_message_view(at) + dvs_message_number(at) + dvs_message_count(at);
   sum += dvs_view_set(dvs_message_views(at, 1)) + dvs_book_infos(at) + dvs_book_registrations(at) + dvs_book_told(at, 7);

@@ -1,5 +1,5 @@
 /* The C header in a C99 program: a book, its event read by the header's readers, a packet, a view formed, a list of steps, words, and what a shared object
- * answers where one is linked. */
+ * answers where one is linked. Besides, every call is made once with no bytes in any range, so every name of the header is linked. */
 #include <dvs.h>
 
 #include <string.h>
@@ -54,6 +54,10 @@ int main(void) {
   if (strcmp(dvs_refusal_text(DVS_ACCEPTED), "accepted") != 0) return 35;
   if (strcmp(dvs_refusal_text(DVS_REFUSED_NO_SUCH_MEMBER), "there is no such member") != 0) return 36;
   if (strcmp(dvs_refusal_text(DVS_REFUSALS + 1), "no refusal of this library") != 0) return 37;
+#define NO_BYTES(range) NULL, 0
+#define ZERO(type, name) 0
+#define CALL(name, ...) if (name(name##_takes(NO_BYTES, NO_BYTES, ZERO)) != DVS_REFUSED_RECORDS_UNSOUND) return 38;
+#include "../outside/calls.inc"
 #ifdef SHARED
   if (in_a_shared_object(book) != DVS_VERSION) return 17;
 #endif
