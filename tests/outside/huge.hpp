@@ -2,6 +2,9 @@
 // memory as far as addresses go, and nobody touches more than their fronts.
 #pragma once
 
+#include <initializer_list>
+#include <vector>
+
 #include "calls.hpp"
 
 namespace outside {
@@ -15,6 +18,23 @@ class Huge {
 
   // Room for five times 32 bits, 10 bytes more, and as much as any queue has behind it.
   static constexpr size_t kAll = 5 * kFar + (size_t{1} << 21);
+
+  // The ranges of calls.inc: those of a group with room for two views, and one step with its answer.
+  enum Range : unsigned {
+#define RANGE(name, length) k_##name,
+#include "calls.inc"
+    kRanges
+  };
+  static constexpr size_t ANY = 0, VIEWS = 2, RECORDS = 1;
+  static constexpr size_t kRight[kRanges] = {
+#define RANGE(name, length) length,
+#include "calls.inc"
+  };
+  std::vector<uint8_t> own_[kRanges];
+  unsigned far_ = kRanges;  // the range that is lent with a length beyond 32 bits
+
+  uint8_t* at(Range r) { return r == far_ ? at_ : own_[r].data(); }
+  size_t size(Range r) { return r == far_ ? kFar + own_[r].size() : own_[r].size(); }
 
   void lend(const uint8_t* bytes, size_t size) {
     memset(at_, 0, kFrontSize);
@@ -30,36 +50,50 @@ class Huge {
     right_ = false;
   }
 
+  // A member, a message and a group as they are started, in the ranges.
+  void start() {
+    for (unsigned r = 0; r < kRanges; ++r) own_[r].assign(kRight[r], 0);
+    own_[k_bytes] = {plain::kRegistered, 0, 0, 0, 0, 0, 0}, own_[k_buffer].resize(plain::kLongest);
+    own_[k_message][0] = plain::kRegistered;
+    plain::store_fresh(own_[k_book].data(), 2, 3, 0);
+    if (dvs_group_start(at(k_list), size(k_list), at(k_books), size(k_books), at(k_queues), size(k_queues), 2, 3) != 0) right_ = false;
+  }
+
+  // A call with each of its ranges in turn too long, if it is one that has a right length: it is refused, and nothing changes.
+  template <class Call> void each(const char* name, std::initializer_list<unsigned> taken, Call call) {
+    for (unsigned r : taken) {
+      if (r == kRanges || kRight[r] == ANY) continue;
+      start(), lend(own_[r].data(), own_[r].size());
+      std::vector<uint8_t> before[kRanges];
+      for (unsigned i = 0; i < kRanges; ++i) before[i] = own_[i];
+      far_ = r, expect(name, call(), DVS_REFUSED_RECORDS_UNSOUND), far_ = kRanges;
+      for (unsigned i = 0; i < kRanges; ++i)
+        if (own_[i] != before[i]) expect(name, 1, 0);
+    }
+  }
+
+  void every_call() {
+#define RANGE_OF(range) k_##range
+#define NO_RANGE(type, name) kRanges
+#define LENT(range) at(k_##range), size(k_##range)
+#define ONE(type, name) type{1}
+#define CALL(name, ...) each(#name, {name##_takes(RANGE_OF, RANGE_OF, NO_RANGE)}, [&] { return ::name(name##_takes(LENT, LENT, ONE)); });
+#include "calls.inc"
+#undef RANGE_OF
+#undef NO_RANGE
+#undef LENT
+#undef ONE
+  }
+
+  // Ranges that may have any length.
   void member() {
-    uint8_t fresh[plain::kBookSize], book[plain::kBookSize], event[plain::kEventSize] = {}, length[plain::kLengthSize] = {};
-    uint8_t registered[7] = {3, 0, 0, 0, 0, 0, 0}, buffer[plain::kLongest], delivery[plain::kDeliverySize] = {};
+    uint8_t fresh[plain::kBookSize], book[plain::kBookSize], length[plain::kLengthSize] = {}, delivery[plain::kDeliverySize] = {};
+    uint8_t registered[7] = {3, 0, 0, 0, 0, 0, 0};
     plain::store_fresh(fresh, 2, 3, 0);
     memcpy(book, fresh, sizeof book);
-    size_t far = kFar + plain::kBookSize, far_event = kFar + plain::kEventSize;
+    // Of a buffer only the message's place is written.
     lend(fresh, sizeof fresh);
-    expect("dvs_start", dvs_start(at_, far, 2, 3, 1), 4);
-    expect("dvs_join", dvs_join(at_, far, 1, 3), 4);
-    expect("dvs_pass", dvs_pass(at_, far, buffer, sizeof buffer, length, sizeof length), 4);
-    expect("dvs_deliver", dvs_deliver(at_, far, registered, sizeof registered, 0), 4);
-    expect("dvs_deliver_packet", dvs_deliver_packet(at_, far, registered, sizeof registered, 0, delivery, sizeof delivery), 4);
-    expect("dvs_attempt", dvs_attempt(at_, far, event, sizeof event), 4);
-    expect("dvs_register", dvs_register(at_, far, event, sizeof event), 4);
-    expect("dvs_send", dvs_send(at_, far, 5, event, sizeof event), 4);
-    expect("dvs_hand", dvs_hand(at_, far, event, sizeof event), 4);
-    expect("dvs_tell", dvs_tell(at_, far), 4);
-    expect("dvs_safe", dvs_safe(at_, far, event, sizeof event), 4);
-    expect("dvs_collect", dvs_collect(at_, far), 4);
-    expect("dvs_check", dvs_check(at_, far), 4);
-    expect("dvs_attempt", dvs_attempt(book, sizeof book, at_, far_event), 4);
-    expect("dvs_register", dvs_register(book, sizeof book, at_, far_event), 4);
-    expect("dvs_send", dvs_send(book, sizeof book, 5, at_, far_event), 4);
-    expect("dvs_hand", dvs_hand(book, sizeof book, at_, far_event), 4);
-    expect("dvs_safe", dvs_safe(book, sizeof book, at_, far_event), 4);
-    expect("dvs_deliver_packet", dvs_deliver_packet(book, sizeof book, registered, 7, 0, at_, kFar + plain::kDeliverySize), 4);
-    if (memcmp(book, fresh, sizeof book) != 0) expect("a book", 1, 0);
-    dvs_join(book, sizeof book, 1, 3);
-    expect("dvs_pass", dvs_pass(book, sizeof book, buffer, sizeof buffer, at_, kFar + plain::kLengthSize), 4);
-    // A buffer may have any length; only the message's place in it is written.
+    if (dvs_join(book, sizeof book, 1, 3) != 0) right_ = false;
     expect("dvs_pass", dvs_pass(book, sizeof book, at_, kFar, length, sizeof length), 0, 12);
     memcpy(book, fresh, sizeof book);
     lend(registered, sizeof registered);
@@ -73,29 +107,20 @@ class Huge {
   }
 
   void messages() {
-    uint8_t registered[7] = {3, 0, 0, 0, 0, 0, 0}, record[plain::kRecordSize] = {3};
-    uint8_t buffer[plain::kLongest], length[plain::kLengthSize];
+    uint8_t registered[7] = {3, 0, 0, 0, 0, 0, 0}, record[plain::kRecordSize] = {3}, length[plain::kLengthSize];
     lend(registered, sizeof registered);
     expect("dvs_read", dvs_read(at_, kFar + 7, record, sizeof record), 38);
-    expect("dvs_read", dvs_read(registered, 7, at_, kFar + plain::kRecordSize), 4);
     expect("dvs_read_front", dvs_read_front(at_, kFar + 7, record, sizeof record, length, sizeof length), 0);
     expect("the bytes it took", static_cast<uint32_t>(dvs_length(length)), 7);
-    expect("dvs_read_front", dvs_read_front(registered, 7, at_, kFar + plain::kRecordSize, length, sizeof length), 4);
-    expect("dvs_read_front", dvs_read_front(registered, 7, record, sizeof record, at_, kFar + plain::kLengthSize), 4);
-    expect("dvs_write", dvs_write(at_, kFar + plain::kRecordSize, buffer, sizeof buffer, length, sizeof length), 4);
-    expect("dvs_write", dvs_write(record, sizeof record, buffer, sizeof buffer, at_, kFar + plain::kLengthSize), 4);
     expect("dvs_write", dvs_write(record, sizeof record, at_, kFar, length, sizeof length), 0, 7);
   }
 
+  // Lists and steps of whole records.
   void group() {
-    size_t books_size = plain::kBooksSize, queues_size = plain::queues_size(2);
-    uint8_t list[10], event[plain::kEventSize], count[plain::kLengthSize] = {};
-    uint8_t step[plain::kStepSize] = {}, answer[plain::kAnswerSize];
-    Lent books("books", books_size), queues("queues", queues_size);
-    books.resize(books_size, kBack), queues.resize(queues_size, kBack);
-    uint8_t *b = books.theirs(), *q = queues.theirs();
-    if (dvs_group_start(list, 10, b, books_size, q, queues_size, 2, 3) != 0) right_ = false;
-    lend(list, 10);
+    start();
+    uint8_t *l = at(k_list), *b = at(k_books), *q = at(k_queues), *event = at(k_event), *count = at(k_count), *step = at(k_steps), *answer = at(k_answers);
+    size_t books_size = size(k_books), queues_size = size(k_queues);
+    lend(l, 10);
     for (size_t far : {kFar * 5 + 10, kFar + 4 + 10}) {
       expect("dvs_group_step", dvs_group_step(at_, far, b, books_size, q, queues_size, 8, 0, 5, event, 16), 4);
       expect("dvs_group_form", dvs_group_form(at_, far, b, books_size, q, queues_size, 0, count, 4), 4);
@@ -103,24 +128,11 @@ class Huge {
       expect("dvs_group_start", dvs_group_start(at_, far, b, books_size, q, queues_size, 2, 3), 3);
       expect("dvs_group_start", dvs_group_start(at_, far + 1, b, books_size, q, queues_size, 2, 3), 4);
     }
-    lend(b, books_size);
-    expect("dvs_group_step", dvs_group_step(list, 10, at_, kFar + books_size, q, queues_size, 8, 0, 5, event, 16), 4);
-    expect("dvs_group_form", dvs_group_form(list, 10, at_, kFar + books_size, q, queues_size, 0, count, 4), 4);
-    expect("dvs_group_steps", dvs_group_steps(list, 10, at_, kFar + books_size, q, queues_size, step, 13, answer, 17), 4);
-    expect("dvs_group_start", dvs_group_start(list, 10, at_, kFar + books_size, q, queues_size, 2, 3), 4);
-    lend(q, queues_size);
-    expect("dvs_group_step", dvs_group_step(list, 10, b, books_size, at_, kFar + queues_size, 8, 0, 5, event, 16), 4);
-    expect("dvs_group_form", dvs_group_form(list, 10, b, books_size, at_, kFar + queues_size, 0, count, 4), 4);
-    expect("dvs_group_steps", dvs_group_steps(list, 10, b, books_size, at_, kFar + queues_size, step, 13, answer, 17), 4);
-    expect("dvs_group_steps", dvs_group_steps(list, 10, b, books_size, q, queues_size, step, 13, at_, kFar + 17), 4);
-    expect("dvs_group_form", dvs_group_form(list, 10, b, books_size, q, queues_size, 0, at_, kFar + 4), 4);
-    expect("dvs_group_start", dvs_group_start(list, 10, b, books_size, at_, kFar + queues_size, 2, 3), 4);
-    expect("dvs_group_step", dvs_group_step(list, 10, b, books_size, q, queues_size, 8, 0, 5, at_, kFar + 16), 4);
-    expect("dvs_group_check", dvs_group_check(list, 10, b, books_size, at_, kFar + queues_size), 4);
     // 330382100 steps of 13 bytes are 4 bytes more than 32 bits hold; the answers are one record.
+    lend(step, 13);
     size_t steps = plain::kStepSize * ((kFar + plain::kStepSize) / plain::kStepSize);
-    expect("dvs_group_run", dvs_group_run(list, 10, b, books_size, q, queues_size, 2, 3, at_, steps, answer, sizeof answer), 4);
-    expect("dvs_group_steps", dvs_group_steps(list, 10, b, books_size, q, queues_size, at_, steps, answer, sizeof answer), 4);
+    expect("dvs_group_run", dvs_group_run(l, 10, b, books_size, q, queues_size, 2, 3, at_, steps, answer, 17), 4);
+    expect("dvs_group_steps", dvs_group_steps(l, 10, b, books_size, q, queues_size, at_, steps, answer, 17), 4);
   }
 
  public:
@@ -133,7 +145,7 @@ class Huge {
     void* all = mmap(nullptr, kAll, PROT_READ | PROT_WRITE, MAP_PRIVATE | MAP_ANONYMOUS | MAP_NORESERVE, -1, 0);
     if (all == MAP_FAILED) return printf("no room for lengths beyond 32 bits here: they were not tried\n"), true;
     at_ = static_cast<uint8_t*>(all);
-    member(), messages(), group();
+    every_call(), member(), messages(), group();
     munmap(all, kAll);
     printf("%u calls with lengths beyond 32 bits\n", calls_);
     return right_;

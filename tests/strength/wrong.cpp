@@ -8,18 +8,24 @@
 //
 // Only the tenth call that could show the fault has it. The driver, lists of steps, packets, one message delivered and the reader's front have faults
 // of their own, in every call: wrong_driver.hpp, wrong_list.hpp, wrong_packet.hpp.
+#include <cstdio>
 #include <cstdlib>
 #include <cstring>
 #include <initializer_list>
 
-#include "../../include/dvs.h"
+#include "real.hpp"
 #include "wrong_driver.hpp"
 #include "wrong_list.hpp"
 #include "wrong_packet.hpp"
 
 namespace {
 
-struct Range { uint8_t* at; size_t size; };
+// What a call takes: a range that it may write, or something else.
+struct Taken {
+  bool written;
+  uint8_t* at;
+  size_t size;
+};
 
 const char* word(const char* name) {
   const char* value = getenv(name);
@@ -30,12 +36,16 @@ const char *const function = word("WRONG_FUNCTION"), *const fault = word("WRONG_
 const long range = strtol(word("WRONG_RANGE"), nullptr, 10);
 unsigned left = 10;
 
-uint32_t spoil(const char* name, uint32_t answer, std::initializer_list<Range> ranges) {
+// Puts the fault into what a call answered and left. A call that writes no range can have one in its answer alone.
+uint32_t spoil(const char* name, uint32_t answer, std::initializer_list<Taken> all) {
   if (strcmp(name, function) != 0) return answer;
-  bool on_refusal = strcmp(fault, "refused") == 0;
-  const Range& of = ranges.begin()[range];
-  if ((answer != 0) != on_refusal || of.size == 0 || left == 0 || --left > 0) return answer;
-  if (strcmp(fault, "answer") == 0) return DVS_REFUSED_RECORDS_UNSOUND;
+  bool on_refusal = strcmp(fault, "refused") == 0, in_answer = strcmp(fault, "answer") == 0;
+  Taken of{};
+  long before = range;
+  for (const Taken& one : all)
+    if (one.written && before-- == 0) of = one;
+  if ((answer != 0) != on_refusal || (of.size == 0 && !in_answer) || left == 0 || --left > 0) return answer;
+  if (in_answer) return DVS_REFUSED_RECORDS_UNSOUND;
   if (strcmp(fault, "outside") == 0) {
     // One of the two is in a page that nothing may touch.
     static_cast<volatile uint8_t*>(of.at)[-1] = 0;
@@ -46,99 +56,51 @@ uint32_t spoil(const char* name, uint32_t answer, std::initializer_list<Range> r
   return answer;
 }
 
+// Whether the call is to be made by code of its own: the names of such faults have a hyphen.
+bool otherwise(const char* name) { return strcmp(name, function) == 0 && strchr(fault, '-'); }
+
+// A type for each call, by which its own code is found.
+#define CALL(name, ...) struct Other_##name {};
+#include "../outside/calls.inc"
+
+uint32_t make(Other_dvs_deliver, PARAMETERS(dvs_deliver)) { return WrongPacket{fault}.deliver(book, book_size, bytes, bytes_size, sender); }
+uint32_t make(Other_dvs_deliver_packet, PARAMETERS(dvs_deliver_packet)) {
+  return WrongPacket{fault}.packet(book, book_size, bytes, bytes_size, sender, delivery, delivery_size);
+}
+uint32_t make(Other_dvs_read_front, PARAMETERS(dvs_read_front)) {
+  return WrongPacket{fault}.read_front(bytes, bytes_size, message, message_size, length, length_size);
+}
+uint32_t make(Other_dvs_group_form, PARAMETERS(dvs_group_form)) {
+  return WrongDriver{{fault, list, books, queues, list_size, books_size, queues_size}, view}.form(count, count_size);
+}
+uint32_t make(Other_dvs_group_steps, PARAMETERS(dvs_group_steps)) {
+  return WrongList{{fault, list, books, queues, list_size, books_size, queues_size}}.steps(steps, steps_size, answers, answers_size);
+}
+// Every other call has none.
+template <class Other, class... All> uint32_t make(Other, All...) {
+  fprintf(stderr, "%s has no fault %s\n", function, fault);
+  exit(2);
+}
+
 }  // namespace
 
-// The real function `NAME`, and the one that is called in its place: spoiled in the ranges R.
-#define WRAP(NAME, PARAMETERS, ARGUMENTS, ...)                                        \
-  extern "C" uint32_t __real_##NAME PARAMETERS;                                       \
-  extern "C" uint32_t __wrap_##NAME PARAMETERS;                                       \
-  extern "C" uint32_t __wrap_##NAME PARAMETERS {                                      \
-    return spoil(#NAME, __real_##NAME ARGUMENTS, {__VA_ARGS__});                      \
+// What is called in the place of each of the library's calls.
+#define RANGE_ARGUMENT(range) range, range##_size
+#define NUMBER_ARGUMENT(type, name) name
+#define ARGUMENTS(name) name##_takes(RANGE_ARGUMENT, RANGE_ARGUMENT, NUMBER_ARGUMENT)
+#define WRITTEN(range) Taken{true, range, range##_size}
+#define NOT_WRITTEN(...) Taken{}
+
+#define CALL(name, ...)                                                                                                        \
+  extern "C" uint32_t __wrap_##name(PARAMETERS(name));                                                                         \
+  extern "C" uint32_t __wrap_##name(PARAMETERS(name)) {                                                                        \
+    if (otherwise(#name)) return make(Other_##name(), ARGUMENTS(name));                                                        \
+    return spoil(#name, __real_##name(ARGUMENTS(name)), {name##_takes(NOT_WRITTEN, WRITTEN, NOT_WRITTEN)});                    \
   }
-
-// Of a function that has no refusals.
-#define WRAP_NUMBER(TYPE, NAME, PARAMETERS, ARGUMENTS)                                               \
-  extern "C" TYPE __real_##NAME PARAMETERS;                                                          \
-  extern "C" TYPE __wrap_##NAME PARAMETERS;                                                          \
-  extern "C" TYPE __wrap_##NAME PARAMETERS {                                                         \
-    return __real_##NAME ARGUMENTS + (strcmp(#NAME, function) == 0 && strcmp(fault, "answer") == 0); \
+// A call that gives a number gives another one.
+#define GIVES(type, name)                                                                                                      \
+  extern "C" type __wrap_##name(PARAMETERS(name));                                                                             \
+  extern "C" type __wrap_##name(PARAMETERS(name)) {                                                                            \
+    return __real_##name(ARGUMENTS(name)) + (strcmp(#name, function) == 0 && strcmp(fault, "answer") == 0);                    \
   }
-
-#define BOOK uint8_t *book, size_t book_size
-#define EVENT uint8_t *event, size_t event_size
-#define THREE uint8_t *list, size_t list_size, uint8_t *books, size_t books_size, uint8_t *queues, size_t queues_size
-#define CONST_THREE const uint8_t *list, size_t list_size, const uint8_t *books, size_t books_size, const uint8_t *queues, size_t queues_size
-#define LISTS const uint8_t *steps, size_t steps_size, uint8_t *answers, size_t answers_size
-#define IN(NAME) Range { NAME, NAME##_size }
-// What is only read: such a call has a fault in its answer alone.
-#define READ(NAME) Range { nullptr, NAME##_size }
-
-WRAP(dvs_start, (BOOK, uint32_t m, uint32_t s, uint32_t o), (book, book_size, m, s, o), IN(book))
-WRAP(dvs_join, (BOOK, uint32_t v, uint32_t s), (book, book_size, v, s), IN(book))
-WRAP(dvs_pass, (BOOK, uint8_t* buffer, size_t buffer_size, uint8_t* length, size_t length_size),
-     (book, book_size, buffer, buffer_size, length, length_size), IN(book), IN(buffer), IN(length))
-WRAP(dvs_attempt, (BOOK, EVENT), (book, book_size, event, event_size), IN(book), IN(event))
-WRAP(dvs_register, (BOOK, EVENT), (book, book_size, event, event_size), IN(book), IN(event))
-WRAP(dvs_send, (BOOK, uint64_t e, EVENT), (book, book_size, e, event, event_size), IN(book), IN(event))
-WRAP(dvs_hand, (BOOK, EVENT), (book, book_size, event, event_size), IN(book), IN(event))
-WRAP(dvs_tell, (BOOK), (book, book_size), IN(book))
-WRAP(dvs_safe, (BOOK, EVENT), (book, book_size, event, event_size), IN(book), IN(event))
-WRAP(dvs_collect, (BOOK), (book, book_size), IN(book))
-WRAP(dvs_read, (const uint8_t* bytes, size_t bytes_size, uint8_t* message, size_t message_size),
-     (bytes, bytes_size, message, message_size), IN(message))
-// One message, a packet and the reader's front, or wrong ones in their place.
-static bool has_fault(const char* name, const char* sort) { return strcmp(function, name) == 0 && strncmp(fault, sort, strlen(sort)) == 0; }
-
-extern "C" uint32_t __wrap_dvs_deliver(BOOK, const uint8_t* bytes, size_t bytes_size, uint32_t s);
-extern "C" uint32_t __wrap_dvs_deliver(BOOK, const uint8_t* bytes, size_t bytes_size, uint32_t s) {
-  if (has_fault("dvs_deliver", "deliver-")) return WrongPacket{fault}.deliver(book, book_size, bytes, bytes_size, s);
-  return spoil("dvs_deliver", __real_dvs_deliver(book, book_size, bytes, bytes_size, s), {IN(book)});
-}
-extern "C" uint32_t __real_dvs_deliver_packet(BOOK, const uint8_t* bytes, size_t bytes_size, uint32_t s, uint8_t* delivery, size_t delivery_size);
-extern "C" uint32_t __wrap_dvs_deliver_packet(BOOK, const uint8_t* bytes, size_t bytes_size, uint32_t s, uint8_t* delivery, size_t delivery_size);
-extern "C" uint32_t __wrap_dvs_deliver_packet(BOOK, const uint8_t* bytes, size_t bytes_size, uint32_t s, uint8_t* delivery, size_t delivery_size) {
-  if (has_fault("dvs_deliver_packet", "packet-"))
-    return WrongPacket{fault}.packet(book, book_size, bytes, bytes_size, s, delivery, delivery_size);
-  uint32_t answer = __real_dvs_deliver_packet(book, book_size, bytes, bytes_size, s, delivery, delivery_size);
-  return spoil("dvs_deliver_packet", answer, {IN(book), IN(delivery)});
-}
-extern "C" uint32_t __real_dvs_read_front(const uint8_t* bytes, size_t bytes_size, uint8_t* message, size_t message_size, uint8_t* length, size_t length_size);
-extern "C" uint32_t __wrap_dvs_read_front(const uint8_t* bytes, size_t bytes_size, uint8_t* message, size_t message_size, uint8_t* length, size_t length_size);
-extern "C" uint32_t __wrap_dvs_read_front(const uint8_t* bytes, size_t bytes_size, uint8_t* message, size_t message_size, uint8_t* length, size_t length_size) {
-  if (has_fault("dvs_read_front", "front-"))
-    return WrongPacket{fault}.read_front(bytes, bytes_size, message, message_size, length, length_size);
-  uint32_t answer = __real_dvs_read_front(bytes, bytes_size, message, message_size, length, length_size);
-  return spoil("dvs_read_front", answer, {IN(message), IN(length)});
-}
-WRAP(dvs_write, (const uint8_t* message, size_t message_size, uint8_t* buffer, size_t buffer_size, uint8_t* length, size_t length_size),
-     (message, message_size, buffer, buffer_size, length, length_size), IN(buffer), IN(length))
-WRAP(dvs_group_start, (THREE, uint32_t m, uint32_t s), (list, list_size, books, books_size, queues, queues_size, m, s),
-     IN(list), IN(books), IN(queues))
-WRAP(dvs_group_step, (THREE, uint32_t k, uint32_t f, uint64_t s, EVENT),
-     (list, list_size, books, books_size, queues, queues_size, k, f, s, event, event_size), IN(list), IN(books), IN(queues), IN(event))
-// The driver, or a wrong one in its place.
-extern "C" uint32_t __real_dvs_group_form(THREE, uint32_t v, uint8_t* count, size_t count_size);
-extern "C" uint32_t __wrap_dvs_group_form(THREE, uint32_t v, uint8_t* count, size_t count_size);
-extern "C" uint32_t __wrap_dvs_group_form(THREE, uint32_t v, uint8_t* count, size_t count_size) {
-  if (has_fault("dvs_group_form", "driver-"))
-    return WrongDriver{{fault, list, books, queues, list_size, books_size, queues_size}, v}.form(count, count_size);
-  uint32_t answer = __real_dvs_group_form(list, list_size, books, books_size, queues, queues_size, v, count, count_size);
-  return spoil("dvs_group_form", answer, {IN(list), IN(books), IN(queues), IN(count)});
-}
-WRAP(dvs_group_run, (THREE, uint32_t m, uint32_t s, LISTS),
-     (list, list_size, books, books_size, queues, queues_size, m, s, steps, steps_size, answers, answers_size), IN(list), IN(books), IN(queues),
-     IN(answers))
-// A list of steps, or a wrong one in its place.
-extern "C" uint32_t __real_dvs_group_steps(THREE, LISTS);
-extern "C" uint32_t __wrap_dvs_group_steps(THREE, LISTS);
-extern "C" uint32_t __wrap_dvs_group_steps(THREE, LISTS) {
-  if (has_fault("dvs_group_steps", "list-"))
-    return WrongList{{fault, list, books, queues, list_size, books_size, queues_size}}.steps(steps, steps_size, answers, answers_size);
-  uint32_t answer =
-      __real_dvs_group_steps(list, list_size, books, books_size, queues, queues_size, steps, steps_size, answers, answers_size);
-  return spoil("dvs_group_steps", answer, {IN(list), IN(books), IN(queues), IN(answers)});
-}
-WRAP(dvs_check, (const uint8_t* book, size_t book_size), (book, book_size), READ(book))
-WRAP(dvs_group_check, (CONST_THREE), (list, list_size, books, books_size, queues, queues_size), READ(list))
-WRAP_NUMBER(uint32_t, dvs_version, (void), ())
-WRAP_NUMBER(uint64_t, dvs_size, (uint32_t range_number, uint32_t views), (range_number, views))
+#include "../outside/calls.inc"

@@ -3,10 +3,7 @@
 
 #include <cstring>
 
-#include "../../include/dvs.h"
-
-extern "C" uint32_t __real_dvs_group_step(uint8_t*, size_t, uint8_t*, size_t, uint8_t*, size_t, uint32_t, uint32_t, uint64_t, uint8_t*, size_t);
-extern "C" uint32_t __real_dvs_group_check(const uint8_t*, size_t, const uint8_t*, size_t, const uint8_t*, size_t);
+#include "real.hpp"
 
 struct WrongGroup {
   const char* fault;

@@ -35,11 +35,7 @@
 #include <cstring>
 #include <vector>
 
-#include "../../include/dvs.h"
-
-extern "C" uint32_t __real_dvs_deliver(uint8_t*, size_t, const uint8_t*, size_t, uint32_t);
-extern "C" uint32_t __real_dvs_check(const uint8_t*, size_t);
-extern "C" uint32_t __real_dvs_read(const uint8_t*, size_t, uint8_t*, size_t);
+#include "real.hpp"
 
 struct WrongPacket {
   const char* fault;
