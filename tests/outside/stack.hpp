@@ -31,8 +31,11 @@ class Stack {
   ucontext_t here_, there_;
   size_t driver_ = 0, other_ = 0;
 
-  std::vector<uint8_t> list_, books_, queues_;
-  uint8_t event_[DVS_EVENT_SIZE], length_[DVS_LENGTH_SIZE], buffer_[DVS_LONGEST], delivery_[DVS_DELIVERY_SIZE];
+  // The ranges of calls.inc, with whatever they hold.
+  struct Ranges {
+#define RANGE(name, length) std::vector<uint8_t> name;
+#include "calls.inc"
+  } lent_;
 
   // The deepest that the call comes is kept in `deepest`.
   void measure(size_t& deepest, const std::function<void()>& call) {
@@ -47,72 +50,62 @@ class Stack {
     if (kSize - free > deepest) deepest = kSize - free;
   }
 
-  void lend(size_t views) {
-    list_.resize(DVS_LIST_SIZE(views)), books_.resize(DVS_BOOKS_SIZE), queues_.resize(DVS_QUEUES_SIZE(views));
+  // Lends a group's ranges with room for so many views, a list of one step of each kind, and all else at its length.
+  void lend(size_t VIEWS) {
+    constexpr size_t RECORDS = 12, ANY = DVS_LONGEST;
+#define RANGE(name, length) lent_.name.resize(length);
+#include "calls.inc"
+    for (uint8_t kind = 1; kind <= RECORDS; ++kind) plain::put_step(&lent_.steps[DVS_STEP_SIZE * (kind - 1u)], {kind, kind % 3u, 1});
   }
-  uint32_t step(uint32_t kind, uint32_t first, uint64_t second) {
-    return dvs_group_step(list_.data(), list_.size(), books_.data(), books_.size(), queues_.data(), queues_.size(), kind, first, second, event_,
-                          sizeof event_);
-  }
-  void form(size_t& deepest, uint32_t view) {
-    measure(deepest, [&] {
-      dvs_group_form(list_.data(), list_.size(), books_.data(), books_.size(), queues_.data(), queues_.size(), view, length_, sizeof length_);
-    });
-  }
+  uint32_t newest() { return dvs_view_identifier(&lent_.list[DVS_VIEW_SIZE * (lent_.queues[0] - 1u)]); }
 
-  // Every call on a group that no steps need have left; the driver may be refused by a step of its own.
-  void group(Random& r) {
+#define LENT(range) lent_.range.data(), lent_.range.size()
+#define NAMED(type, name) name
+  uint32_t step(uint32_t kind, uint32_t first, uint64_t second) { return dvs_group_step(dvs_group_step_takes(LENT, LENT, NAMED)); }
+  uint32_t form(uint32_t view) { return dvs_group_form(dvs_group_form_takes(LENT, LENT, NAMED)); }
+
+  // Every call, each on what the ranges hold now. The driver has a limit of its own if no calls lead to them.
+  void every_call(Random& r, bool made_up) {
+    uint32_t members = 8, first_set = 255, own = 7, view = newest(), set = 255, sender = r.below(8), range = DVS_SIZE_QUEUES, views = 32;
+    uint32_t kind = r.between(1, 12), first = r.below(8);
+    uint64_t entry = 5, second = view;
+    const Ranges before = lent_;
+    auto of = [&](const char* name) -> size_t& { return made_up && strcmp(name, "dvs_group_form") == 0 ? driver_ : other_; };
+#define CALL(name, ...) measure(of(#name), [&] { static_cast<void>(name(name##_takes(LENT, LENT, NAMED))); }), lent_ = before;
+#define GIVES(type, name) CALL(name, )
+#include "calls.inc"
+  }
+#undef LENT
+#undef NAMED
+
+  // Every call on a book and on a group that no steps need have left, and every step of the group's members.
+  void made_up(Random& r) {
     lend(r.between(1, DVS_VIEWS));
     auto range = [](std::vector<uint8_t>& bytes) { return plain::Range{bytes.data(), bytes.size()}; };
-    random_group(r, range(list_), range(books_), range(queues_), true);
-    uint32_t newest = dvs_view_identifier(&list_[DVS_VIEW_SIZE * (queues_[0] - 1u)]);
-    form(driver_, newest);
-    for (uint32_t p = 0; p < books_[0]; ++p)
-      for (uint32_t kind = 2; kind <= 12; ++kind) measure(other_, [&] { step(kind, p, newest); });
-    measure(other_, [&] { step(1, newest + 1, 1); });
-    measure(other_, [&] { dvs_group_check(list_.data(), list_.size(), books_.data(), books_.size(), queues_.data(), queues_.size()); });
-    std::vector<uint8_t> steps(12 * DVS_STEP_SIZE), answers(12 * DVS_ANSWER_SIZE);
-    for (uint8_t kind = 1; kind <= 12; ++kind) plain::put_step(&steps[DVS_STEP_SIZE * (kind - 1u)], {kind, kind % 3u, 1});
-    auto listed = [&] {
-      dvs_group_steps(list_.data(), list_.size(), books_.data(), books_.size(), queues_.data(), queues_.size(), steps.data(), steps.size(),
-                      answers.data(), answers.size());
-    };
-    measure(other_, listed);
-    measure(other_, [&] {
-      dvs_group_run(list_.data(), list_.size(), books_.data(), books_.size(), queues_.data(), queues_.size(), 8, 255, steps.data(), steps.size(),
-                    answers.data(), answers.size());
-    });
-    measure(other_, listed);
-  }
-
-  // Every call on a book.
-  void member(Random& r) {
-    std::vector<uint8_t> book(DVS_BOOK_SIZE);
-    random_book(r, book.data());
-    plain::Message message = random_message(r, book.data());
-    uint8_t record[DVS_MESSAGE_SIZE] = {};
-    plain::store_record(message, record);
-    uint8_t *b = book.data(), *e = event_;
-    constexpr size_t size = DVS_BOOK_SIZE;
-    measure(other_, [&] { dvs_write(record, sizeof record, buffer_, sizeof buffer_, length_, sizeof length_); });
-    measure(other_, [&] { dvs_read(buffer_, plain::length(message), record, sizeof record); });
-    measure(other_, [&] { dvs_read_front(buffer_, sizeof buffer_, record, sizeof record, length_, sizeof length_); });
-    measure(other_, [&] { dvs_deliver(b, size, buffer_, plain::length(message), r.below(8)); });
-    std::vector<uint8_t> packet;
-    for (unsigned n = r.below(130); n > 0; --n) packet.insert(packet.end(), buffer_, buffer_ + plain::length(message));
-    measure(other_, [&] { dvs_deliver_packet(b, size, packet.data(), packet.size(), r.below(8), delivery_, sizeof delivery_); });
-    measure(other_, [&] { dvs_attempt(b, size, e, DVS_EVENT_SIZE), dvs_hand(b, size, e, DVS_EVENT_SIZE), dvs_tell(b, size); });
-    measure(other_, [&] { dvs_register(b, size, e, DVS_EVENT_SIZE), dvs_send(b, size, 5, e, DVS_EVENT_SIZE), dvs_safe(b, size, e, DVS_EVENT_SIZE); });
-    measure(other_, [&] { dvs_collect(b, size), dvs_check(b, size), dvs_join(b, size, UINT32_MAX, 255); });
-    measure(other_, [&] { dvs_pass(b, size, buffer_, sizeof buffer_, length_, sizeof length_); });
-    measure(other_, [&] { dvs_start(b, size, 8, 255, 7); });
+    random_group(r, range(lent_.list), range(lent_.books), range(lent_.queues), true);
+    random_book(r, lent_.book.data());
+    plain::Message message = random_message(r, lent_.book.data());
+    plain::store_record(message, lent_.message.data());
+    // One message, then a packet of them.
+    lent_.bytes.resize(plain::length(message));
+    plain::write(message, lent_.bytes.data(), lent_.bytes.size());
+    every_call(r, true);
+    const std::vector<uint8_t> one = lent_.bytes;
+    for (unsigned n = r.below(130); n > 0; --n) lent_.bytes.insert(lent_.bytes.end(), one.begin(), one.end());
+    every_call(r, true);
+    uint32_t view = newest();
+    for (uint32_t p = 0; p < lent_.books[0]; ++p)
+      for (uint32_t kind = 2; kind <= 12; ++kind) measure(other_, [&] { step(kind, p, view); });
+    measure(other_, [&] { step(DVS_STEP_CREATE, view + 1, 1); });
   }
 
   // Eight members, and as many views formed as there is room for: on ranges that calls lead to the driver keeps nothing.
-  void forms() {
+  void formed(Random& r) {
     lend(DVS_VIEWS);
-    measure(other_, [&] { dvs_group_start(list_.data(), list_.size(), books_.data(), books_.size(), queues_.data(), queues_.size(), 8, 255); });
-    for (uint32_t id = 1; id < DVS_VIEWS; ++id) step(DVS_STEP_CREATE, id, 255), form(other_, id);
+    uint8_t *list = lent_.list.data(), *books = lent_.books.data(), *queues = lent_.queues.data();
+    measure(other_, [&] { dvs_group_start(list, lent_.list.size(), books, lent_.books.size(), queues, lent_.queues.size(), 8, 255); });
+    for (uint32_t id = 1; id < DVS_VIEWS; ++id) step(DVS_STEP_CREATE, id, 255), measure(other_, [&] { form(id); });
+    every_call(r, false);
   }
 
  public:
@@ -123,9 +116,10 @@ class Stack {
 #endif
     for (uint64_t n = 0; n < 40; ++n) {
       Random r(8, n);
-      group(r), member(r);
+      made_up(r);
     }
-    forms();
+    Random r(9);
+    formed(r);
     printf("%zu bytes of stack at most, %zu in dvs_group_form on made-up ranges\n", other_, driver_);
     if (other_ <= kOther && driver_ <= kDriver) return true;
     printf("DIFFERENCE with include/dvs.h, which says less\n");
