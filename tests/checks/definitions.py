@@ -190,3 +190,10 @@ def at(path, name):
     found = MODULE.fullmatch(path)
     target = found and ROOT / 'crates' / found[1] / found[2] / (found[3].replace('.', '/') + '.antt')
     return target and target.is_file() and file(target).meaning(name) or path + '.' + name
+
+
+@functools.lru_cache(None)
+def defined():
+    """All names of specs: its files, its definitions and their constructors."""
+    files = list((ROOT / 'crates').glob('*/specs/**/*.antt'))
+    return {path.name for path in files} | {name for path in files for name in [*file(path).definitions, *file(path).owners]}

@@ -1,4 +1,5 @@
 """documents.py: what the checks of the documents share: the files that a table's cell names, and the functions that a host may call."""
+import functools
 import pathlib
 import re
 
@@ -23,12 +24,19 @@ def source(crate, path):
     return ROOT / 'crates' / crate / 'src' / ('/'.join(modules) + '.rt' if modules else 'lib.rt')
 
 
+@functools.lru_cache(None)
 def function(crate, path):
     """The text of a public function up to its body, or nothing."""
     file = source(crate, path)
     pattern = r'^pub (?:extern "C" )?fn %s\(.*?^\{' % path.split('::')[-1]
     found = re.search(pattern, file.read_text(), re.M | re.S) if file.is_file() else None
     return found and found.group(0)
+
+
+@functools.lru_cache(None)
+def functions():
+    """The names of all functions of the sources."""
+    return {name for path in (ROOT / 'crates').glob('*/src/**/*.rt') for name in re.findall(r'\bfn (\w+)\(', path.read_text())}
 
 
 def host_functions():
