@@ -193,9 +193,9 @@ def spec():
 
 
 def some_packets():
-    """A packet that took some of its messages is stopped by no more than one that took none, and in the same order."""
+    """A packet that took some of its messages is stopped as one that took none, but for 6, 13 and 42, with which its first message is refused."""
     none, some = CALLS[PACKET].parts['none'].refusals, CALLS[PACKET].parts['some'].refusals
-    if some != [number for number in none if number in some]:
+    if some != [number for number in none if number not in (6, 13, 42)]:
         faults.append('%s: a packet that took some messages has the order %s, one that took none %s' % (TABLE, shown(some), shown(none)))
 
 

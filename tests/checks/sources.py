@@ -1,14 +1,17 @@
 """sources.py: the numbers that the Rattle sources name, for the checks that hold other files to them."""
+import functools
 import pathlib
 import re
 
 ROOT = pathlib.Path(__file__).resolve().parents[2]
 
 
+@functools.lru_cache(None)
 def source(path):
     return (ROOT / 'crates' / path).read_text()
 
 
+@functools.lru_cache(None)
 def constants(path):
     """The numbers that a source names: each a number, or an expression of others, its own or another module's."""
     known = {}
