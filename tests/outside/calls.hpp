@@ -3,6 +3,8 @@
 #pragma once
 
 #include <tuple>
+#include <type_traits>
+#include <utility>
 #include <vector>
 
 #include "../../include/dvs.h"
@@ -31,6 +33,19 @@ class Calls {
   template <size_t Next, class Case, class Type, class... Rest>
   static auto taken(const Case& given, const GivenNumber<Type>&, Rest&&... rest) {
     return std::tuple_cat(std::make_tuple(static_cast<Type>(std::get<Next>(given))), taken<Next + 1>(given, rest...));
+  }
+
+  // How many ranges and how many numbers a case gives with a call.
+  template <size_t Ranges, size_t Numbers> struct Shape {
+    static constexpr size_t kRanges = Ranges;
+    using Each = std::make_index_sequence<Numbers>;
+  };
+  template <class Parameter> static constexpr bool kIsLent = std::is_same<Parameter, Lent>::value;
+  template <class Parameter> static constexpr bool kIsRange = std::is_same<Parameter, GivenRange>::value;
+  template <class... Parameters> static auto shape(const Parameters&...)
+      -> Shape<(size_t{kIsRange<Parameters>} + ... + 0), (size_t{!kIsRange<Parameters> && !kIsLent<Parameters>} + ... + 0)>;
+  template <class Call, size_t... Each> static void with_numbers(Call call, uint64_t number, std::index_sequence<Each...>) {
+    call((static_cast<void>(Each), number)...);
   }
 
   // A parameter as the library takes it, and as the twin does.
@@ -139,9 +154,19 @@ class Calls {
       tally.count(static_cast<Function>(kFn_dvs_group_step + (kind <= DVS_STEP_COLLECT ? kind : 0)), answer, lent);
     });
   }
+
+  // Every call on these ranges: a book, a group's three, or none. Each of its numbers is this one.
+  template <class... Ranges> void every_call(uint64_t number, Ranges&... ranges) {
+#define SHAPE(name) decltype(shape(name##_takes(LENT, LENT, GIVEN)))
+#define CALL(name, ...)                                                                                                \
+  if constexpr (SHAPE(name)::kRanges == sizeof...(Ranges))                                                             \
+    with_numbers([&](auto... numbers) { this->name(ranges..., numbers...); }, number, typename SHAPE(name)::Each());
+#include "calls.inc"
+  }
 #undef LENT
 #undef GIVEN
 #undef BOTH
+#undef SHAPE
 };
 
 // What the library says of itself, beside the header's macros. False on a difference.

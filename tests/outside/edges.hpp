@@ -39,6 +39,7 @@ class Edges {
       for (unsigned null = 0; null < (size == 0 ? 2 : 1); ++null) {
         cut(book_, size, null == 1);
         all_calls(), c_.dvs_start(book_, 2, 3, 0);
+        c_.every_call(1, book_);
       }
     }
   }
@@ -54,6 +55,7 @@ class Edges {
           all_calls();
           cut(c_.length, 4, false);
           c_.dvs_join(book_, 2, 3), c_.dvs_pass(book_), c_.dvs_pass(book_);
+          cut(c_.length, size <= 16 ? size : 4, null == 1), c_.every_call(0, book_), c_.every_call(0);
         }
       }
     }
@@ -131,6 +133,7 @@ class Edges {
       c_.dvs_group_run(list_, books_, queues_, 9, 0), c_.dvs_group_run(list_, books_, queues_, 2, 4);
       c_.dvs_group_run(list_, books_, queues_, 2, 3), c_.dvs_group_check(list_, books_, queues_);
       c_.dvs_group_form(list_, books_, queues_, 0), c_.dvs_group_form(list_, books_, queues_, 1);
+      c_.every_call(1, list_, books_, queues_);
     };
     auto fresh = [&] { lend(10, plain::kBooksSize, plain::queues_size(2)), c_.dvs_group_start(list_, books_, queues_, 2, 3); };
     for (size_t list = 0; list <= 5 * 36; ++list) {

@@ -173,6 +173,7 @@ class GroupCases : LentGroup {
       if (r.chance(500)) damaged(r);
       if (r.chance(50)) some_form(r, true);
     }
+    c_.every_call(r.odd_long(), list_, books_, queues_);
   }
 
   // A list of steps as one run. What it leaves is looked at, and goes on by single steps.

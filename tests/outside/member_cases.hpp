@@ -112,6 +112,7 @@ class MemberCases {
       for (unsigned k = r.between(1, 3); k > 0; --k)
         if (any_call(r, probe_) == plain::kRecordsUnsound) break;
     }
+    c_.every_call(r.odd_long(), probe_);
   }
 
   // Bytes that mean nothing, or little: noise, or noise with a small record that could be a book's.
@@ -127,7 +128,7 @@ class MemberCases {
     probe_.copy_to_theirs();
     for (unsigned n = r.between(1, 4); n > 0 && probe_.size() >= plain::kAtOutgoing; --n) any_call(r, probe_);
     c_.dvs_start(probe_, r.chance(900) ? r.between(1, 8) : r.odd_word(), r.chance(900) ? r.between(1, 255) : r.odd_word(),
-             r.chance(900) ? r.below(8) : r.odd_word());
+                 r.chance(900) ? r.below(8) : r.odd_word());
   }
 
   // What each call is worth in a history: in one style a view is filled, in another many views come and are kept open.
