@@ -3,96 +3,88 @@
 
 It compares the table with the parameters of every function of include/dvs.h, and with every order of refusals that is written: the last sentence of each
 function's comment there, the two tables of docs/REFUSALS.md, and the table 'Where each refusal is checked' of docs/SPEC.md. A list may say '32 to 38'. It
-prints each difference and exits with 1 where there is one. header_check.py holds the header's parameters to the sources."""
+prints each difference and exits with 1 where there is one. header_check.py holds the header's parameters to the sources.
+
+A step's order begins with 4, 5, 6. The documents say so once; the table has it in each row, as far as it applies: a kind of step cannot be refused with 5,
+a create names no member and cannot be refused with 6, and a member by itself is given no kind."""
 import re
 import sys
 
 from calls import TABLE, table
 from sources import ROOT
 
-STEP = 'dvs_group_step'
-PACKET = 'dvs_deliver_packet'
-ALONE = 'member by itself: '
 CALLS = table()
+STEPS, PACKET, DRIVER = CALLS['dvs_group_step'], CALLS['dvs_deliver_packet'], CALLS['dvs_group_form']
+REFUSING = [call for call in CALLS.values() if call.sort != 'GIVES']
+OWN = {kind: CALLS['dvs_' + kind] for kind in STEPS.parts if 'dvs_' + kind in CALLS}  # the member's own call of a kind
+ALONE = 'member by itself: '
 faults = []
 compared = 0
 
 
+def front(kind):
+    """With which refusals the order of a step of this kind begins, in the table."""
+    return [4] if kind == 'create' else [4, 6]
+
+
 def numbers(text):
-    """The numbers of a list such as '4, 6, 32 to 38', or None if it is not one."""
+    """The numbers of a list such as '4, 6, 32 to 38'. A text that is no such list has none."""
     listed = []
     for item in text.split(','):
         found = re.fullmatch(r'(\d+)(?: to (\d+))?', item.strip())
         if not found:
-            return None
-        first, last = int(found.group(1)), int(found.group(2) or found.group(1))
-        listed += range(first, last + 1)
+            return []
+        listed += range(int(found[1]), int(found[2] or found[1]) + 1)
     return listed
 
 
-def shown(listed):
-    return ', '.join(map(str, listed)) or 'none'
+def numbers_after(pattern, text):
+    """The numbers of the list that the pattern's group is."""
+    found = re.search(pattern, text)
+    return numbers(found[1]) if found else []
 
 
-def hold(where, given, call):
-    """An order that is written somewhere, beside the call's or part's own."""
+def hold(where, given, wanted):
+    """An order that is written somewhere, beside the table's."""
     global compared
     compared += 1
-    if given != call.refusals:
-        faults.append('%s has the order %s, %s %s' % (where, shown(given or []), TABLE, shown(call.refusals)))
-
-
-def step_front(kind):
-    """The numbers with which the order of a step begins, for a step of this kind: the table's rows say what the documents say once."""
-    return [4] if kind == 'create' else [4, 6]
-
-
-def member_call(kind):
-    """The member's own call of this kind, if there is one."""
-    return CALLS.get('dvs_' + kind)
+    if given != wanted:
+        faults.append('%s: the order is %s; %s has %s' % (where, ', '.join(map(str, given)) or 'missing', TABLE, ', '.join(map(str, wanted))))
 
 
 # ---- include/dvs.h
 
 def header():
     text = (ROOT / 'include' / 'dvs.h').read_text()
-    functions = re.findall(r'/\*((?:(?!\*/).)*)\*/\n(\w+ (\w+)\([^)]*\)) DVS_MUST_CHECK;', text, re.S)
-    for name in sorted({name for _, _, name in functions} ^ set(CALLS)):
-        faults.append('%s is not in both include/dvs.h and %s' % (name, TABLE))
-    for comment, declared, name in functions:
-        if name not in CALLS:
-            continue
-        call, declared = CALLS[name], ' '.join(declared.split())
-        if declared != call.declaration():
-            faults.append('include/dvs.h declares %s, %s has %s' % (declared, TABLE, call.declaration()))
-        comment = ' '.join(re.sub(r'^ \* ?', '', comment, flags=re.M).split())
-        found = re.search(r'Refusals: ([^.;]*)(; then [^.]*)?\.$', comment)
-        if call.sort == 'GIVES':
-            if 'Refusals:' in comment:
-                faults.append('include/dvs.h has refusals for %s, %s has none' % (name, TABLE))
-        elif not found:
-            faults.append("include/dvs.h: the comment of %s does not end with 'Refusals: ' and their order" % name)
-        elif name == STEP:
-            steps(numbers(found.group(1)), bool(found.group(2)))
-        else:
-            hold('include/dvs.h: %s' % name, numbers(found.group(1)), call)
-            if bool(found.group(2)) != bool(call.others):
-                faults.append("include/dvs.h: 'then' after the refusals of %s, or THEN in %s, and not in both" % (name, TABLE))
-        if name == PACKET:
-            stops = re.search(r'can be stopped, in this order, by ([^;]*);', comment)
-            hold('include/dvs.h: what stops a packet', numbers(stops.group(1)) if stops else None, call.parts['none'])
+    functions = {name: (declared, ' '.join(re.sub(r'^ \* ?', '', comment, flags=re.M).split())) for comment, declared, name in
+                 re.findall(r'/\*((?:(?!\*/).)*)\*/\n(\w+ (\w+)\([^)]*\)) DVS_MUST_CHECK;', text, re.S)}
+    for name in sorted(functions.keys() ^ CALLS.keys()):
+        faults.append('%s is in one of include/dvs.h and %s, and not in the other' % (name, TABLE))
+    for name in sorted(functions.keys() & CALLS.keys()):
+        declared, comment = functions[name]
+        if ' '.join(declared.split()) != CALLS[name].declaration():
+            faults.append('include/dvs.h declares %s; %s has %s' % (' '.join(declared.split()), TABLE, CALLS[name].declaration()))
+        last_sentence(CALLS[name], comment)
+    if PACKET.name in functions:
+        stops = numbers_after(r'can be stopped, in this order, by ([^;]*);', functions[PACKET.name][1])
+        hold('include/dvs.h, what stops a packet', stops, PACKET.parts['none'].refusals)
 
 
-def steps(given, then):
-    """A step's order begins with 4, 5, 6, and goes on as the kind's: a step of no kind has 5, a kind has none, and a create no 6."""
-    if given != [4, 5, 6] or not then or CALLS[STEP].refusals != [4, 5]:
-        faults.append('%s: the order begins with 4, 5, 6, then come those of the kind; include/dvs.h or %s has another' % (STEP, TABLE))
-    for part in CALLS[STEP].parts.values():
-        if part.refusals[:len(step_front(part.name))] != step_front(part.name) or 5 in part.refusals or (part.name == 'create' and 6 in part.refusals):
-            faults.append('%s: the order of %s does not begin with %s' % (TABLE, part.name, shown(step_front(part.name))))
+def last_sentence(call, comment):
+    """The order with which a function's comment ends, and whether it goes on with others."""
+    found = re.search(r'Refusals: ([^.;]*)(; then [^.]*)?\.$', comment)
+    if call.sort == 'GIVES':
+        if 'Refusals:' in comment:
+            faults.append('include/dvs.h has refusals for %s, which gives a number' % call.name)
+    elif not found:
+        faults.append("include/dvs.h: the comment of %s does not end with 'Refusals: ' and their order" % call.name)
+    else:
+        hold('include/dvs.h, %s' % call.name, numbers(found[1]), call.refusals + ([6] if call is STEPS else []))
+        if bool(found[2]) != bool(call.others or call is STEPS):
+            faults.append("include/dvs.h, %s: 'then' has to be there if others follow in %s, and only then" % (call.name, TABLE))
 
 
-# ---- docs/REFUSALS.md
+# ---- the documents
 
 def rows(document, heading):
     """The rows of the table under this heading, each as its cells."""
@@ -104,42 +96,24 @@ def rows(document, heading):
 
 
 def refusals():
-    """One table has the steps, in a group and by itself, without the 4, 5 and 6 that come first; the other has the whole order of every other call."""
-    kinds, others = set(), set()
-    for kind, grouped, alone in rows('REFUSALS.md', '| Step | In a group | By itself |'):
-        kinds.add(kind)
-        if kind in CALLS[STEP].parts:
-            hold("docs/REFUSALS.md: '%s' in a group" % kind, step_front(kind) + (numbers(grouped) or []), CALLS[STEP].parts[kind])
-        if alone or member_call(kind):
-            call = member_call(kind)
-            hold("docs/REFUSALS.md: '%s' by itself" % kind, [4, 6] + (numbers(alone) or []), call) if call else faults.append(
-                "docs/REFUSALS.md has '%s' by itself, and there is no such call" % kind)
-    for cell, order in rows('REFUSALS.md', '| Call | Order |'):
-        name = cell.strip('`')
-        others.add(name)
-        if name not in CALLS:
-            faults.append('docs/REFUSALS.md names %s, which is no call' % name)
-            continue
-        whole, _, rest = re.match(r'([^;:.]*)([;:.]?)(.*)', order).groups()
-        hold('docs/REFUSALS.md: %s' % name, numbers(whole), CALLS[name])
-        if name == PACKET:
-            each = re.search(r'for each message ([^.]*)\.', rest)
-            hold('docs/REFUSALS.md: what stops a packet', numbers(each.group(1)) if each else None, CALLS[name].parts['none'])
-    listed = others | {'dvs_' + kind for kind in kinds} & set(CALLS) | {STEP}
-    for name in CALLS:
-        if CALLS[name].sort != 'GIVES' and name not in listed:
-            faults.append('docs/REFUSALS.md has no order for %s' % name)
-    if kinds != set(CALLS[STEP].parts):
-        faults.append('docs/REFUSALS.md and %s have different kinds of steps: %s' % (TABLE, ', '.join(sorted(kinds ^ set(CALLS[STEP].parts)))))
-    text = (ROOT / 'docs' / 'REFUSALS.md').read_text()
-    met = re.search(r'every byte is as it was: ([\d, ]+) or (\d+), whose sections', text)
-    given = numbers(met.group(1) + ', ' + met.group(2)) if met else None
-    if given != [4] + CALLS['dvs_group_form'].others:
-        faults.append("docs/REFUSALS.md, 'The driver', has %s for its steps, %s %s" % (
-            shown(given or []), TABLE, shown([4] + CALLS['dvs_group_form'].others)))
+    """docs/REFUSALS.md: the steps, in a group and by itself; the other calls by name, with their whole order."""
+    steps = {kind: (grouped, alone) for kind, grouped, alone in rows('REFUSALS.md', '| Step | In a group | By itself |')}
+    others = {name.strip('`'): order for name, order in rows('REFUSALS.md', '| Call | Order |')}
+    for kind in sorted(steps.keys() ^ STEPS.parts.keys()):
+        faults.append('docs/REFUSALS.md or %s has no step %s' % (TABLE, kind))
+    for kind in sorted(steps.keys() & STEPS.parts.keys()):
+        grouped, alone = steps[kind]
+        hold("docs/REFUSALS.md, '%s' in a group" % kind, front(kind) + numbers(grouped), STEPS.parts[kind].refusals)
+        if alone or kind in OWN:
+            hold("docs/REFUSALS.md, '%s' by itself" % kind, [4, 6] + numbers(alone), OWN[kind].refusals if kind in OWN else [])
+    for name in sorted(others.keys() ^ {call.name for call in REFUSING if call is not STEPS and call not in OWN.values()}):
+        faults.append('docs/REFUSALS.md has no order for %s, or has one for what is no call' % name)
+    for name in sorted(others.keys() & CALLS.keys()):
+        hold('docs/REFUSALS.md, %s' % name, numbers(re.split('[;:.]', others[name])[0]), CALLS[name].refusals)
+    hold('docs/REFUSALS.md, what stops a packet', numbers_after(r'for each message ([^.]*)\.', others.get(PACKET.name, '')), PACKET.parts['none'].refusals)
+    steps_of = numbers_after(r'every byte is as it was: ([\d, ]+), whose', (ROOT / 'docs' / 'REFUSALS.md').read_text().replace(' or ', ', '))
+    hold("docs/REFUSALS.md, 'The driver', its steps", steps_of, [4] + DRIVER.others)
 
-
-# ---- docs/SPEC.md
 
 def specification():
     """The orders of docs/SPEC.md by their places. A condition is a number with its words, or another row, as "the reader's" and 'as start'."""
@@ -147,16 +121,15 @@ def specification():
     for place, conditions in rows('SPEC.md', '| Place | Conditions |'):
         listed = []
         for condition in map(str.strip, conditions.split('.')[0].split(';')):
-            found = re.match(r'(?:[a-z ]+: )?(\d+(?: to \d+)?)\b', condition)
+            number = re.match(r'(?:[a-z ]+: )?(\d+(?: to \d+)?)\b', condition)
             row = re.sub(r"^(?:then )?(?:as |the )?|'s$", '', condition)
             packet = re.match(r'of each message (\d+) and the row of deliver without (\d+)', condition)
-            if found:
-                listed += numbers(found.group(1))
+            if number:
+                listed += numbers(number[1])
             elif row in places:
                 listed += places[row]
             elif packet:
-                first, without = map(int, packet.groups())
-                places['stops'] = [first] + [number for number in places[ALONE + 'deliver'] if number != without]
+                places['stops'] = [int(packet[1])] + [n for n in places[ALONE + 'deliver'] if n != int(packet[2])]
             elif not condition.startswith('then the '):
                 faults.append("docs/SPEC.md: '%s' of '%s' is neither a number nor a row" % (condition, place))
         places[place.replace('… ', ALONE).strip('`')] = listed
@@ -164,16 +137,15 @@ def specification():
 
 
 def spec():
-    """A call that is no step has a row with its own name, or is one of these, which the specification calls otherwise."""
+    """docs/SPEC.md: the steps, in a group and by itself. Another call has a row with its own name, or one that the specification calls otherwise."""
     places = specification()
-    front, alone = places['every step'], places[ALONE + 'every other call']
-    if front != [4, 5, 6] or alone != [4, 6]:
-        faults.append('docs/SPEC.md: the order of a step begins with 4, 5, 6, and that of a member by itself with 4, 6')
-    for kind, part in CALLS[STEP].parts.items():
-        hold("docs/SPEC.md: '%s'" % kind, step_front(kind) + places[kind], part)
-        if member_call(kind):
-            hold("docs/SPEC.md: '%s' of a member by itself" % kind, alone + places.get(ALONE + kind, places[kind]), member_call(kind))
-    hold('docs/SPEC.md: what stops a packet', places['stops'], CALLS[PACKET].parts['none'])
+    alone = places[ALONE + 'every other call']
+    hold('docs/SPEC.md, every step', places['every step'], STEPS.refusals + [6])
+    hold('docs/SPEC.md, what stops a packet', places['stops'], PACKET.parts['none'].refusals)
+    for kind, part in STEPS.parts.items():
+        hold("docs/SPEC.md, '%s'" % kind, front(kind) + places[kind], part.refusals)
+    for kind, call in OWN.items():
+        hold("docs/SPEC.md, '%s' by itself" % kind, alone + places.get(ALONE + kind, places[kind]), call.refusals)
     places.update({
         'dvs_start': places[ALONE + 'start'],
         'dvs_deliver_packet': places[ALONE + 'packet'],
@@ -185,21 +157,24 @@ def spec():
         'dvs_group_form': places['driver'],
         'dvs_group_run': places['start and list of steps'],
         'dvs_group_steps': places['list of steps'],
-        'dvs_group_check': front[:1],
+        'dvs_group_check': places['every step'][:1],
     })
-    for name, call in CALLS.items():
-        if call.sort != 'GIVES' and name != STEP and call not in map(member_call, CALLS[STEP].parts):
-            hold('docs/SPEC.md: %s' % name, places.get(name), call)
+    for call in REFUSING:
+        if call is not STEPS and call not in OWN.values():
+            hold('docs/SPEC.md, %s' % call.name, places.get(call.name, []), call.refusals)
 
 
-def some_packets():
-    """A packet that took some of its messages is stopped as one that took none, but for 6, 13 and 42, with which its first message is refused."""
-    none, some = CALLS[PACKET].parts['none'].refusals, CALLS[PACKET].parts['some'].refusals
-    if some != [number for number in none if number not in (6, 13, 42)]:
-        faults.append('%s: a packet that took some messages has the order %s, one that took none %s' % (TABLE, shown(some), shown(none)))
+# ---- the table itself
+
+def parts():
+    """Each kind of step begins as a step does. A packet that took some messages is refused with no 6, 13 or 42: its first message would have been."""
+    for kind, part in STEPS.parts.items():
+        hold('%s, how %s begins' % (TABLE, kind), part.refusals[:len(front(kind))], front(kind))
+    some = [number for number in PACKET.parts['none'].refusals if number not in (6, 13, 42)]
+    hold('%s, a packet that took some messages' % TABLE, PACKET.parts['some'].refusals, some)
 
 
-for check in header, refusals, spec, some_packets:
+for check in header, refusals, spec, parts:
     check()
-print(*faults or ['%d calls; their order of refusals is the same wherever it is written, %d times' % (len(CALLS), compared)], sep='\n')
+print(*faults or ['%d calls; their orders of refusals are the same wherever they are written, %d times' % (len(CALLS), compared)], sep='\n')
 sys.exit(1 if faults else 0)

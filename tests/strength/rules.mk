@@ -5,7 +5,7 @@
 WRAPPED = $(shell sed -nE 's/^uint(32|64)_t (dvs_[a-z_]*).*/\2/p' include/dvs.h)
 outside-selftest: target/outside_wrong
 	tests/strength/run.sh target/outside_wrong
-target/outside_wrong: $(OUTSIDE) $(wildcard tests/strength/wrong*.?pp) $(LIBRARY)
+target/outside_wrong: $(OUTSIDE) $(wildcard tests/strength/*.?pp) $(LIBRARY)
 	$(CXX) $(OUTSIDE_FLAGS) $(WRAPPED:%=-Wl,--wrap=%) -o $@ tests/outside/outside_test.cpp tests/strength/wrong.cpp $(LIBRARY)
 
 # One rule after another of the plain implementation changed: the test must find a difference each time. Some ten minutes.
