@@ -5,8 +5,8 @@ It compares the table with the parameters of every function of include/dvs.h, an
 function's comment there, the two tables of docs/REFUSALS.md, and the table 'Where each refusal is checked' of docs/SPEC.md. A list may say '32 to 38'. It
 prints each difference and exits with 1 where there is one. header_check.py holds the header's parameters to the sources.
 
-A step's order begins with 4, 5, 6. The documents say so once; the table has it in each row, as far as it applies: a kind of step cannot be refused with 5,
-a create names no member and cannot be refused with 6, and a member by itself is given no kind."""
+A step's order begins with 4, 5, 6. The documents say so once, and the table in each row as far as it applies: a step of a known kind is not refused with 5,
+a create names no member and is not refused with 6, and a member by itself is given no kind."""
 import re
 import sys
 

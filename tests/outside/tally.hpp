@@ -24,7 +24,7 @@ constexpr unsigned kAnswers = DVS_REFUSALS + 1;
 static_assert(named_in_order() && sizeof kNamed / sizeof kNamed[0] == kAnswers, "the header's refusals are numbered");
 
 // The functions and parts of functions that are counted, as the table of calls has them: a packet by what it came to, and a
-// group's step by its kind, whose number is the distance of its part from the step of no kind.
+// group's step by its kind, whose number is the distance of its part from the step of an unknown kind.
 enum Function : unsigned {
 #define CALL(name, ...) kFn_##name,
 #define PART(name, part, ...) kFn_##name##_##part,
