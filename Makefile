@@ -79,6 +79,15 @@ offices: $(BUILT)/offices
 	$< > $<.txt; status=$$?; cat $<.txt; exit $$status
 	diff examples/offices/expected.txt $<.txt
 
+# A host that keeps its book in a file: its offices are processes, which are stopped at every action and killed at any time, and what they publish is judged
+# by Figure 1.
+.PHONY: kept
+KEPT := $(wildcard examples/kept/*.cpp tests/kept/*.cpp)
+$(BUILT)/kept: $(KEPT) $(wildcard examples/kept/*.hpp tests/kept/*.hpp) $(HEADERS) $(LIBRARY)
+	$(CXX) $(HOSTFLAGS) -Iexamples/kept -o $@ $(KEPT) $(LIBRARY)
+kept: $(BUILT)/kept
+	tests/kept/kept.sh $<
+
 # What comes of it if a host breaks a duty of docs/HOST.md: its stories beside what they should tell.
 .PHONY: duties
 $(BUILT)/duties: tests/duties/duties.cpp tests/duties/offices.hpp include/dvs.h $(LIBRARY)
@@ -119,7 +128,7 @@ SEED := 1
 fuzz: $(BUILT)/outside_test
 	$(BUILT)/outside_test fuzz $(SECONDS) $(SEED)
 
-# The C++ wrapper and both examples, installed and linked by pkg-config, with every compiler here, in C++17 and C++20 and with sanitizers; by CMake,
+# The C++ wrapper and the examples, installed and linked by pkg-config, with every compiler here, in C++17 and C++20 and with sanitizers; by CMake,
 # where it is here; and the archive in a shared object.
 .PHONY: wrapper
 wrapper: $(LIBRARY)

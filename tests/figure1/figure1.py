@@ -1,7 +1,7 @@
 #!/usr/bin/env python3
 """figure1.py: whether outward events are those of a run of the report's Figure 1, and whether what was safe stayed.
 
-    python3 tests/figure1/figure1.py FILE...
+    python3 tests/figure1/figure1.py FILE...    - for the standard input
 
 A file holds histories in the words of the bench. Each begins with `group MEMBERS FIRST_SET`; after it come the outward events, a line each:
 
@@ -13,13 +13,13 @@ A history of a host that keeps duty 7 of docs/HOST.md, 'Register last', may also
 
 There entry X belongs to mark X modulo the number of entries named, the greater of two entries of a mark is the later one, and 0 is no entry.
 
-The first event that no run has is named, and the status is 1. The machine is `crates/rules/specs/Figure1.antt`; docs/SPEC.md, 'Figure 1 written out', says
+The first line that is refused is named with the reason, and the status is 1. The machine is `crates/rules/specs/Figure1.antt`; docs/SPEC.md, 'Figure 1 written out', says
 it in words."""
 import sys
 
 
 class Refused(Exception):
-    """No run of Figure 1 has the event after those before it."""
+    """No run of Figure 1 has the event after those before it, or an office lacks what it must hold."""
 
 
 def refuse_if(condition, why):
@@ -146,45 +146,46 @@ def lacks(copy, x):
 
 
 def first_refused(history):
-    """The place of the first event that is refused, with the reason; None if all are accepted."""
-    machine = finality = None
+    """The place of the first line that is refused, with the reason; None if all are accepted."""
+    judge = Judge()
     for place, line in enumerate(history):
-        word, *operands = line.split()
-        numbers = [int(operand) for operand in operands]
         try:
-            if word == "group":
-                machine, finality = Figure1(*numbers), Finality(numbers[0])
-                continue
-            if word != "holds":
-                machine.feed(word, *numbers)
-            finality.feed(word, *numbers)
+            judge.feed(line)
         except Refused as refused:
             return place, str(refused)
     return None
 
 
-def histories(text):
-    """The histories of a file: each begins with its `group`."""
-    found = []
-    for line in text.splitlines():
-        if line.startswith("group "):
-            found.append([])
-        found[-1].append(line)
-    return found
+class Judge:
+    """Figure 1 and finality, fed histories line by line; each begins anew with its `group`."""
+
+    def __init__(self):
+        self.groups = self.events = 0
+
+    def feed(self, line):
+        word, *operands = line.split()
+        numbers = [int(operand) for operand in operands]
+        if word == "group":
+            self.groups += 1
+            self.machine, self.finality = Figure1(*numbers), Finality(numbers[0])
+            return
+        self.events += 1
+        if word != "holds":
+            self.machine.feed(word, *numbers)
+        self.finality.feed(word, *numbers)
 
 
 def main(names):
-    count = events = 0
+    judge = Judge()
     for name in names:
-        with open(name) as file:
-            for history in histories(file.read()):
-                count, events = count + 1, events + len(history) - 1
-                refused = first_refused(history)
-                if refused:
-                    place, why = refused
-                    return f"{name}, history {count}, event {place}: no run of Figure 1 has '{history[place]}' here: {why}"
-    print(f"{count} histories with {events} events: accepted")
-    return 0 if events else "there are no events"
+        with sys.stdin if name == "-" else open(name) as file:
+            for place, line in enumerate(file, 1):
+                try:
+                    judge.feed(line)
+                except Refused as refused:
+                    return f"{name}:{place}: refused: '{line.strip()}': {refused}"
+    print(f"{judge.groups} histories with {judge.events} events: accepted")
+    return 0 if judge.events else "there are no events"
 
 
 if __name__ == "__main__":

@@ -1,8 +1,7 @@
 #!/usr/bin/env bash
-# Installs the library to a folder of its own and links against it by pkg-config alone: the wrapper's cases, the first example and the offices, with
-# every compiler here, in C++17 and C++20, with all warnings and sanitizers; the C header in a C99 program; the archive in a shared object; and the first
-# example by CMake, where it is here. What must not compile, and what must end a program, is tried too. So is dvs-show, as it is installed and as every
-# compiler makes it.
+# Installs the library to a folder of its own and links against it by pkg-config alone: the wrapper's cases and the examples, with every compiler here,
+# in C++17 and C++20, with all warnings and sanitizers; the C header in a C99 program; the archive in a shared object; and the first example by CMake,
+# where it is here. What must not compile, and what must end a program, is tried too. So is dvs-show, as it is installed and as every compiler makes it.
 set -euo pipefail
 cd "$(dirname "${BASH_SOURCE[0]}")/../.."
 work=$(mktemp -d)
@@ -115,6 +114,15 @@ for compiler in g++ clang++; do
     "$work/first" | diff examples/first/expected.txt -
     "$compiler" "${flags[@]}" -o "$work/offices" examples/offices/*.cpp "${libs[@]}"
     "$work/offices" | diff examples/offices/expected.txt -
+    # These take long to compile with sanitizers, so under one standard they are compiled and no more.
+    kept=(-Iexamples/kept examples/kept/*.cpp tests/kept/*.cpp)
+    if [ "$standard" = 17 ]; then
+      "$compiler" "${flags[@]}" -o "$work/kept" "${kept[@]}" "${libs[@]}"
+      "$work/kept" disk "$work/kept-files" 2> "$work/log" || { cat "$work/log"; exit 1; }
+      { "$work/kept" kills "$work/kept-files" 20 1 2> "$work/log" || { cat "$work/log" >&2; false; }; } | python3 tests/figure1/figure1.py - > /dev/null
+    else
+      "$compiler" -std=c++"$standard" "${warnings[@]}" "${cflags[@]}" -fsyntax-only "${kept[@]}"
+    fi
     refuses "$compiler" -std=c++"$standard" "${warnings[@]}" "${cflags[@]}"
     aborts "$compiler" -std=c++"$standard" "${warnings[@]}" "${cflags[@]}"
     echo "wrapper: $compiler, C++$standard: as expected"
