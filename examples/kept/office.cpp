@@ -39,7 +39,7 @@ Office::Office(Group group, dvs::Member own, bool never_started, Disk &disk, con
     expect(state_.book.start(group.members, group.first, own).accepted(), "a book starts");
     save();
   }
-  // The saved turn may have been stopped before its events were public. Its messages are lost, and the join that comes next makes good for it.
+  // The saved turn may have been stopped before its events were public. Its messages are lost: no harm is done, since a join comes next.
   publish();
   post();
 }
@@ -91,7 +91,8 @@ void Office::take(dvs::View view) {
   joined_ = true;
 }
 
-// After a start nothing is taken in the view of the book: the last messages of this office may be missing there.
+// After a start nothing is taken in the view of the book: the last messages of this office may be missing there. Then the carrier brings messages of the
+// view that it gave last and no others; duty 4 says what to do if it brings others too.
 void Office::take(const Packet &packet) {
   if (!joined_) return;
   before(Action::take);

@@ -1,4 +1,5 @@
-// One office that can be stopped at any moment and started again: it works in turns, as duty 1 of docs/HOST.md has them.
+// One office that can be stopped at any moment and started again. It works in turns, as duty 1 of docs/HOST.md has them: take, step, save, publish, post.
+// After a start it loads, publishes again, and joins a view before anything else.
 #pragma once
 
 #include "disk.hpp"
@@ -17,8 +18,8 @@ struct Group {
 
 class Office {
  public:
-  // Loads what was saved and publishes its events again. There must be something, unless the office was never started: a lost book is never replaced by a
-  // fresh one under the same number.
+  // Loads what was saved, or ends the process if nothing was and the office is not new: a lost book is never replaced by a fresh one under the same
+  // number. So a person says `never_started`, once.
   Office(Group group, dvs::Member own, bool never_started, Disk &disk, const Line &line);
   virtual ~Office() = default;
 
@@ -52,12 +53,12 @@ class Office {
   const Line &line_;
   State state_;
 
-  // What a stop may take: a join comes first after it, and begins anew with all of these.
-  bool joined_ = false;          // since this process was started
-  dvs::Set brought_;             // who has brought all that it held into the client view
-  std::deque<Wish> wishes_;      // nobody was told yet that they came
-  std::optional<dvs::View> made_;
-  Buffer packet_;
+  // Not saved, since a join comes next after a stop.
+  bool joined_ = false;            // since this process was started
+  dvs::Set brought_;               // who has brought all that it held into the client view
+  std::deque<Wish> wishes_;        // not sent yet; no client was told that its wish is done
+  std::optional<dvs::View> made_;  // in this turn, to be posted
+  Buffer packet_;                  // of this turn, to be posted
 };
 
 }  // namespace kept

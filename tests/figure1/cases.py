@@ -11,8 +11,6 @@ sys.path.insert(0, str(HERE.parent / "reference"))
 import figure1
 import reference
 
-EVENTS = ("attempt", "register", "send", "hand", "safe")
-
 
 def written_cases():
     """(what the case shows, whether it is accepted, its history)"""
@@ -36,7 +34,7 @@ def bench_histories(script, replies):
         reply = next(replies)
         if line.startswith(b"group") and reply == "ok":
             found.append([line.decode()])
-        elif reply.split()[0] in EVENTS:
+        elif reply.split()[0] in figure1.EVENTS:
             found[-1].append(reply)
     assert next(replies, None) is None, "a reply is left over"
     return found

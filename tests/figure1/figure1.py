@@ -1,7 +1,7 @@
 #!/usr/bin/env python3
 """figure1.py: whether outward events are those of a run of the report's Figure 1, and whether what was safe stayed.
 
-    python3 tests/figure1/figure1.py FILE...    - for the standard input
+    python3 tests/figure1/figure1.py [--final] FILE...    - for the standard input
 
 A file holds histories in the words of the bench. Each begins with `group MEMBERS FIRST_SET`; after it come the outward events, a line each:
 
@@ -11,11 +11,15 @@ A history of a host that keeps duty 7 of docs/HOST.md, 'Register last', may also
 
     holds P G X0 X1 ...
 
-There entry X belongs to mark X modulo the number of entries named, the greater of two entries of a mark is the later one, and 0 is no entry.
+There entry X belongs to mark X modulo the number of entries named, the greater of two entries of a mark is the later one, and 0 is no entry. With
+--final every register must have such a line.
 
-The first line that is refused is named with the reason, and the status is 1. The machine is `crates/rules/specs/Figure1.antt`; docs/SPEC.md, 'Figure 1 written out', says
-it in words."""
+The first line that is refused is named with the reason, and the status is 1. The machine is that of `crates/rules/specs/Figure1.antt`; docs/SPEC.md says
+it in words ('Figure 1 written out')."""
+import collections
 import sys
+
+EVENTS = ("attempt", "register", "send", "hand", "safe")
 
 
 class Refused(Exception):
@@ -54,6 +58,7 @@ class Figure1:
         self.queue, self.pending, self.received, self.safely = {}, {}, {}, {}
 
     def feed(self, word, *numbers):
+        refuse_if(word not in EVENTS, "it is not an outward event")
         getattr(self, word)(*numbers)
 
     def totally_registered_between(self, g, h):
@@ -160,23 +165,23 @@ class Judge:
     """Figure 1 and finality, fed histories line by line; each begins anew with its `group`."""
 
     def __init__(self):
-        self.groups = self.events = 0
+        self.counts = collections.Counter()
 
     def feed(self, line):
         word, *operands = line.split()
         numbers = [int(operand) for operand in operands]
+        self.counts[word] += 1
         if word == "group":
-            self.groups += 1
             self.machine, self.finality = Figure1(*numbers), Finality(numbers[0])
             return
-        self.events += 1
         if word != "holds":
             self.machine.feed(word, *numbers)
         self.finality.feed(word, *numbers)
 
 
 def main(names):
-    judge = Judge()
+    final = names[:1] == ["--final"]
+    names, judge = names[final:], Judge()
     for name in names:
         with sys.stdin if name == "-" else open(name) as file:
             for place, line in enumerate(file, 1):
@@ -184,8 +189,11 @@ def main(names):
                     judge.feed(line)
                 except Refused as refused:
                     return f"{name}:{place}: refused: '{line.strip()}': {refused}"
-    print(f"{judge.groups} histories with {judge.events} events: accepted")
-    return 0 if judge.events else "there are no events"
+    events = sum(judge.counts[word] for word in EVENTS)
+    if not events or final and not (judge.counts["safe"] and judge.counts["register"] == judge.counts["holds"]):
+        return f"there is too little to judge: {dict(judge.counts)}"
+    print(f"{judge.counts['group']} histories with {events} events, {judge.counts['safe']} of them safe: accepted")
+    return 0
 
 
 if __name__ == "__main__":

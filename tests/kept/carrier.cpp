@@ -14,7 +14,7 @@ namespace kept {
 
 Carrier::Carrier(const std::string &directory, Group group, Care care, std::FILE *history)
     : directory_(directory), group_(group), care_(care), history_(history), places_(shared_places(group.members)), seats_(group.members) {
-  expect(std::filesystem::create_directory(directory), "the offices' directory is new");
+  need(std::filesystem::create_directory(directory), "the offices' directory is new");
   for (dvs::Member office : dvs::Set::below(group.members)) std::filesystem::create_directory(this->directory(office));
   std::fprintf(history_, "group %u %u\n", group.members, group.first.bits);
   views_[0].set = views_[0].registered = group.first;
@@ -36,6 +36,7 @@ Carrier::~Carrier() {
 void Carrier::start(dvs::Member office, unsigned stop_at) {
   int sockets[2];
   expect(socketpair(AF_UNIX, SOCK_SEQPACKET | SOCK_CLOEXEC, 0, sockets) == 0, "there is a line");
+  place(office).action = Action::load;
   place(office).count = 0;
   place(office).stop_at = stop_at;
   place(office).lingers = false;
@@ -53,9 +54,8 @@ void Carrier::start(dvs::Member office, unsigned stop_at) {
   at.process = process;
   at.socket = sockets[0];
   at.in_turn = true;
-  at.spoke = false;
   at.highest = 0;
-  at.view.reset();
+  // Until it is given another view, the messages of the old one go on coming. What came to the process before it is lost to this one.
   at.waiting.clear();
 }
 
@@ -74,7 +74,7 @@ void Carrier::be_office(dvs::Member own, int socket) const {
 }
 
 void Carrier::kill(dvs::Member office) {
-  expect(seat(office).process > 0, "whom to kill is there");
+  need(seat(office).process > 0, "the office to be killed has a process");
   ::kill(seat(office).process, SIGKILL);
 }
 
@@ -83,11 +83,10 @@ void Carrier::bury(dvs::Member office) {
   int status = 0;
   expect(waitpid(at.process, &status, 0) == at.process, "the process that is gone is found");
   const bool killed = WIFSIGNALED(status) && WTERMSIG(status) == SIGKILL, stopped = WIFEXITED(status) && WEXITSTATUS(status) == kStopped;
-  errno = 0;
-  expect(killed || stopped, "no office ends but by a kill or a stop of the test");
+  need(killed || stopped, "no office ends but by a kill or a stop of the test");
   close(at.socket);
   at.process = 0;
-  at.in_turn = at.spoke = false;
+  at.in_turn = at.spoke = at.has_view = false;
 }
 
 dvs::Set Carrier::ready() const {
@@ -138,9 +137,9 @@ void Carrier::hear_all(int milliseconds) {
 
 bool Carrier::round() {
   bool anything = false;
-  for (dvs::Member office : dvs::Set::below(group_.members)) {
-    if (!give(office)) continue;
-    hear_out(office);
+  for (std::uint32_t i = group_.members; i-- > 0;) {
+    if (!give(dvs::Member{i})) continue;
+    hear_out(dvs::Member{i});
     anything = true;
   }
   return anything;
@@ -179,14 +178,14 @@ void Carrier::form(dvs::View view) {
   for (dvs::Member office : view.set)
     if (identifier <= (office == *view.set.begin() ? seat(office).view.value_or(0) : seat(office).highest)) return;
   awaited_.erase(awaited);
-  errno = 0;
-  expect(care_ != Care::kept || views_.count(identifier) == 0, "no two views share an identifier");
+  need(care_ != Care::kept || views_.count(identifier) == 0, "no two views share an identifier");
   views_[identifier] = Channel();
   views_[identifier].set = view.set;
   for (dvs::Member office : view.set) {
     Seat &at = seat(office);
     at.highest = identifier;
     at.view = identifier;
+    at.has_view = true;
     at.taken = 0;
     at.waiting.push_back(view);
   }
@@ -216,8 +215,7 @@ bool Carrier::nearly_full() const {
 
 // An event with a known number was published before, and is not read again.
 void Carrier::publish(Seat &at, const Published &published) {
-  errno = 0;
-  expect(published.number <= at.events, "no event is left out");
+  need(published.number <= at.events, "no event is left out");
   for (std::uint64_t i = at.events - published.number; i < published.events.size(); ++i) {
     make_public(published.events[i]);
     ++at.events;
@@ -248,7 +246,7 @@ std::size_t Carrier::open_views() const {
 bool Carrier::registered(dvs::Set set) const {
   const std::optional<std::uint32_t> view = seat(*set.begin()).view;
   return view && views_.at(*view).set == set && views_.at(*view).registered == set &&
-         std::all_of(set.begin(), set.end(), [&](dvs::Member office) { return seat(office).view == view; });
+         std::all_of(set.begin(), set.end(), [&](dvs::Member office) { return seat(office).has_view && seat(office).view == view; });
 }
 
 }  // namespace kept

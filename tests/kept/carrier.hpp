@@ -38,7 +38,7 @@ class Carrier {
   void hear_out(dvs::Member office);
   // Takes what the offices have sent; waits for so many milliseconds if there is nothing.
   void hear_all(int milliseconds);
-  // A turn of each office, one after another: the same run each time. Whether there was anything to do.
+  // A turn of each office, one after another, the maker of views last: the same run each time. Whether there was anything to do.
   bool round();
 
   // Of the public history: the views attempted above the last one that all its offices registered in; whether all of the set are registered in one view,
@@ -57,10 +57,11 @@ class Carrier {
     int socket = -1;
     bool known = false;     // it has spoken, so its book is there
     bool spoke = false;     // since its process was started
+    bool has_view = false;  // it was given one since then
     bool in_turn = false;
     std::uint32_t highest = 0;
-    std::optional<std::uint32_t> view;
-    std::size_t taken = 0;
+    std::optional<std::uint32_t> view;  // given last
+    std::size_t taken = 0;              // so many packets of its order
     std::vector<Arrival> waiting;  // all but packets
     std::uint64_t events = 0;      // how many of its events are public
   };

@@ -11,7 +11,7 @@ kept=$1
 disk=$(mktemp -d)
 memory=$(mktemp -d -p /dev/shm 2> /dev/null || mktemp -d)
 trap 'rm -rf "$disk" "$memory"' EXIT
-judge() { python3 tests/figure1/figure1.py -; }
+judge() { python3 tests/figure1/figure1.py --final -; }
 
 python3 tests/figure1/cases.py
 "$kept" disk "$disk/disk"

@@ -22,7 +22,7 @@ void Tally::need_each() const {
 }  // namespace kept
 
 // A trial that takes so long hangs, and fails.
-constexpr unsigned kMostSeconds = 300;
+constexpr unsigned kMostSeconds = 1800;
 
 int main(int count, char **arguments) {
   using namespace kept;

@@ -5,12 +5,6 @@
 
 namespace kept {
 
-// What a trial needs, or the program ends.
-inline void need(bool holds, const char *words) {
-  errno = 0;  // no system call failed
-  expect(holds, words);
-}
-
 constexpr const char *kNames[kActions] = {"load", "wait", "take", "step", "write", "sync", "rename", "sync directory", "publish", "post"};
 
 // How often an office was stopped at each action.

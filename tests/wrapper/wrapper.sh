@@ -119,7 +119,7 @@ for compiler in g++ clang++; do
     if [ "$standard" = 17 ]; then
       "$compiler" "${flags[@]}" -o "$work/kept" "${kept[@]}" "${libs[@]}"
       "$work/kept" disk "$work/kept-files" 2> "$work/log" || { cat "$work/log"; exit 1; }
-      { "$work/kept" kills "$work/kept-files" 20 1 2> "$work/log" || { cat "$work/log" >&2; false; }; } | python3 tests/figure1/figure1.py - > /dev/null
+      { "$work/kept" kills "$work/kept-files" 20 1 2> "$work/log" || { cat "$work/log" >&2; false; }; } | python3 tests/figure1/figure1.py --final - > /dev/null
     else
       "$compiler" -std=c++"$standard" "${warnings[@]}" "${cflags[@]}" -fsyntax-only "${kept[@]}"
     fi
