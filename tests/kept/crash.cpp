@@ -51,7 +51,7 @@ void before(Action action) {
 void cut_power(Place &place, const std::string &directory) {
   std::error_code none;
   const fs::path beside = directory + "/book.new", file = directory + "/book", old = directory + "/book.old";
-  if (place.action == Action::sync) fs::resize_file(beside, fs::file_size(beside) / 2, none);
+  if (place.action == Action::sync) fs::resize_file(beside, fs::file_size(beside, none) / 2, none);
   if (!place.unsynced) return;
   if (fs::exists(old)) fs::rename(old, file, none);
   else fs::remove(file, none);
