@@ -8,8 +8,10 @@
 
 namespace kept {
 
-// Ends the process at once with these words and the system's reason, unless `holds`. What cannot be saved must not be spoken of, so nobody catches this.
+// Both end the process at once with these words, unless it is so: what cannot be saved must not be spoken of, so nobody catches it. The second is for system
+// calls, and adds the system's reason.
 void expect(bool holds, const char *words);
+void expect_done(bool done, const char *words);
 
 class Disk {
  public:

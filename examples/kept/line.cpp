@@ -92,7 +92,7 @@ std::optional<Departure> Line::take_departure() const {
 
 void Line::put(const Buffer &bytes) const {
   const ssize_t sent = ::send(socket_, bytes.data(), bytes.size(), MSG_NOSIGNAL);
-  expect(sent == static_cast<ssize_t>(bytes.size()) || errno == EPIPE || errno == ECONNRESET, "the line takes what is sent");
+  expect_done(sent == static_cast<ssize_t>(bytes.size()) || errno == EPIPE || errno == ECONNRESET, "the line takes what is sent");
 }
 
 std::optional<Buffer> Line::get() const {
@@ -101,7 +101,7 @@ std::optional<Buffer> Line::get() const {
   // A reset is told once, before what the other end had sent.
   do got = recv(socket_, bytes.data(), bytes.size(), 0);
   while (got < 0 && (errno == EINTR || errno == ECONNRESET));
-  expect(got >= 0, "the line is read");
+  expect_done(got >= 0, "the line is read");
   if (got == 0) return std::nullopt;
   bytes.resize(static_cast<std::size_t>(got));
   return bytes;

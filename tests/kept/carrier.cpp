@@ -14,7 +14,7 @@ namespace kept {
 
 Carrier::Carrier(const std::string &directory, Group group, Care care, std::FILE *history)
     : directory_(directory), group_(group), care_(care), history_(history), places_(shared_places(group.members)), seats_(group.members) {
-  need(std::filesystem::create_directory(directory), "the offices' directory is new");
+  expect(std::filesystem::create_directory(directory), "the offices' directory is new");
   for (dvs::Member office : dvs::Set::below(group.members)) std::filesystem::create_directory(this->directory(office));
   std::fprintf(history_, "group %u %u\n", group.members, group.first.bits);
   views_[0].set = views_[0].registered = group.first;
@@ -35,14 +35,14 @@ Carrier::~Carrier() {
 
 void Carrier::start(dvs::Member office, unsigned stop_at) {
   int sockets[2];
-  expect(socketpair(AF_UNIX, SOCK_SEQPACKET | SOCK_CLOEXEC, 0, sockets) == 0, "there is a line");
+  expect_done(socketpair(AF_UNIX, SOCK_SEQPACKET | SOCK_CLOEXEC, 0, sockets) == 0, "there is a line");
   place(office).action = Action::load;
   place(office).count = 0;
   place(office).stop_at = stop_at;
   place(office).lingers = false;
   std::fflush(nullptr);
   const pid_t process = fork();
-  expect(process >= 0, "there is a process");
+  expect_done(process >= 0, "there is a process");
   if (process == 0) {
     for (const Seat &other : seats_)
       if (other.process != 0) close(other.socket);
@@ -74,16 +74,16 @@ void Carrier::be_office(dvs::Member own, int socket) const {
 }
 
 void Carrier::kill(dvs::Member office) {
-  need(seat(office).process > 0, "the office to be killed has a process");
+  expect(seat(office).process > 0, "the office to be killed has a process");
   ::kill(seat(office).process, SIGKILL);
 }
 
 void Carrier::bury(dvs::Member office) {
   Seat &at = seat(office);
   int status = 0;
-  expect(waitpid(at.process, &status, 0) == at.process, "the process that is gone is found");
+  expect_done(waitpid(at.process, &status, 0) == at.process, "the process that is gone is found");
   const bool killed = WIFSIGNALED(status) && WTERMSIG(status) == SIGKILL, stopped = WIFEXITED(status) && WEXITSTATUS(status) == kStopped;
-  need(killed || stopped, "no office ends but by a kill or a stop of the test");
+  expect(killed || stopped, "no office ends but by a kill or a stop of the test");
   close(at.socket);
   at.process = 0;
   at.in_turn = at.spoke = at.has_view = false;
@@ -178,7 +178,7 @@ void Carrier::form(dvs::View view) {
   for (dvs::Member office : view.set)
     if (identifier <= (office == *view.set.begin() ? seat(office).view.value_or(0) : seat(office).highest)) return;
   awaited_.erase(awaited);
-  need(care_ != Care::kept || views_.count(identifier) == 0, "no two views share an identifier");
+  expect(care_ != Care::kept || views_.count(identifier) == 0, "no two views share an identifier");
   views_[identifier] = Channel();
   views_[identifier].set = view.set;
   for (dvs::Member office : view.set) {
@@ -215,7 +215,7 @@ bool Carrier::nearly_full() const {
 
 // An event with a known number was published before, and is not read again.
 void Carrier::publish(Seat &at, const Published &published) {
-  need(published.number <= at.events, "no event is left out");
+  expect(published.number <= at.events, "no event is left out");
   for (std::uint64_t i = at.events - published.number; i < published.events.size(); ++i) {
     make_public(published.events[i]);
     ++at.events;

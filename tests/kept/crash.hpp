@@ -5,15 +5,8 @@
 #include "disk.hpp"
 
 #include <atomic>
-#include <cerrno>
 
 namespace kept {
-
-// As expect, if no system call is the reason.
-inline void need(bool holds, const char *words) {
-  errno = 0;
-  expect(holds, words);
-}
 
 struct Place {
   std::atomic<Action> action{};          // the last one announced

@@ -17,7 +17,7 @@ template <class Deed>
 bool ends(Deed deed) {
   std::fflush(nullptr);
   const pid_t process = fork();
-  need(process >= 0, "there is a process");
+  expect_done(process >= 0, "there is a process");
   if (process == 0) {
     dup2(open("/dev/null", O_WRONLY), STDERR_FILENO);
     deed();
@@ -36,7 +36,7 @@ void write_no_more_than(rlim_t bytes) {
 
 State some_state() {
   State state;
-  need(state.book.start(3, dvs::Set::below(3), dvs::Member{1}).accepted(), "a book starts");
+  expect(state.book.start(3, dvs::Set::below(3), dvs::Member{1}).accepted(), "a book starts");
   state.copy = {32, 0, 66, 0};
   state.version = 2;
   state.highest = 17;
@@ -49,16 +49,16 @@ State some_state() {
 void try_changed_bytes() {
   const Buffer whole = pack(some_state());
   State state;
-  need(unpack(whole, state) && pack(state) == whole, "what was packed is unpacked");
+  expect(unpack(whole, state) && pack(state) == whole, "what was packed is unpacked");
   for (std::size_t i = 0; i < whole.size(); ++i) {
     Buffer changed = whole;
     changed[i] = static_cast<std::uint8_t>(changed[i] ^ (1u << i % 8));
-    need(!unpack(changed, state), "a changed byte is found");
-    need(!unpack(dvs::Bytes(whole.data(), i), state), "a cut is found");
+    expect(!unpack(changed, state), "a changed byte is found");
+    expect(!unpack(dvs::Bytes(whole.data(), i), state), "a cut is found");
   }
   Buffer longer = whole;
   longer.push_back(0);
-  need(!unpack(longer, state), "a byte too many is found");
+  expect(!unpack(longer, state), "a byte too many is found");
 }
 
 }  // namespace
@@ -69,22 +69,22 @@ void try_disk(const std::string &directory) {
   const Buffer old(5000, 1), next(6000, 2), bad(pack(some_state()).size(), 3);
   {
     Disk disk(directory);
-    need(!disk.load(), "nothing was saved");
+    expect(!disk.load(), "nothing was saved");
     disk.save(old);
-    need(disk.load() == old, "what was saved is loaded");
-    need(ends([&] { Disk second(directory); }), "a second process does not get the book");
+    expect(disk.load() == old, "what was saved is loaded");
+    expect(ends([&] { Disk second(directory); }), "a second process does not get the book");
   }
   for (const rlim_t room : {rlim_t{0}, rlim_t{5999}}) {
-    need(ends([&] {
+    expect(ends([&] {
       Disk disk(directory);
       write_no_more_than(room);
       disk.save(next);
     }), "a save that fails ends the process");
-    need(Disk(directory).load() == old, "and leaves what was saved before");
+    expect(Disk(directory).load() == old, "and leaves what was saved before");
   }
 
   int sockets[2];
-  need(socketpair(AF_UNIX, SOCK_SEQPACKET, 0, sockets) == 0, "there is a line");
+  expect_done(socketpair(AF_UNIX, SOCK_SEQPACKET, 0, sockets) == 0, "there is a line");
   const Line line(sockets[0]);
   const auto office_starts = [&](bool never_started) {
     Disk disk(directory);
@@ -93,13 +93,13 @@ void try_disk(const std::string &directory) {
   for (const Buffer &file : {old, bad}) {
     Disk(directory).save(file);
     for (const bool never_started : {false, true})
-      need(ends([&] { office_starts(never_started); }), "an office does not start with a file that is not whole");
+      expect(ends([&] { office_starts(never_started); }), "an office does not start with a file that is not whole");
   }
   Disk(directory).save(pack(some_state()));
-  need(!ends([&] { office_starts(false); }), "an office starts with its file");
+  expect(!ends([&] { office_starts(false); }), "an office starts with its file");
   std::filesystem::remove(directory + "/book");
-  need(ends([&] { office_starts(false); }), "an office that has lost its file does not start");
-  need(!ends([&] { office_starts(true); }), "an office that was never started does");
+  expect(ends([&] { office_starts(false); }), "an office that has lost its file does not start");
+  expect(!ends([&] { office_starts(true); }), "an office that was never started does");
   std::filesystem::remove_all(directory);
   std::fprintf(stderr, "kept: the disk by itself: as expected\n");
 }

@@ -16,7 +16,7 @@ void Tally::print() const {
 }
 
 void Tally::need_each() const {
-  for (const unsigned times : counts_) need(times > 0, "an office was stopped at each action");
+  for (const unsigned times : counts_) expect(times > 0, "an office was stopped at each action");
 }
 
 }  // namespace kept
@@ -32,5 +32,5 @@ int main(int count, char **arguments) {
   if (words.size() == 2 && words[0] == "disk") try_disk(words[1]);
   else if (words.size() == 2 && words[0] == "stops") try_stops(words[1]);
   else if (words.size() >= 4 && words[0] == "kills" && care) try_kills(words[1], static_cast<unsigned>(std::stoul(words[2])), std::stoull(words[3]), *care);
-  else need(false, "the arguments are those that main.cpp says");
+  else expect(false, "the arguments are those that main.cpp says");
 }

@@ -39,7 +39,7 @@ std::optional<Action> day(const std::string &directory, Stop stop) {
   for (const std::vector<dvs::Set> &parts : std::vector<std::vector<dvs::Set>>{{all}, {two, all - two}, {all}}) {
     if (!carrier.gone().empty()) break;
     work(carrier, parts);
-    need(!carrier.gone().empty() || carrier.registered(parts.front()), "the offices of a primary view register in it");
+    expect(!carrier.gone().empty() || carrier.registered(parts.front()), "the offices of a primary view register in it");
   }
   std::optional<Action> stopped;
   for (const unsigned stop_at : {stop.second, 0u}) {
@@ -50,7 +50,7 @@ std::optional<Action> day(const std::string &directory, Stop stop) {
     start(carrier, stop.office, stop_at);
     if (carrier.gone().empty()) work(carrier, {all});
   }
-  need(carrier.registered(all), "at the end all are registered in one view");
+  expect(carrier.registered(all), "at the end all are registered in one view");
   return stopped;
 }
 
@@ -74,7 +74,7 @@ void try_stops(const std::string &directory) {
       tally.count(*stopped);
       if (!writes(*stopped)) continue;
       stop.first_cuts = true;
-      need(day(directory, stop) == stopped, "up to the stop a run is the same each time");
+      expect(day(directory, stop) == stopped, "up to the stop a run is the same each time");
       ++days;
       if (*stopped != Action::sync_directory) continue;
       // The file is replaced, and a power cut may still bring the old one back when the office has started again.
