@@ -82,12 +82,16 @@ constexpr std::array<std::uint32_t, 256> crc_table() noexcept {
 }
 inline constexpr std::array<std::uint32_t, 256> kCrcTable = crc_table();
 
-// The CRC-32 of zip and PNG.
-constexpr std::uint32_t crc32(Bytes bytes) noexcept {
+}  // namespace detail
+
+// The CRC-32 of zip and PNG. A host may use it for what it keeps beside a book.
+constexpr std::uint32_t checksum(Bytes bytes) noexcept {
   std::uint32_t rest = 0xFFFFFFFFu;
-  for (std::size_t i = 0; i < bytes.size(); ++i) rest = rest >> 8u ^ kCrcTable[(rest ^ bytes[i]) & 0xFFu];
+  for (std::size_t i = 0; i < bytes.size(); ++i) rest = rest >> 8u ^ detail::kCrcTable[(rest ^ bytes[i]) & 0xFFu];
   return ~rest;
 }
+
+namespace detail {
 
 inline constexpr std::uint32_t kMagic = 0x44565342u;   // DVSB
 
@@ -98,7 +102,7 @@ constexpr Loaded envelope(Bytes saved) noexcept {
   if (saved.size() < kSavedBook || get(saved, kSavedMagic, 4) != kMagic) return {SavedFault::not_saved_book, 0};
   if (saved.size() < kSavedBook + 4 || get(saved, kSavedLength, 4) != saved.size() - kSavedBook - 4) return {SavedFault::wrong_length, 0};
   const std::size_t checked = saved.size() - 4;
-  if (get(saved, checked, 4) != crc32(Bytes(saved.data(), checked))) return {SavedFault::damaged, 0};
+  if (get(saved, checked, 4) != checksum(Bytes(saved.data(), checked))) return {SavedFault::damaged, 0};
   const auto layout = static_cast<std::uint32_t>(get(saved, kSavedLayout, 4));
   return {layout == DVS_LAYOUT ? SavedFault::none : SavedFault::other_layout, layout};
 }
@@ -112,7 +116,7 @@ constexpr SavedBook wrap(const BookBytes &book) noexcept {
   detail::put(saved, kSavedLayout, 4, DVS_LAYOUT);
   detail::put(saved, kSavedLength, 4, book.size());
   for (std::size_t i = 0; i < book.size(); ++i) saved[kSavedBook + i] = book[i];
-  detail::put(saved, kSavedChecksum, 4, detail::crc32(Bytes(saved.data(), kSavedChecksum)));
+  detail::put(saved, kSavedChecksum, 4, checksum(Bytes(saved.data(), kSavedChecksum)));
   return saved;
 }
 

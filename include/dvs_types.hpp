@@ -58,17 +58,19 @@ constexpr bool is_view = std::is_trivially_copyable_v<Owner> && std::is_construc
 template <class Owner>
 using Temporary = std::enable_if_t<!std::is_lvalue_reference_v<Owner> && !is_view<Owner, Element<Owner>>>;
 
-#ifdef __cpp_lib_span
-template <class T>
-using Span = std::span<T>;
-#else
+}  // namespace detail
+
+#ifndef __cpp_lib_span
+// In a namespace of its own, so that a host's call with a range does not find the functions of detail beside the host's.
+namespace before_cpp20 {
+
 // A pointer and a length, made from an array or from anything with data() and size(), as std::span is.
 template <class T>
 class Span {
  public:
   constexpr Span() noexcept = default;
   constexpr Span(T *data, std::size_t size) noexcept : data_(data), size_(size) {}
-  template <class Owner, class = std::enable_if_t<std::is_convertible_v<Element<Owner> *, T *>>>
+  template <class Owner, class = std::enable_if_t<std::is_convertible_v<detail::Element<Owner> *, T *>>>
   constexpr Span(Owner &&owner) noexcept : data_(std::data(owner)), size_(std::size(owner)) {}
 
   constexpr T *data() const noexcept { return data_; }
@@ -82,6 +84,18 @@ class Span {
   T *data_ = nullptr;
   std::size_t size_ = 0;
 };
+
+}  // namespace before_cpp20
+#endif
+
+namespace detail {
+
+#ifdef __cpp_lib_span
+template <class T>
+using Span = std::span<T>;
+#else
+template <class T>
+using Span = before_cpp20::Span<T>;
 #endif
 
 }  // namespace detail

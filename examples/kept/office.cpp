@@ -10,25 +10,6 @@ namespace {
 // The entry that ends what an office brings into a new view. No entry of a mark is 0, since versions begin with 1.
 constexpr std::uint64_t kLast = 0;
 
-std::string words(const dvs::Event &event) {
-  const std::string who = std::to_string(dvs::number(event.member)) + " " + std::to_string(dvs::number(event.view));
-  const std::string what = std::to_string(dvs::number(event.sender)) + " " + std::to_string(event.entry);
-  switch (event.kind) {
-    case dvs::EventKind::attempted:
-      return "attempt " + who + " " + std::to_string(event.set.bits);
-    case dvs::EventKind::registered:
-      return "register " + who;
-    case dvs::EventKind::sent:
-      return "send " + who + " " + std::to_string(event.entry);
-    case dvs::EventKind::handed:
-      return "hand " + who + " " + what;
-    case dvs::EventKind::safe:
-      return "safe " + who + " " + what;
-    default:
-      return "unknown";
-  }
-}
-
 }  // namespace
 
 Office::Office(Group group, dvs::Member own, bool never_started, Disk &disk, const Line &line) : own_(own), disk_(disk), line_(line) {
@@ -80,7 +61,10 @@ dvs::Book &Office::call() {
   return state_.book;
 }
 
-void Office::note(const dvs::Event &event) { state_.events.push_back(words(event)); }
+void Office::note(const dvs::Event &event) {
+  const dvs::Line line = dvs::line(event);
+  state_.events.emplace_back(line.text());
+}
 
 // ---- take
 

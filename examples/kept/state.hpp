@@ -27,7 +27,8 @@ struct State {
 };
 
 Buffer pack(const State &state);
-// False if the bytes are not what pack gave, or the book in them is refused. The state is then not to be used.
+// False if the bytes are not what pack gave; the state is then not to be used. A book that load refuses, as one of another layout, ends the process with
+// the reason.
 bool unpack(dvs::Bytes bytes, State &state);
 
 }  // namespace kept

@@ -106,7 +106,7 @@ void others() {
   later[7] = 2;
   later.resize(7000);
   dvs::detail::put(later, dvs::kSavedLength, 4, later.size() - 16);
-  dvs::detail::put(later, later.size() - 4, 4, dvs::detail::crc32(dvs::Bytes(later.data(), later.size() - 4)));
+  dvs::detail::put(later, later.size() - 4, 4, dvs::checksum(dvs::Bytes(later.data(), later.size() - 4)));
   write("other-layout", later);
   write("unsound", dvs::Book());
   write("raw-unsound", Buffer(DVS_BOOK_SIZE));

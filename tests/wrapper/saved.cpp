@@ -80,7 +80,7 @@ constexpr dvs::SavedBook kZeros = dvs::wrap(dvs::BookBytes{});
 static_assert(dvs::kSavedSize == 5250 && dvs::detail::envelope(kZeros).fault() == SavedFault::none && dvs::detail::envelope(kZeros).layout() == DVS_LAYOUT);
 
 void format() {
-  EXPECT(dvs::detail::crc32(dvs::Bytes(kDigits, sizeof kDigits)) == 0xCBF43926u && dvs::detail::crc32(dvs::Bytes()) == 0);
+  EXPECT(dvs::checksum(dvs::Bytes(kDigits, sizeof kDigits)) == 0xCBF43926u && dvs::checksum(dvs::Bytes()) == 0);
   dvs::Book book;
   EXPECT(book.start(1, Set{1}, Member{0}));
   const dvs::SavedBook fresh = book.save();
