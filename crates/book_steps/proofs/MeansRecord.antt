@@ -5,6 +5,7 @@ use Prim.Native.Nat.{ℕ, _+_, _≤_, _<_}
 use native.Mathlib.Omega.{arith}
 use lib.ListN.{getD, set}
 use Rattle.views.specs.Limits.{maxMembers}
+use Rattle.views.specs.Sets.{withMember}
 use Rattle.wire.proofs.TripViews.{ViewFits}
 use Rattle.rules.specs.Data.{Entry, Item}
 use Rattle.slots.proofs.BytesKept.{set-bytes}
@@ -15,7 +16,6 @@ use Rattle.book_bytes.specs.Records.{recordIn, storeHeld}
 use Rattle.book_bytes.proofs.Fits.{OpensFit}
 use Rattle.book_bytes.proofs.Changes.{holding, counting, byte-within, byte-layout, taken-set, infos-set, registrations-set, tolds-set, held-within, held-set, held-layout}
 use Rattle.book_bytes.proofs.RecordBytes.{held-bytes}
-use Rattle.record_steps.specs.Turns.{withMember}
 use Rattle.book_steps.specs.Acts.{oneMore, noted}
 use Rattle.book_steps.proofs.Means.{Stands, size, changes}
 

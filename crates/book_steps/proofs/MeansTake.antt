@@ -10,6 +10,7 @@ use lib.ListN.{length, getD}
 use Rattle.views.specs.declared.View.{View}
 use Rattle.views.specs.Limits.{maxMembers, maxOpen, maxOrdered}
 use Rattle.views.proofs.SetLaws.{known}
+use Rattle.views.proofs.WithMemberLaws.{one-noted}
 use Rattle.views.proofs.PlaceLaws.{list-placed}
 use Rattle.wire.proofs.TripViews.{ViewFits, EachFits, AreBytes}
 use Rattle.rules.specs.Data.{Message, client, info, registered, told}
@@ -27,7 +28,7 @@ use Rattle.book_bytes.specs.Books.{outgoingIn, bookIn, bytesSound}
 use Rattle.book_bytes.proofs.LayoutLaws.{Layout}
 use Rattle.book_bytes.proofs.Fits.{Fits}
 use Rattle.book_bytes.proofs.InwardBooks.{length-inward}
-use Rattle.record_steps.proofs.MeaningNotes.{one-noted, one-told}
+use Rattle.record_steps.proofs.MeaningNotes.{one-told}
 use Rattle.book_steps.specs.Acts.{gaining, heldAfter, takeBytes}
 use Rattle.book_steps.proofs.Committed.{sound-layout}
 use Rattle.book_steps.proofs.Means.{Means, means-as, sound-fits, ownIn, newIn, Stands, queues-kept, gains-own, gains-new}

@@ -14,6 +14,7 @@ use Rattle.views.specs.declared.list.Lookup.{Lookup}
 use Rattle.views.specs.declared.list.Lookup.the-variants.{Found, Missing}
 use Rattle.views.specs.Limits.{maxMembers, maxViews, maxOpen}
 use Rattle.views.specs.Lists.{idOf, findOf, insertOf, unionOf, aboveOf, listOf, placed}
+use Rattle.views.specs.Sets.{withMember}
 use Rattle.views.proofs.SetLaws.{known}
 use Rattle.views.proofs.Members.{In, top, pop}
 use Rattle.views.proofs.ListLaws.{find-in, above-in, length-above, union-in, length-union, insert-union, insert-in}
@@ -23,7 +24,7 @@ use Rattle.rules.specs.Data.{Held}
 use Rattle.rules.specs.Member.{ownOr, settledBy, learned}
 use Rattle.book_bytes.specs.declared.Record.{Record}
 use Rattle.book_bytes.proofs.Fits.{OpensFit, Fits, opens-list}
-use Rattle.record_steps.specs.Turns.{withMember, openedTo, attemptedAt, settledAs}
+use Rattle.record_steps.specs.Turns.{openedTo, attemptedAt, settledAs}
 
 -- ---- lists of views
 

@@ -9,6 +9,7 @@ use Rattle.views.specs.declared.View.{View}
 use Rattle.views.specs.declared.refusal.Refusal.the-variants.{TooManyOpen}
 use Rattle.views.specs.Limits.{maxOpen}
 use Rattle.views.specs.Lists.{listOf, placed}
+use Rattle.views.specs.Sets.{withMember}
 use Rattle.rules.specs.Data as R
 use Rattle.rules.specs.Data.{Member, Message, client, info, registered, told, ok, Result, accepted, need, after}
 use Rattle.rules.specs.Member.{Done, does, clientIsCarrier, learned, delivered}
@@ -18,7 +19,7 @@ use Rattle.book_bytes.specs.Places.{carrierAt, registeredAt, handedAt, toldAt, 
 use Rattle.book_bytes.specs.Places.{registrationsAt, toldsAt, sideAt, outgoingAt, inwardAt}
 use Rattle.book_bytes.specs.Records.{recordIn, heldIn, storeSeat, storeHeld, storeRecord}
 use Rattle.book_bytes.specs.Books.{bookIn}
-use Rattle.record_steps.specs.Turns.{withMember, seat, attemptedAt, settledAs}
+use Rattle.record_steps.specs.Turns.{seat, attemptedAt, settledAs}
 use Rattle.book_bytes.specs.Books.{selfIn}
 
 -- ---- 43: an attempt, or a message taken, that would leave more than 31 views open

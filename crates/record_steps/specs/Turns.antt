@@ -2,8 +2,7 @@
 -- changes of it.
 use mathlib.Core.Bool.{Bool, true, false, cond}
 use mathlib.Core.List.{List, []}
-use Prim.Native.Nat.{ℕ, _-_, _^_}
-use lib.Bits.{bitOr}
+use Prim.Native.Nat.{ℕ, _-_}
 use lib.Dec.{ltb}
 use lib.ListN.{replicate}
 use Rattle.views.specs.declared.View.{View}
@@ -50,12 +49,6 @@ seat v = record { there = true; view = v }
 unfoldable pub joinVerdict : ℕ → View → Seat → Verdict
 joinVerdict p v at =
     require (has (v .set) p) NotInSet (require (isAbove (idOf v) (seated at)) NotAboveCarrier Accepted)
-
--- ---- deliver: what was taken
-
--- member q is in the set
-unfoldable pub withMember : ℕ → ℕ → ℕ
-withMember q s = bitOr s (2 ^ q)
 
 -- ---- attempt
 

@@ -5,8 +5,8 @@ ghost use mathlib.Core.Path.{_≡_};
 ghost use mathlib.Core.List.{[]};
 ghost use Prim.Native.Nat.{_<_};
 ghost use Rattle.views.specs.Limits.{maxMembers};
+ghost use Rattle.views.specs.Sets.{withMember};
 ghost use Rattle.rules.specs.Member.{settledBy};
-ghost use Rattle.record_steps.specs.Turns.{withMember};
 
 // The set with the member in it.
 pub fn with_member(members: u8, q: Member) -> u8

@@ -1,4 +1,5 @@
 pub mod SetLaws
+pub mod WithMemberLaws
 pub mod VerdictLaws
 pub mod CountLaws
 pub mod Members

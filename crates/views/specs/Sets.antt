@@ -2,7 +2,7 @@
 use mathlib.Core.Bool.{Bool, true, false, cond, not}
 use Prim.Native.Nat.{ℕ, zero, suc, _+_, _*_, _/_, _%_, _^_}
 use lib.Dec.{eqb, ltb, leb}
-use lib.Bits.{bitAnd}
+use lib.Bits.{bitAnd, bitOr}
 use Rattle.views.specs.Limits.{maxMembers}
 
 abbrev pub both : Bool → Bool → Bool
@@ -24,6 +24,10 @@ isBeyond s n = leb (2 ^ n) s
 -- the members that both sets have
 unfoldable pub inCommon : ℕ → ℕ → ℕ
 inCommon s t = bitAnd s t
+
+-- the set with the member q in it
+unfoldable pub withMember : ℕ → ℕ → ℕ
+withMember q s = bitOr s (2 ^ q)
 
 -- what those of the members below n weigh together that the test picks
 unfoldable pub weigh : (ℕ → ℕ) → (ℕ → Bool) → ℕ → ℕ

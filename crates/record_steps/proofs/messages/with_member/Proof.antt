@@ -1,6 +1,6 @@
 -- `record_steps::messages::with_member` meets its contract: a member's digit fits the byte.
 use borrow.Author.Needs.{needs}
-use Rattle.record_steps.specs.Turns.{withMember}
+use Rattle.views.specs.Sets.{withMember}
 use Rattle.record_steps.proofs.TakeLaws.{digit-fits}
 use Rattle.record_steps.proofs.messages.with_member.Statement.{statement}
 use Rattle.record_steps.proofs.messages.with_member.Tie as tie
