@@ -11,6 +11,7 @@ pub mod FinalCases
 pub mod Exchange
 pub mod ExchangeCase
 pub mod NeverWedged
+pub mod Crossing
 pub mod Forming
 pub mod Alone
 pub mod Refused

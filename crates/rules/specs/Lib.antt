@@ -7,6 +7,7 @@ pub mod Runs
 pub mod Promise
 pub mod Final
 pub mod Exchange
+pub mod Crossing
 pub mod Forming
 pub mod Alone
 pub mod Cases

@@ -69,7 +69,8 @@ module _ {M : Type 0} (size : ℕ) (weight : ℕ → ℕ) (S : ℕ) (below : (p 
     pub trace : (d : Outer M) × Run (firstView S) d es
     trace = (outer, run)
 
-    att-listed : (v : View) → AttE S es v → In v (s .views)
+    -- what was attempted is listed
+    pub att-listed : (v : View) → AttE S es v → In v (s .views)
     att-listed v av = tied .created-listed v (attempted-created (firstView S) run v av)
 
     att-inside : (v : View) → AttE S es v → Att (E size weight named) state (idOf v)
