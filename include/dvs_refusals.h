@@ -52,8 +52,9 @@
 #define DVS_REFUSED_TOO_MANY_OPEN 43u        /* more than 31 views would be open */
 #define DVS_REFUSED_VIEW_NOT_FRESH 44u       /* the view to form is not the newest, or a member has joined it */
 #define DVS_REFUSED_FORM_TEST_FAILED 45u     /* the view to form has no majority of a view that one of its members holds */
+#define DVS_REFUSED_TOO_FEW_PLACES 46u       /* the buffer of identifiers is shorter than the list */
 
-#define DVS_REFUSALS 45u /* how many there are: the highest number */
+#define DVS_REFUSALS 46u /* how many there are: the highest number */
 
 /* Returns the words of what a call returned, 0 or a refusal's number, for a log. */
 #if defined(__cpp_constexpr) && __cpp_constexpr >= 201304L
@@ -107,6 +108,7 @@ static inline const char *dvs_refusal_text(uint32_t refusal) {
     case DVS_REFUSED_TOO_MANY_OPEN: return "more than 31 views would be open";
     case DVS_REFUSED_VIEW_NOT_FRESH: return "the view to form is not the newest, or a member has joined it";
     case DVS_REFUSED_FORM_TEST_FAILED: return "the view to form has no majority of a view that one of its members holds";
+    case DVS_REFUSED_TOO_FEW_PLACES: return "the buffer of identifiers is shorter than the list";
   }
   return "no refusal of this library";
 }

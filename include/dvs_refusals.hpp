@@ -56,6 +56,7 @@ enum class Refusal : std::uint32_t {
   too_many_open = DVS_REFUSED_TOO_MANY_OPEN,
   view_not_fresh = DVS_REFUSED_VIEW_NOT_FRESH,
   form_test_failed = DVS_REFUSED_FORM_TEST_FAILED,
+  too_few_places = DVS_REFUSED_TOO_FEW_PLACES,
 };
 
 constexpr std::uint32_t number(Refusal refusal) noexcept { return static_cast<std::uint32_t>(refusal); }

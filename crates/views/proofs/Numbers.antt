@@ -16,7 +16,7 @@ use Rattle.views.specs.declared.refusal.Refusal.the-variants.{Registrati
 use Rattle.views.specs.declared.refusal.Refusal.the-variants.{SectionCount, EmptySet, NotRising, ToldOutOfRange}
 use Rattle.views.specs.declared.refusal.Refusal.the-variants.{BytesLeftOver, BufferTooShort, LineUnreadable}
 use Rattle.views.specs.declared.refusal.Refusal.the-variants.{AnotherView, SenderNotInView, TooManyOpen}
-use Rattle.views.specs.declared.refusal.Refusal.the-variants.{ViewNotFresh, FormTestFailed}
+use Rattle.views.specs.declared.refusal.Refusal.the-variants.{ViewNotFresh, FormTestFailed, TooFewPlaces}
 use Rattle.views.specs.Refusals.{numberOf}
 
 pub never-0 : (r : Refusal) → eqb (numberOf r) 0 ≡ false
@@ -65,3 +65,4 @@ never-0 SenderNotInView = refl
 never-0 TooManyOpen = refl
 never-0 ViewNotFresh = refl
 never-0 FormTestFailed = refl
+never-0 TooFewPlaces = refl

@@ -15,7 +15,7 @@ use Rattle.views.specs.declared.refusal.Refusal.the-variants.{Registrati
 use Rattle.views.specs.declared.refusal.Refusal.the-variants.{SectionCount, EmptySet, NotRising, ToldOutOfRange}
 use Rattle.views.specs.declared.refusal.Refusal.the-variants.{BytesLeftOver, BufferTooShort, LineUnreadable}
 use Rattle.views.specs.declared.refusal.Refusal.the-variants.{AnotherView, SenderNotInView, TooManyOpen}
-use Rattle.views.specs.declared.refusal.Refusal.the-variants.{ViewNotFresh, FormTestFailed}
+use Rattle.views.specs.declared.refusal.Refusal.the-variants.{ViewNotFresh, FormTestFailed, TooFewPlaces}
 use Rattle.views.specs.declared.refusal.Verdict.{Verdict}
 use Rattle.views.specs.declared.refusal.Verdict.the-variants.{Accepted, Refused}
 
@@ -65,6 +65,7 @@ numberOf SenderNotInView = 42
 numberOf TooManyOpen = 43
 numberOf ViewNotFresh = 44
 numberOf FormTestFailed = 45
+numberOf TooFewPlaces = 46
 
 -- 0 for accepted, or the refusal's number
 abbrev pub codeOf : Verdict → ℕ

@@ -66,6 +66,8 @@ pub enum Refusal {
     // driver
     ViewNotFresh,
     FormTestFailed,
+    // the crossing query
+    TooFewPlaces,
 }
 
 // The refusal's number.
@@ -118,6 +120,7 @@ pub fn number(r: Refusal) -> u8
         Refusal::TooManyOpen => 43,
         Refusal::ViewNotFresh => 44,
         Refusal::FormTestFailed => 45,
+        Refusal::TooFewPlaces => 46,
     }
 }
 

@@ -140,6 +140,9 @@ enum-told-44 c = search needs
 enum-told-45 : tie.Need-enum-told-45
 enum-told-45 c = search needs
 
+enum-told-46 : tie.Need-enum-told-46
+enum-told-46 c = search needs
+
 returns : tie.Need-returns
 returns c = sym (ap numberOf (c .enum-told .given .1))
 
@@ -275,6 +278,9 @@ returns-44 c = sym (ap numberOf (c .enum-told44 .given .1))
 returns-45 : tie.Need-returns-45
 returns-45 c = sym (ap numberOf (c .enum-told45 .given .1))
 
+returns-46 : tie.Need-returns-46
+returns-46 c = sym (ap numberOf (c .enum-told46 .given .1))
+
 pub number-spec : {M : Type 1} → statement M
 number-spec =
     tie.close
@@ -324,6 +330,7 @@ number-spec =
     enum-told-43
     enum-told-44
     enum-told-45
+    enum-told-46
     returns
     returns-2
     returns-3
@@ -368,4 +375,5 @@ number-spec =
     returns-42
     returns-43
     returns-44
-    returns-45)
+    returns-45
+    returns-46)
