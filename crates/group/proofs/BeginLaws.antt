@@ -20,7 +20,7 @@ use Rattle.rules.proofs.Truth.{both-unit}
 use Rattle.events.specs.Replies.{verdictOf}
 use Rattle.book_bytes.specs.Places.{bookSize}
 use Rattle.book_bytes.specs.Starts.{startBytes}
-use Rattle.group_bytes.specs.Places.{roomOf, booksSize, bookBytes, withBook, queuesSize}
+use Rattle.group_bytes.specs.Places.{roomOf, booksSize, bookBytes, withBook, queuesSize, layoutAt}
 use Rattle.group_bytes.specs.Groups.{Ranges}
 use Rattle.group_bytes.specs.Starts.{startBooks, startRanges}
 use Rattle.group_bytes.specs.Steps.{rangesLong, startResult}
@@ -155,7 +155,7 @@ module _ (n S : ℕ) (r : Ranges) (e : Accepted ≡ verdictOf (startResult n S r
   pub members-few : n ≤ maxMembers
   members-few = found .members .1
 
-  pub queues-room : 1 ≤ length (r .queues)
+  pub queues-room : layoutAt < length (r .queues)
   queues-room = let h = found in omega (arith, h .queues)
 
 pub start-refused : (n S : ℕ) (r : Ranges) (x : Refusal) → Refused x ≡ verdictOf (startResult n S r) → Began r n S r (Refused x)

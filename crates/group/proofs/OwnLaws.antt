@@ -17,10 +17,10 @@ use Rattle.rules.specs.Group.{own, pick, stepOf}
 use Rattle.book_bytes.specs.Books.{bookIn, membersIn, selfIn}
 use Rattle.events.specs.declared.Reply.{Reply}
 use Rattle.events.specs.Replies.{replyOf, verdictOf}
-use Rattle.book_steps.specs.Acts.{fewOpen, attemptBytes, registerBytes, sendBytes, handBytes, tellBytes, safeBytes, collectBytes}
+use Rattle.book_steps.specs.Acts.{fewOpen, registerBytes, sendBytes, handBytes, tellBytes, safeBytes, collectBytes}
 use Rattle.group_bytes.specs.Places.{bookBytes, withBook}
 use Rattle.group_bytes.specs.Groups.{Ranges, ranges, membersOf, groupIn, rangesSound}
-use Rattle.group_bytes.specs.Moves.{rebooked}
+use Rattle.group_bytes.specs.Moves.{rebooked, attemptRanges}
 use Rattle.group_bytes.specs.Answers.{nextReply}
 use Rattle.group_bytes.specs.Steps.{stepResult, pickRanges, moved, stepRanges, stepReply}
 use Rattle.group_bytes.proofs.RangesLaws.{RangesBytes}
@@ -28,12 +28,22 @@ use Rattle.group_bytes.proofs.BookSounds.{members-in, self-in, book-is, sound-b
 use Rattle.group_bytes.proofs.BookSteps.{attempt-opens-few}
 use Rattle.group_bytes.proofs.AnswerLaws.{own-reply, own-verdict}
 use Rattle.group_steps.proofs.Rows.{ranged, group-sound}
-use Rattle.group_steps.specs.OwnParts.{HasBook, ofMember, OwnStep}
+use Rattle.group_steps.specs.OwnParts.{HasBook, ofMember, OwnStep, attemptResult, Attempted}
 use Rattle.group.specs.StepCalls.{asked, Went}
 
 -- ---- a result of the member's rule, and the group's
 
--- the books of what is left
+-- the parts of what is left
+left-list : (v : Verdict) (r m : Ranges) → m .list ≡ r .list → r .list ≡ left v m r .list
+unfolding left
+left-list Accepted r m e = sym e
+left-list (Refused f) r m e = refl
+
+left-queues : (v : Verdict) (r m : Ranges) → left v (m .queues) (r .queues) ≡ left v m r .queues
+unfolding left
+left-queues Accepted r m = refl
+left-queues (Refused f) r m = refl
+
 pub left-books : (v : Verdict) (r m : Ranges) → left v (m .books) (r .books) ≡ left v m r .books
 unfolding left
 left-books Accepted r m = refl
@@ -54,11 +64,9 @@ module _ (r : Ranges) (s : rangesSound r ≡ true) where
   unfolding stepResult need
   result-sound c = rw s
 
-  module _ (c : Step) (p : ℕ) (rule : Result Done) (onBook : List ℕ → Result Done) (new : List ℕ → List ℕ)
+  module _ (c : Step) (p : ℕ) (rule : Result Done) (onBook : List ℕ → Result Done)
       (step : stepOf one (groupIn r) c ≡ need (ltb p (membersOf r)) NoSuchMember (own (groupIn r) p rule))
-      (moves : moved r c ≡ rebooked r p (new (bookBytes (r .books) p)))
-      (same : p < membersOf r → onBook (bookBytes (r .books) p) ≡ rule)
-      (exit : List ℕ) (x : Reply) (sat : OwnStep p (ofMember (r .books) p onBook) new (r .books) exit x) where
+      (same : p < membersOf r → onBook (bookBytes (r .books) p) ≡ rule) where
     result-is : stepResult r c ≡ need (ltb p (membersOf r)) NoSuchMember (own (groupIn r) p rule)
     result-is = result-sound c ∙ step
 
@@ -67,9 +75,10 @@ module _ (r : Ranges) (s : rangesSound r ≡ true) where
     member-is false e = rw (result-is, e) (refl, refl)
     member-is true e = rw (result-is, e, same (ltb-true _ _ e)) (own-reply (groupIn r) p rule, own-verdict (groupIn r) p rule)
 
-    pub own-went : Went r c (ranges (r .list) exit (r .queues)) x
+    pub own-went : (new : List ℕ → List ℕ) (moves : moved r c ≡ rebooked r p (new (bookBytes (r .books) p))) (exit : List ℕ) (x : Reply)
+        → OwnStep p (ofMember (r .books) p onBook) new (r .books) exit x → Went r c (ranges (r .list) exit (r .queues)) x
     unfolding stepReply stepRanges
-    own-went =
+    own-went new moves exit x sat =
         let m = member-is (ltb p (membersOf r)) refl in
         let v = verdictOf (stepResult r c) in
         let l = left-same v r p (new (bookBytes (r .books) p)) in
@@ -89,32 +98,46 @@ module _ (r : Ranges) (s : rangesSound r ≡ true) where
 
     pub register-went : OwnStep p (ofMember (r .books) p (λ b. registers (selfIn b) (bookIn b))) registerBytes (r .books) exit x → Went r (asked 7 p second) (ranges (r .list) exit (r .queues)) x
     unfolding stepOf pick moved pickRanges groupIn
-    register-went = own-went (asked 7 p second) p (registers p (groupIn r .books p)) _ registerBytes refl refl (at-desk (λ _ q b. registers q b)) exit x
+    register-went = own-went (asked 7 p second) p (registers p (groupIn r .books p)) _ refl (at-desk (λ _ q b. registers q b)) registerBytes refl exit x
 
     pub send-went : OwnStep p (ofMember (r .books) p (λ b. sends (selfIn b) second (bookIn b))) (sendBytes second) (r .books) exit x → Went r (asked 8 p second) (ranges (r .list) exit (r .queues)) x
     unfolding stepOf pick moved pickRanges groupIn
-    send-went = own-went (asked 8 p second) p (sends p second (groupIn r .books p)) _ (sendBytes second) refl refl (at-desk (λ _ q b. sends q second b)) exit x
+    send-went = own-went (asked 8 p second) p (sends p second (groupIn r .books p)) _ refl (at-desk (λ _ q b. sends q second b)) (sendBytes second) refl exit x
 
     pub hand-went : OwnStep p (ofMember (r .books) p (λ b. hands (selfIn b) (bookIn b))) handBytes (r .books) exit x → Went r (asked 9 p second) (ranges (r .list) exit (r .queues)) x
     unfolding stepOf pick moved pickRanges groupIn
-    hand-went = own-went (asked 9 p second) p (hands p (groupIn r .books p)) _ handBytes refl refl (at-desk (λ _ q b. hands q b)) exit x
+    hand-went = own-went (asked 9 p second) p (hands p (groupIn r .books p)) _ refl (at-desk (λ _ q b. hands q b)) handBytes refl exit x
 
     pub tell-went : OwnStep p (ofMember (r .books) p (λ b. tells (selfIn b) (bookIn b))) tellBytes (r .books) exit x → Went r (asked 10 p second) (ranges (r .list) exit (r .queues)) x
     unfolding stepOf pick moved pickRanges groupIn
-    tell-went = own-went (asked 10 p second) p (tells p (groupIn r .books p)) _ tellBytes refl refl (at-desk (λ _ q b. tells q b)) exit x
+    tell-went = own-went (asked 10 p second) p (tells p (groupIn r .books p)) _ refl (at-desk (λ _ q b. tells q b)) tellBytes refl exit x
 
     pub safe-went : OwnStep p (ofMember (r .books) p (λ b. safes (membersIn b) (selfIn b) (bookIn b))) safeBytes (r .books) exit x → Went r (asked 11 p second) (ranges (r .list) exit (r .queues)) x
     unfolding stepOf pick moved pickRanges groupIn
-    safe-went = own-went (asked 11 p second) p (safes (membersOf r) p (groupIn r .books p)) _ safeBytes refl refl (at-desk (λ n q b. safes n q b)) exit x
+    safe-went = own-went (asked 11 p second) p (safes (membersOf r) p (groupIn r .books p)) _ refl (at-desk (λ n q b. safes n q b)) safeBytes refl exit x
 
     pub collect-went : OwnStep p (ofMember (r .books) p (λ b. collects (membersIn b) (bookIn b))) collectBytes (r .books) exit x → Went r (asked 12 p second) (ranges (r .list) exit (r .queues)) x
     unfolding stepOf pick moved pickRanges groupIn
-    collect-went = own-went (asked 12 p second) p (collects (membersOf r) (groupIn r .books p)) _ collectBytes refl refl (at-desk (λ n q b. collects n b)) exit x
+    collect-went = own-went (asked 12 p second) p (collects (membersOf r) (groupIn r .books p)) _ refl (at-desk (λ n q b. collects n b)) collectBytes refl exit x
 
     -- 43 does not show in a sound group
-    pub attempt-went : RangesBytes r → OwnStep p (ofMember (r .books) p (λ b. fewOpen (attempts one (membersIn b) (selfIn b) (bookIn b)))) attemptBytes (r .books) exit x
-        → Went r (asked 6 p second) (ranges (r .list) exit (r .queues)) x
-    unfolding stepOf pick moved pickRanges groupIn
-    attempt-went bytes =
-        own-went (asked 6 p second) p (attempts one (membersOf r) p (groupIn r .books p)) _ attemptBytes refl refl
-        (λ h. at-desk (λ n q b. fewOpen (attempts one n q b)) h ∙ attempt-opens-few r (ranged r s) bytes (group-sound r s) p h one) exit x
+    attempt-is : RangesBytes r → (nextReply (stepResult r (asked 6 p second)) ≡ replyOf (attemptResult (r .books) p))
+        × (verdictOf (stepResult r (asked 6 p second)) ≡ verdictOf (attemptResult (r .books) p))
+    unfolding stepOf pick groupIn attemptResult
+    attempt-is bytes =
+        member-is (asked 6 p second) p (attempts one (membersOf r) p (groupIn r .books p)) (λ b. fewOpen (attempts one (membersIn b) (selfIn b) (bookIn b))) refl
+        (λ h. at-desk (λ n q b. fewOpen (attempts one n q b)) h ∙ attempt-opens-few r (ranged r s) bytes (group-sound r s) p h one)
+        (ltb p (membersOf r)) refl
+
+    pub attempt-went : (queues : List ℕ) → RangesBytes r → Attempted r p exit queues x → Went r (asked 6 p second) (ranges (r .list) exit queues) x
+    unfolding moved pickRanges stepReply stepRanges attemptRanges
+    attempt-went queues bytes a =
+        let m = attempt-is bytes in
+        let d = attemptRanges r p in
+        let to : verdictOf (attemptResult (r .books) p) ≡ verdictOf (stepResult r (asked 6 p second)) = sym (m .1) in
+        record {
+          reply = a .own .reply ∙ sym (m .0);
+          list = left-list (verdictOf (stepResult r (asked 6 p second))) r d refl;
+          books = a .own .books ∙ ap (λ (z : Verdict). left z (d .books) (r .books)) to ∙ left-books (verdictOf (stepResult r (asked 6 p second))) r d;
+          queues = a .marks ∙ ap (λ (z : Verdict). left z (d .queues) (r .queues)) to ∙ left-queues (verdictOf (stepResult r (asked 6 p second))) r d;
+        }

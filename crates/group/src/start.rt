@@ -5,16 +5,17 @@ use views::ViewId;
 use views::limits;
 use views::refusal::Refusal;
 use views::refusal::Verdict;
+use views::sizes;
 ghost use mathlib.Core.Path.{_≡_};
 ghost use Prim.Native.Nat.{_≤_, _<_};
-ghost use lib.ListN.{length, set, replicate};
+ghost use lib.ListN.{length, replicate};
 ghost use Rattle.views.specs.Sizes.{viewSize};
 ghost use Rattle.views.specs.Limits.{maxMembers};
 ghost use Rattle.wire.specs.Writer.{storeView};
 ghost use Rattle.rules.specs.Group.{firstView};
 ghost use Rattle.events.specs.Replies.{verdictOf};
-ghost use Rattle.group_bytes.specs.Places.{madeAt, booksSize};
-ghost use Rattle.group_bytes.specs.Starts.{startBooks};
+ghost use Rattle.group_bytes.specs.Places.{layoutAt, booksSize};
+ghost use Rattle.group_bytes.specs.Starts.{startBooks, startQueues};
 ghost use Rattle.group_bytes.specs.Steps.{startResult};
 ghost use Rattle.group_bytes.specs.Groups.{ranges};
 ghost use Rattle.group.specs.StartParts.{longFor};
@@ -33,13 +34,15 @@ fn lay_list(list: &mut [u8], first: u8)
     wire::writer::store_view(list, 0, view);
 }
 
-// One view is made, and every queue is empty.
+// One view is made and marked as attempted, the layout has its number, and every queue is empty.
 fn lay_queues(queues: &mut [u8])
-    requires { ⌜ 1 ≤ length (now queues) ⌝ }
-    ensures { λ _. ⌜ now (queues .exit) ≡ set (replicate (length (now (queues .entry))) 0) madeAt 1 ⌝ }
+    requires { ⌜ layoutAt < length (now queues) ⌝ }
+    ensures { λ _. ⌜ now (queues .exit) ≡ startQueues (length (now (queues .entry))) ⌝ }
 {
     wire::writer::clear(queues);
     queues[group_bytes::MADE] = 1;
+    numbers::put_number(queues, group_bytes::MARKS, group_bytes::MARKS_SIZE, 1);
+    queues[group_bytes::LAYOUT] = sizes::LAYOUT;
 }
 
 // Each of n members has a fresh book; the others have none.

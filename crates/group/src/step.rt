@@ -125,7 +125,7 @@ fn dispatch(
         kinds::PASS => plain(messages::pass::pass(list, all, queues, p)),
         kinds::ORDER => plain(order(list, all, queues, p, second)),
         kinds::DELIVER => messages::deliver(list, all, queues, p),
-        kinds::ATTEMPT => carrier_view::attempt(all, p),
+        kinds::ATTEMPT => carrier_view::attempt::attempt(list, all, queues, p),
         kinds::REGISTER => client_view::register(all, p),
         kinds::SEND => client_view::send(all, p, second),
         kinds::HAND => client_view::hand(all, p),

@@ -32,7 +32,7 @@ use Rattle.book_bytes.specs.Books.{bookIn}
 use Rattle.book_steps.proofs.Means.{gave}
 use Rattle.group_bytes.specs.Places.{bookBytes, headSize, tableSize, orderAt}
 use Rattle.group_bytes.specs.Groups.{Ranges, membersOf, viewsMade, placeOf, groupIn, rangesSound}
-use Rattle.group_bytes.specs.Moves.{passRanges, orderRanges, deliverRanges, joinRanges}
+use Rattle.group_bytes.specs.Moves.{passRanges, orderRanges, deliverRanges, joinRanges, marked, attemptRanges}
 use Rattle.group_bytes.specs.Answers.{nextReply}
 use Rattle.group_bytes.specs.Steps.{stepResult, pickRanges, moved, stepRanges, stepReply}
 use Rattle.group_bytes.specs.Promises.{Given}
@@ -40,6 +40,7 @@ use Rattle.group_bytes.proofs.RangesLaws.{RangesBytes, Ranged, MeansGro
 use Rattle.group_bytes.proofs.BookSounds.{book-is}
 use Rattle.group_bytes.proofs.Tables.{group-as}
 use Rattle.group_bytes.proofs.StepGroup.{step-means}
+use Rattle.group_bytes.proofs.MarkGroup.{mark-changed}
 use Rattle.group_bytes.proofs.PassGroup as P
 use Rattle.group_bytes.proofs.OrderGroup as O
 
@@ -61,6 +62,10 @@ changed-in i l h x = record {
   long = x .long;
   same = λ j k. ⊎-elim (λ (b : j < orderAt i). x .below j (omega arith)) (λ (b : orderAt i + tableSize ≤ j). x .past j (omega arith));
 }
+
+-- a mark is in the head
+mark-within : (q : List ℕ) (k i : ℕ) → Within q (marked q k) i
+mark-within q k i = record { long = mark-changed q k .long; same = λ j h a. mark-changed q k .past j (omega arith) }
 
 -- ---- ranges
 
@@ -129,13 +134,13 @@ alike r d i e f = record { list = e; queues = rw f (within-none (r .queues) i) }
 module _ (r : Ranges) (fits : Ranged r) (bytes : RangesBytes r) (sounds : sound (groupIn r) ≡ true) (g i : ℕ) (place : placeOf g (viewsMade r) ≡ i) (p : Member) where
   step-beside : (kind : ℕ) → Served kind → carrierOf (groupIn r) p ≡ suc g
       → Holds (λ (x : Next). Beside r (moved r (asks kind p g)) i) (stepOf one (groupIn r) (asks kind p g))
-  unfolding stepOf pick moved pickRanges deliverRanges groupIn
+  unfolding stepOf pick moved pickRanges deliverRanges attemptRanges groupIn
   step-beside kind pass at =
       need-holds _ _ _ (λ t. holds-from (passStep (groupIn r) p) (λ x e. pass-beside r fits bytes sounds g i place p (ltb-true _ _ t) at x e))
   step-beside kind order at =
       need-holds _ _ _ (λ t. holds-from (orderStep (groupIn r) p g) (λ x e. order-beside r fits bytes sounds g i place p (ltb-true _ _ t) x e))
   step-beside kind deliver at = holds-from _ (λ x e. alike r _ i refl refl)
-  step-beside kind attempt at = holds-from _ (λ x e. alike r _ i refl refl)
+  step-beside kind attempt at = holds-from _ (λ x e. record { list = refl; queues = mark-within (r .queues) _ i })
   step-beside kind register at = holds-from _ (λ x e. alike r _ i refl refl)
   step-beside kind collect at = holds-from _ (λ x e. alike r _ i refl refl)
 

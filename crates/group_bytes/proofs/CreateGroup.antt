@@ -1,6 +1,6 @@
 -- Create in the ranges: the group is the rule's. The new view's queues are empty because they were cleared, and the rules have nothing there before.
 use mathlib.Core.Path.{_≡_, refl, sym, ap, ap₂, _∙_, fun-ext}
-use mathlib.Core.Bool.{cond}
+use mathlib.Core.Bool.{cond, false}
 use mathlib.Core.Logic.{_≢_, inl, inr}
 use mathlib.Core.List.{List, [], _∷_, _++_}
 use Prim.Native.Nat.{ℕ, _+_, _*_, _^_, _≤_, _<_}
@@ -8,25 +8,29 @@ use native.Mathlib.Decide.{decLt, ℕ-discrete}
 use native.Mathlib.Omega.{arith}
 use lib.Dec.{ltb}
 use lib.ListN.{length, getD, set}
+use lib.Pow.{pow-mono}
 use lib.Seq.{getD-set-same}
+use Rattle.numbers.specs.Number.{get}
 use Rattle.views.specs.declared.View.{View}
 use Rattle.views.specs.Limits.{maxWaiting}
 use Rattle.views.specs.Sizes.{viewSize}
+use Rattle.views.specs.Sets.{has}
 use Rattle.views.specs.Lists.{viewOf}
+use Rattle.views.proofs.SetLaws.{has-past}
 use Rattle.wire.specs.Reader.{viewIn}
 use Rattle.wire.proofs.ReaderLaws.{viewsIn-snoc}
 use Rattle.rules.specs.Data.{accepted}
 use Rattle.rules.specs.Group.{Next, fresh, creates}
 use Rattle.slots.specs.Slots.{slotSize, entriesIn, queueIn, slotsFit}
 use Rattle.slots.specs.Columns.{orderSize, entriesOrdered}
-use Rattle.slots.proofs.Outside.{Changed, view-apart, views-apart, set-changed, storeView-changed}
+use Rattle.slots.proofs.Outside.{Changed, get-apart, view-apart, views-apart, set-changed, storeView-changed}
 use Rattle.slots.proofs.Stored.{view-stored}
 use Rattle.slots.proofs.BytesKept.{set-bytes, storeView-bytes}
 use Rattle.wire.specs.Writer.{storeView}
 use Rattle.book_bytes.specs.Books.{bookIn}
 use Rattle.book_steps.proofs.Means.{gave}
-use Rattle.group_bytes.specs.Places.{roomOf, bookBytes, madeAt, headSize, tableSize, orderAt, waitingAt}
-use Rattle.group_bytes.specs.Groups.{Ranges, membersOf, madeOf, viewsMade, placeOf, waitingIn, orderIn, bookOf, groupIn}
+use Rattle.group_bytes.specs.Places.{roomOf, bookBytes, madeAt, marksAt, marksSize, layoutAt, headSize, tableSize, orderAt, waitingAt}
+use Rattle.group_bytes.specs.Groups.{Ranges, membersOf, madeOf, marksOf, layoutOf, marksIn, viewsMade, placeOf, waitingIn, orderIn, bookOf, groupIn}
 use Rattle.group_bytes.specs.Moves.{tableCleared, createRanges}
 use Rattle.group_bytes.proofs.RangesLaws.{RangesBytes, Queued, Columned, no-order, Tabled, Ranged, MeansGroup}
 use Rattle.group_bytes.proofs.PlaceLaws.{length-made, place-most, snoc-place-old, snoc-place-new, snoc-place-none}
@@ -63,6 +67,15 @@ module _ (r : Ranges) (fits : Ranged r) (g S : ℕ) where
 
     more : getD queues madeAt 0 ≡ made + 1
     more = getD-set-same cleared madeAt (made + 1) 0 (omega (arith, clears .long, c .table))
+
+    marks-kept : get queues marksAt marksSize ≡ marksOf r
+    marks-kept = get-apart counts marksAt marksSize (inr (omega arith)) ∙ get-apart clears marksAt marksSize (inl (omega arith))
+
+    layout-kept : getD queues layoutAt 0 ≡ layoutOf r
+    layout-kept = counts .past layoutAt (omega arith) ∙ clears .below layoutAt (omega arith)
+
+    marks-low : marksOf r < 2 ^ (made + 1)
+    marks-low = let k : made ≤ made + 1 = omega arith in omega (arith, fits .marks, pow-mono k)
 
     views-now : viewsMade (createRanges r g S) ≡ viewsMade r ++ (view ∷ [])
     unfolding createRanges
@@ -150,6 +163,20 @@ module _ (r : Ranges) (fits : Ranged r) (g S : ℕ) where
             ] ∙ sym (order-unmade r h j refl (omega arith))
           ]
 
+      -- neither the new view nor one not made has a mark
+      marks-now : marksIn (createRanges r g S) h ≡ marksIn r h
+      unfolding createRanges marksIn
+      marks-now =
+          elim (decLt j made) [
+            | yes k ↦ rw (marks-kept, place-old k)
+            | no k ↦
+                let before : has (marksOf r) j ≡ false = has-past (marksOf r) made j (fits .marks) (omega arith) in
+                elim (ℕ-discrete g h) [
+                  | yes e ↦ rw (marks-kept, place-new (omega arith) e, before) (has-past (marksOf r) made made (fits .marks) (omega arith))
+                  | no e ↦ rw (marks-kept, place-past (omega arith) e, before) (has-past (marksOf r) made (made + 1) (fits .marks) (omega arith))
+                ]
+          ]
+
       waiting-now : (q : ℕ) → waitingIn (createRanges r g S) q h ≡ waitingIn r q h
       unfolding createRanges
       waiting-now q =
@@ -173,6 +200,8 @@ module _ (r : Ranges) (fits : Ranged r) (g S : ℕ) where
       queues = rw (stored .long) (counts .long ∙ clears .long ∙ fits .queues);
       members = fits .members;
       made = rw (more, stored .long) (omega arith, omega (arith, c .room));
+      marks = rw (marks-kept, more) marks-low;
+      layout = layout-kept ∙ fits .layout;
       in-place = fits .in-place;
       tables = λ j h. tables-now j (rw more at h);
     }
@@ -210,3 +239,10 @@ pub create-group : (r : Ranges) → Ranged r → RangesBytes r → (g S : ℕ) �
 create-group r fits bytes g S width x e =
     let t = gave (creates (groupIn r) g S) x (create-holds r fits g S) e in
     group-as (sym (t .1)) (create-means r fits g S bytes width (t .0))
+
+-- the marks stay
+pub create-marks : (r : Ranges) → Ranged r → RangesBytes r → (g S : ℕ) → g < 256 ^ 4 → (x : Next) → creates (groupIn r) g S ≡ accepted x
+    → marksIn (createRanges r g S) ≡ marksIn r
+create-marks r fits bytes g S width x e =
+    let t = gave (creates (groupIn r) g S) x (create-holds r fits g S) e in
+    fun-ext (marks-now r fits g S bytes width (t .0))

@@ -18,6 +18,7 @@ pub mod Cleared
 pub mod Creating
 pub mod CreateGroup
 pub mod PassGroup
+pub mod MarkGroup
 pub mod StepGroup
 pub mod GroupRuns
 pub mod Confined
@@ -25,3 +26,4 @@ pub mod Demand2
 pub mod GroupReplies
 pub mod GivenSteps
 pub mod GroupForms
+pub mod MarkRuns

@@ -60,7 +60,7 @@ pub record PassingOn (r : Ranges) (p : Member) (b : List ℕ) (i : ℕ) : Type 0
   pub book : bookAt p + bookSize ≤ length (r .books)
 
 -- a seat that is taken
-seat-some : (t : Bool) (w v : View) → cond t (some w) none ≡ some v → (t ≡ true) × (w ≡ v)
+pub seat-some : (t : Bool) (w v : View) → cond t (some w) none ≡ some v → (t ≡ true) × (w ≡ v)
 seat-some true w v e = (refl, cc)
 seat-some false w v e = let z : _≡_ {A = ℕ} 0 1 = cc in absurd (omega arith)
 

@@ -1,14 +1,15 @@
 -- What ranges that fit say, in words of numbers, both ways.
 use mathlib.Core.Path.{_≡_}
-use mathlib.Core.Bool.{true}
+use mathlib.Core.Bool.{true, not}
 use mathlib.Core.List.{List, []}
-use Prim.Native.Nat.{ℕ, _+_, _%_, _≤_, _<_}
+use Prim.Native.Nat.{ℕ, _+_, _%_, _^_, _≤_, _<_}
 use native.Mathlib.Omega.{arith}
-use borrow.Author.Tests.{eqb-true, leb-true, eq-eqb, le-leb}
+use borrow.Author.Tests.{eqb-true, leb-true, leb-false, eq-eqb, le-leb, lt-leb, not-true}
 use lib.Dec.{leb}
 use lib.ListN.{length, getD}
 use Rattle.views.specs.Limits.{maxMembers, maxViews, maxWaiting, maxOrdered}
-use Rattle.views.specs.Sizes.{viewSize}
+use Rattle.views.specs.Sizes.{viewSize, layoutNumber}
+use Rattle.views.specs.Sets.{isBeyond}
 use Rattle.views.proofs.SetLaws.{both-true}
 use Rattle.rules.specs.Data.{Group}
 use Rattle.rules.proofs.TestLaws.{_and_, both-from, within-says, within-from, every-at, every-from, conditions-say, conditions-from}
@@ -17,7 +18,7 @@ use Rattle.slots.specs.Columns.{firsts, orderKind, orderCount, entriesOrdered, 
 use Rattle.book_bytes.specs.Places.{membersAt, selfAt}
 use Rattle.book_bytes.proofs.LayoutLaws.{Layout, layout-says, layout-from}
 use Rattle.group_bytes.specs.Places.{roomOf, booksSize, bookBytes, orderAt, waitingAt, queuesSize}
-use Rattle.group_bytes.specs.Groups.{Ranges, membersOf, madeOf, queueFits, tableFits, seatFits, rangesFit, groupIn}
+use Rattle.group_bytes.specs.Groups.{Ranges, membersOf, madeOf, marksOf, layoutOf, queueFits, tableFits, seatFits, rangesFit, groupIn}
 pub use Rattle.group_bytes.specs.Promises.{RangesBytes}
 
 -- ranges are their three parts
@@ -97,13 +98,24 @@ pub record Ranged (r : Ranges) : Type 0 where
   pub queues : length (r .queues) ≡ queuesSize (roomOf (r .list))
   pub members : (1 ≤ membersOf r) × (membersOf r ≤ maxMembers)
   pub made : (1 ≤ madeOf r) × (madeOf r ≤ roomOf (r .list))
+  pub marks : marksOf r < 2 ^ madeOf r
+  pub layout : layoutOf r ≡ layoutNumber
   pub in-place : (p : ℕ) → p < membersOf r → InPlace (r .books) (membersOf r) p
   pub tables : (i : ℕ) → i < madeOf r → Tabled (r .queues) (membersOf r) i
+
+-- no mark past the views made
+pub marks-says : (m made : ℕ) → not (isBeyond m made) ≡ true → m < 2 ^ made
+unfolding isBeyond
+marks-says m made h = leb-false _ _ (not-true _ h)
+
+pub marks-from : (m made : ℕ) → m < 2 ^ made → not (isBeyond m made) ≡ true
+unfolding isBeyond
+marks-from m made h = rw (lt-leb _ _ h)
 
 pub ranges-says : (r : Ranges) → rangesFit r ≡ true → Ranged r
 unfolding rangesFit
 ranges-says r h =
-    let (whole, (room, (books, (queues, (members, (made, (in-place, (tables, _)))))))) = conditions-say _ h in
+    let (whole, (room, (books, (queues, (members, (made, (marks, (layout, (in-place, (tables, _)))))))))) = conditions-say _ h in
     record {
       whole = eqb-true _ _ whole;
       room = within-says _ _ _ room;
@@ -111,6 +123,8 @@ ranges-says r h =
       queues = eqb-true _ _ queues;
       members = within-says _ _ _ members;
       made = within-says _ _ _ made;
+      marks = marks-says _ _ marks;
+      layout = eqb-true _ _ layout;
       in-place = λ p k. place-says (r .books) (membersOf r) p (every-at (membersOf r) _ in-place p k);
       tables = λ i k. table-says (r .queues) (membersOf r) i (every-at (madeOf r) _ tables i k);
     }
@@ -125,6 +139,8 @@ ranges-from r s =
     and eq-eqb _ _ (s .queues)
     and within-from _ _ _ (s .members .0) (s .members .1)
     and within-from _ _ _ (s .made .0) (s .made .1)
+    and marks-from _ _ (s .marks)
+    and eq-eqb _ _ (s .layout)
     and every-from (membersOf r) _ (λ p k. place-from (r .books) (membersOf r) p (s .in-place p k))
     and every-from (madeOf r) _ (λ i k. table-from (r .queues) (membersOf r) i (s .tables i k))
     and tt

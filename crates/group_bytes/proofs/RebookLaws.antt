@@ -71,6 +71,8 @@ module _ (r : Ranges) (fits : Ranged r) (bytes : RangesBytes r) (p : ℕ) (membe
     queues = fits .queues;
     members = rw members-kept (fits .members);
     made = fits .made;
+    marks = fits .marks;
+    layout = fits .layout;
     in-place = rw members-kept seat;
     tables = rw members-kept (fits .tables);
   }

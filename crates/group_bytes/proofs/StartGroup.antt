@@ -1,6 +1,6 @@
 -- The ranges that an accepted start leaves are the started group of the rules.
 use mathlib.Core.Path.{_≡_, refl, ap, fun-ext, _∙_}
-use mathlib.Core.Logic.{⊎-elim}
+use mathlib.Core.Logic.{inl, ⊎-elim}
 use mathlib.Core.Bool.{Bool, true, false, cond}
 use mathlib.Core.List.{List, [], _∷_}
 use Prim.Native.Nat.{ℕ, zero, suc, _+_, _/_, _%_, _≤_, _<_}
@@ -10,25 +10,26 @@ use borrow.Author.Tests.{ltb-true}
 use lib.Dec.{ltb}
 use lib.ListN.{length, getD, set, replicate, length-set, length-replicate}
 use lib.Seq.{getD-set-same, getD-set-other}
-use Rattle.numbers.specs.Number.{put}
-use Rattle.numbers.proofs.NumberLaws.{length-put}
+use Rattle.numbers.specs.Number.{get, put}
+use Rattle.numbers.proofs.NumberLaws.{length-put, put-below, put-past, get-put-same}
 use Rattle.views.specs.declared.View.{View}
 use Rattle.views.specs.Limits.{maxMembers, maxViews, maxWaiting}
-use Rattle.views.specs.Sizes.{viewSize}
+use Rattle.views.specs.Sizes.{viewSize, layoutNumber}
 use Rattle.views.specs.Sets.{both, fits}
 use Rattle.views.proofs.SetLaws.{known}
 use Rattle.wire.specs.Reader.{viewIn, viewsIn}
 use Rattle.wire.proofs.TripViews.{AreBytes}
 use Rattle.rules.specs.Data.{Entry}
 use Rattle.rules.specs.Group.{firstView, fresh, started}
+use Rattle.slots.proofs.Outside.{Changed, get-apart, set-changed}
 use Rattle.slots.proofs.Stored.{view-stored}
-use Rattle.slots.proofs.BytesKept.{set-bytes, storeView-bytes}
+use Rattle.slots.proofs.BytesKept.{set-bytes, put-bytes, storeView-bytes}
 use Rattle.book_bytes.specs.Places.{bookSize}
 use Rattle.book_bytes.proofs.Blank.{zero-at, zero-bytes, no-entries, no-slots}
 use Rattle.book_bytes.specs.Starts.{startBytes}
 use Rattle.book_bytes.proofs.StartBook.{fits-byte, start-size, start-layout, start-members, start-self, start-book, start-bytes}
-use Rattle.group_bytes.specs.Places.{roomOf, booksSize, bookBytes, madeAt, orderAt, waitingAt, queuesSize}
-use Rattle.group_bytes.specs.Groups.{Ranges, membersOf, madeOf, viewsMade, placeOf, bookOf, waitingIn, orderIn, groupIn}
+use Rattle.group_bytes.specs.Places.{roomOf, booksSize, bookBytes, madeAt, marksAt, marksSize, layoutAt, orderAt, waitingAt, queuesSize}
+use Rattle.group_bytes.specs.Groups.{Ranges, membersOf, madeOf, marksOf, layoutOf, viewsMade, placeOf, bookOf, waitingIn, orderIn, groupIn}
 use Rattle.group_bytes.specs.Starts.{startBooks, startRanges}
 use Rattle.group_bytes.proofs.RangesLaws.{RangesBytes, Queued, no-order, Tabled, InPlace, Ranged, MeansGroup}
 use Rattle.group_bytes.proofs.BookBytes.{first-members, book-size, with-bytes, with-size, with-own, with-other}
@@ -97,22 +98,55 @@ module _ (n S : ℕ) (r : Ranges) (asks : Startable n S r) where
   abbrev blank-queues : List ℕ
   blank-queues = replicate (length (r .queues)) 0
 
+  abbrev one-made : List ℕ
+  one-made = set blank-queues madeAt 1
+
+  abbrev one-marked : List ℕ
+  one-marked = put one-made marksAt marksSize 1
+
+  made-size : length one-made ≡ length (r .queues)
+  made-size = length-set blank-queues madeAt 1 ∙ length-replicate {A = ℕ} (length (r .queues)) 0
+
+  marked-size : length one-marked ≡ length (r .queues)
+  marked-size = length-put one-made marksAt marksSize 1 ∙ made-size
+
+  numbered : Changed one-marked (after .queues) layoutAt 1
+  unfolding startRanges
+  numbered = set-changed one-marked layoutAt layoutNumber
+
   list-size : length (after .list) ≡ length (r .list)
   unfolding startRanges
   list-size = length-set (put blank-list 0 4 0) 4 S ∙ length-put blank-list 0 4 0 ∙ length-replicate {A = ℕ} (length (r .list)) 0
 
   queues-size : length (after .queues) ≡ length (r .queues)
   unfolding startRanges
-  queues-size = length-set blank-queues madeAt 1 ∙ length-replicate {A = ℕ} (length (r .queues)) 0
+  queues-size = numbered .long ∙ marked-size
 
   made-one : madeOf after ≡ 1
   unfolding startRanges
-  made-one = getD-set-same blank-queues madeAt 1 0 (omega (arith, length-replicate {A = ℕ} (length (r .queues)) 0, asks .queues))
+  made-one =
+      numbered .below madeAt (omega arith)
+      ∙ put-below one-made marksAt marksSize 1 madeAt (omega arith)
+      ∙ getD-set-same blank-queues madeAt 1 0 (omega (arith, length-replicate {A = ℕ} (length (r .queues)) 0, asks .queues))
+
+  -- the first view's mark alone
+  pub marks-one : marksOf after ≡ 1
+  unfolding startRanges
+  marks-one =
+      get-apart numbered marksAt marksSize (inl (omega arith))
+      ∙ get-put-same one-made marksAt marksSize 1 (omega (arith, made-size, asks .queues)) (omega arith)
+
+  layout-is : layoutOf after ≡ layoutNumber
+  unfolding startRanges
+  layout-is = getD-set-same one-marked layoutAt layoutNumber 0 (omega (arith, marked-size, asks .queues))
 
   -- every other byte of the queues is zero
-  queues-zero : (j : ℕ) → 1 ≤ j → getD (after .queues) j 0 ≡ 0
+  queues-zero : (j : ℕ) → layoutAt < j → getD (after .queues) j 0 ≡ 0
   unfolding startRanges
-  queues-zero j h = getD-set-other blank-queues madeAt j 1 0 (λ e. omega arith) ∙ zero-at (length (r .queues)) j
+  queues-zero j h =
+      numbered .past j (omega arith)
+      ∙ put-past one-made marksAt marksSize 1 j (omega arith)
+      ∙ getD-set-other blank-queues madeAt j 1 0 (λ e. omega arith) ∙ zero-at (length (r .queues)) j
 
   first-view : viewIn (after .list) 0 ≡ firstView S
   unfolding startRanges
@@ -132,7 +166,7 @@ module _ (n S : ℕ) (r : Ranges) (asks : Startable n S r) where
 
   -- ---- the group
 
-  views-are : viewsMade after ≡ firstView S ∷ []
+  pub views-are : viewsMade after ≡ firstView S ∷ []
   unfolding viewsIn
   views-are = rw (made-one, first-view)
 
@@ -173,7 +207,7 @@ module _ (n S : ℕ) (r : Ranges) (asks : Startable n S r) where
 
   -- ---- the ranges fit
 
-  none-queued : (limit c : ℕ) → 1 ≤ c → Queued (after .queues) limit c
+  none-queued : (limit c : ℕ) → layoutAt < c → Queued (after .queues) limit c
   none-queued limit c h = let z = queues-zero c h in record { few = omega (arith, z); slots = no-slots (after .queues) (c + 1) _ z }
 
   place-is : (p : ℕ) → p < n → InPlace (after .books) n p
@@ -203,6 +237,8 @@ module _ (n S : ℕ) (r : Ranges) (asks : Startable n S r) where
     queues = rw list-size (queues-size ∙ asks .queues);
     members = rw members-are (asks .members);
     made = rw (made-one, list-size) (omega arith, asks .room .0);
+    marks = rw (marks-one, made-one) (omega arith);
+    layout = layout-is;
     in-place = rw members-are place-is;
     tables = rw members-are (λ (i : ℕ) (h : i < madeOf after). table-is i);
   }
@@ -212,7 +248,9 @@ module _ (n S : ℕ) (r : Ranges) (asks : Startable n S r) where
   bytes-after = record {
     list = storeView-bytes blank-list 0 (firstView S) (zero-bytes (length (r .list))) byte;
     books = books-bytes n S byte (r .books) (asks .books) (omega (arith, asks .members .1)) n (asks .members .1);
-    queues = set-bytes blank-queues madeAt 1 (zero-bytes (length (r .queues))) (omega arith);
+    queues =
+        set-bytes one-marked layoutAt layoutNumber
+        (put-bytes one-made marksAt marksSize 1 (set-bytes blank-queues madeAt 1 (zero-bytes (length (r .queues))) (omega arith))) (omega arith);
   }
 
   pub start-group : MeansGroup (startRanges n S r) (started n S (roomOf (r .list)))

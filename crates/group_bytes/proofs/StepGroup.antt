@@ -24,28 +24,35 @@ use Rattle.group_bytes.specs.Promises.{Given}
 use Rattle.group_bytes.proofs.RangesLaws.{RangesBytes, Ranged, MeansGroup, ranges-from}
 use Rattle.group_bytes.proofs.PlaceLaws.{place-found}
 use Rattle.group_bytes.proofs.RebookLaws.{rebook}
-use Rattle.group_bytes.proofs.BookSteps.{join-group, attempt-group, register-group, send-group, hand-group, tell-group, safe-group, collect-group}
+use Rattle.group_bytes.proofs.BookSteps.{join-group, register-group, send-group, hand-group, tell-group, safe-group, collect-group}
 use Rattle.group_bytes.proofs.DeliverGroup.{deliver-group}
 use Rattle.group_bytes.proofs.CreateGroup.{create-group}
 use Rattle.group_bytes.proofs.OrderGroup.{order-group}
 use Rattle.group_bytes.proofs.PassGroup.{pass-group}
-
--- the ranges m are the group that the result x gives, if it gives one
-abbrev Leaves : Result Next → Ranges → Type 0
-Leaves x m = Holds (λ (y : Next). MeansGroup m (y .state)) x
+use Rattle.group_bytes.proofs.MarkGroup.{attempt-marked}
 
 -- ---- by its kind's number
 
-data EachLeaves : List (Result Next) → List Ranges → Type 0 where
-  none : EachLeaves [] []
-  next : {x : Result Next} {m : Ranges} {l : List (Result Next)} {k : List Ranges} → Leaves x m → EachLeaves l k → EachLeaves (x ∷ l) (m ∷ k)
+-- P of each result that gives something and of the ranges that it leaves
+pub data EachLeaves (P : Ranges → Next → Type 0) : List (Result Next) → List Ranges → Type 0 where
+  none : EachLeaves P [] []
+  next : {x : Result Next} {m : Ranges} {l : List (Result Next)} {k : List Ranges} → Holds (P m) x → EachLeaves P l k → EachLeaves P (x ∷ l) (m ∷ k)
 
-pick-leaves : (k : ℕ) (r : Ranges) (l : List (Result Next)) (m : List Ranges) → EachLeaves l m → Leaves (pick k l) (pickRanges k r m)
+pub pick-leaves : (P : Ranges → Next → Type 0) (k : ℕ) (r : Ranges) (l : List (Result Next)) (m : List Ranges) → EachLeaves P l m
+    → Holds (P (pickRanges k r m)) (pick k l)
 unfolding pick pickRanges
-pick-leaves zero r l m h = refuses
-pick-leaves (suc k) r [] [] none = refuses
-pick-leaves (suc zero) r (x ∷ l) (y ∷ m) (next h t) = h
-pick-leaves (suc (suc k)) r (x ∷ l) (y ∷ m) (next h t) = pick-leaves (suc k) r l m t
+pick-leaves P zero r l m h = refuses
+pick-leaves P (suc k) r [] [] none = refuses
+pick-leaves P (suc zero) r (x ∷ l) (y ∷ m) (next h t) = h
+pick-leaves P (suc (suc k)) r (x ∷ l) (y ∷ m) (next h t) = pick-leaves P (suc k) r l m t
+
+-- the ranges m are the group of what is given
+abbrev Meant : Ranges → Next → Type 0
+Meant m y = MeansGroup m (y .state)
+
+-- the ranges m are the group that the result x gives, if it gives one
+abbrev Leaves : Result Next → Ranges → Type 0
+Leaves x m = Holds (Meant m) x
 
 -- ---- a step of a member's own
 
@@ -77,13 +84,13 @@ module _ (r : Ranges) (fits : Ranged r) (bytes : RangesBytes r) (sounds : sound 
   step-leaves : Leaves (stepOf one s c) (moved r c)
   unfolding stepOf moved groupIn
   step-leaves =
-      pick-leaves (c .kind) r _ _ (
+      pick-leaves Meant (c .kind) r _ _ (
       next (holds-from _ (λ x e. create-group r fits bytes (c .first) (c .second) (width .first) x e)) (
       next (by-leaves _ _ _ join-leaves) (
       next (by-leaves _ _ _ (λ i. holds-from _ (λ x e. pass-group r fits bytes sounds (rebook r fits bytes) p i x e))) (
       next (by-leaves _ _ _ (λ i. holds-from _ (λ x e. order-group r fits bytes sounds p (c .second) i x e))) (
       next (by-leaves _ _ _ (λ i. holds-from _ (λ x e. deliver-group r fits bytes sounds p i x e))) (
-      next (by-leaves _ _ _ (λ i. own-leaves r p _ _ (λ d e. attempt-group r fits bytes sounds p i one d e))) (
+      next (by-leaves _ _ _ (λ i. own-leaves r p _ _ (λ d e. attempt-marked r fits sounds p i bytes one d e))) (
       next (by-leaves _ _ _ (λ i. own-leaves r p _ _ (λ d e. register-group r fits bytes sounds p i d e))) (
       next (by-leaves _ _ _ (λ i. own-leaves r p _ _ (λ d e. send-group r fits bytes sounds p i (c .second) (width .second) d e))) (
       next (by-leaves _ _ _ (λ i. own-leaves r p _ _ (λ d e. hand-group r fits bytes sounds p i d e))) (

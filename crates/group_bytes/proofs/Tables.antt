@@ -1,12 +1,13 @@
 -- Other bytes for the queues: one queue of one view changes, and the group has that queue changed and everything else as it was.
 use mathlib.Core.Path.{_≡_, refl, sym, _∙_, fun-ext}
-use mathlib.Core.Logic.{_≢_}
+use mathlib.Core.Logic.{_≢_, inl}
 use mathlib.Core.List.{List, []}
-use Prim.Native.Nat.{ℕ, _+_, _≤_, _<_}
+use Prim.Native.Nat.{ℕ, _+_, _^_, _≤_, _<_}
 use native.Mathlib.Decide.{decLt, ℕ-discrete}
 use native.Mathlib.Omega.{arith}
 use borrow.Author.Tests.{lt-ltb, le-ltb}
 use lib.ListN.{length, getD}
+use Rattle.numbers.specs.Number.{get}
 use Rattle.views.specs.Limits.{maxMembers, maxWaiting}
 use Rattle.views.specs.Points.{at, at2}
 use Rattle.views.proofs.PointLaws.{upd-ind, upd2-ind}
@@ -15,9 +16,9 @@ use Rattle.wire.proofs.TripViews.{AreBytes}
 use Rattle.rules.specs.Data.{Identifier, Member, Entry, Group}
 use Rattle.slots.specs.Slots.{queueIn}
 use Rattle.slots.specs.Columns.{orderSize, entriesOrdered}
-use Rattle.slots.proofs.Outside.{Changed, Apart}
-use Rattle.group_bytes.specs.Places.{roomOf, madeAt, waitingSize, orderAt, waitingAt}
-use Rattle.group_bytes.specs.Groups.{Ranges, membersOf, madeOf, viewsMade, placeOf, waitingIn, orderIn, bookOf, groupIn}
+use Rattle.slots.proofs.Outside.{Changed, Apart, get-apart}
+use Rattle.group_bytes.specs.Places.{roomOf, madeAt, marksAt, marksSize, layoutAt, waitingSize, orderAt, waitingAt}
+use Rattle.group_bytes.specs.Groups.{Ranges, membersOf, madeOf, layoutOf, viewsMade, placeOf, waitingIn, orderIn, bookOf, groupIn}
 use Rattle.group_bytes.proofs.RangesLaws.{RangesBytes, Queued, Columned, Tabled, Ranged, MeansGroup}
 use Rattle.group_bytes.proofs.PlaceLaws.{length-made, place-one}
 use Rattle.group_bytes.proofs.Apart.{orders-apart, waiting-off-order, order-off-waiting, waiting-apart, queue-still, queued-still, ordered-still, columned-still}
@@ -94,12 +95,13 @@ module _ (r : Ranges) (fits : Ranged r) (bytes : RangesBytes r) (d : List ℕ) w
   members-few : membersOf r ≤ maxMembers
   members-few = fits .members .1
 
-  -- as many views made, every queue in its limits: then the group is that of other queues
-  means : length d ≡ length (r .queues) → getD d madeAt 0 ≡ madeOf r → ((j : ℕ) → j < madeOf r → Tabled d (membersOf r) j) → AreBytes d
+  -- as many views made, no mark past them, the same layout, every queue in its limits: then the group is that of other queues
+  pub means : length d ≡ length (r .queues) → getD d madeAt 0 ≡ madeOf r → get d marksAt marksSize < 2 ^ madeOf r → getD d layoutAt 0 ≡ layoutOf r
+      → ((j : ℕ) → j < madeOf r → Tabled d (membersOf r) j) → AreBytes d
       → (w : Member → Identifier → List Entry) (o : Identifier → List Entry) → waitingIn (requeued r d) ≡ w → orderIn (requeued r d) ≡ o
       → MeansGroup (requeued r d) (record { members = membersOf r; room = roomOf (r .list); views = viewsMade r; books = bookOf r; waiting = w; order = o })
   unfolding groupIn bookOf
-  means size made tables y w o e f =
+  means size made marks layout tables y w o e f =
       let views : viewsIn (r .list) 0 (getD d madeAt 0) ≡ viewsMade r = rw made in
       record {
         group = λ k. record { members = membersOf r; room = roomOf (r .list); views = views k; books = bookOf r; waiting = e k; order = f k };
@@ -110,6 +112,8 @@ module _ (r : Ranges) (fits : Ranged r) (bytes : RangesBytes r) (d : List ℕ) w
           queues = size ∙ fits .queues;
           members = fits .members;
           made = rw made (fits .made);
+          marks = rw made marks;
+          layout = layout ∙ fits .layout;
           in-place = fits .in-place;
           tables = λ j h. tables j (rw made at h);
         };
@@ -150,7 +154,7 @@ module _ (r : Ranges) (fits : Ranged r) (bytes : RangesBytes r) (d : List ℕ) w
           queue-still x maxWaiting (waitingAt j q) (fits .tables j k .waiting q m) (waiting-off j q m (λ t. n (t .0, alone h (t .1))))) in
           let order : (h : ℕ) → orderIn (requeued r d) h ≡ orderIn r h
           = λ h. let j = placeOf h (viewsMade r) in order-still r d made h j refl (λ k. ordered-still x (orderAt j) (fits .tables j k .order) (order-off j)) in
-          means (x .long) made
+          means (x .long) made (rw (get-apart x marksAt marksSize (inl (omega arith))) (fits .marks)) (x .below layoutAt (omega arith))
           (λ j h. record { order = columned-still x (orderAt j) (fits .tables j h .order) (order-off j); waiting = waiting-queued k j h })
           y (at2 p g l (waitingIn r)) (orderIn r)
           (fun-ext (λ q. fun-ext (λ h. upd2-ind p g l (waitingIn r) (λ q h c. waitingIn (requeued r d) q h ≡ c) here other q h)))
@@ -181,7 +185,7 @@ module _ (r : Ranges) (fits : Ranged r) (bytes : RangesBytes r) (d : List ℕ) w
           let waiting : (q h : ℕ) → waitingIn (requeued r d) q h ≡ waitingIn r q h
           = λ q h. let j = placeOf h (viewsMade r) in waiting-still r d made h j refl q (λ m k.
           queue-still x maxWaiting (waitingAt j q) (fits .tables j k .waiting q m) (waiting-behind j q m)) in
-          means (x .long) made
+          means (x .long) made (rw (get-apart x marksAt marksSize (inl (omega arith))) (fits .marks)) (x .below layoutAt (omega arith))
           (λ j h. record {
             order = order-columned k j h;
             waiting = λ q m. queued-still x maxWaiting (waitingAt j q) (fits .tables j h .waiting q m) (waiting-behind j q m);

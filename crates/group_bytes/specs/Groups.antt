@@ -1,13 +1,14 @@
 -- The group that three ranges of bytes are, and which ranges are sound: refusal 4.
-use mathlib.Core.Bool.{Bool, cond}
+use mathlib.Core.Bool.{Bool, cond, not}
 use mathlib.Core.List.{List, [], _∷_}
 use Prim.Native.Nat.{ℕ, suc, _+_, _%_}
 use lib.Dec.{eqb, ltb, leb}
 use lib.ListN.{length, getD}
+use Rattle.numbers.specs.Number.{get}
 use Rattle.views.specs.declared.View.{View}
 use Rattle.views.specs.Limits.{maxMembers, maxViews, maxWaiting}
-use Rattle.views.specs.Sizes.{viewSize}
-use Rattle.views.specs.Sets.{both}
+use Rattle.views.specs.Sizes.{viewSize, layoutNumber}
+use Rattle.views.specs.Sets.{both, has, isBeyond}
 use Rattle.views.specs.Lists.{idOf}
 use Rattle.wire.specs.Reader.{viewIn, viewsIn}
 use Rattle.rules.specs.Data.{Identifier, Member, Entry, Book, Group}
@@ -18,7 +19,8 @@ use Rattle.slots.specs.Slots.{queueIn, slotsFit}
 use Rattle.slots.specs.Columns.{entriesOrdered, orderFits}
 use Rattle.book_bytes.specs.Places.{membersAt, selfAt}
 use Rattle.book_bytes.specs.Books.{bookIn, layoutFits}
-use Rattle.group_bytes.specs.Places.{roomOf, booksSize, bookBytes, madeAt, orderAt, waitingAt, queuesSize}
+use Rattle.group_bytes.specs.Places.{roomOf, booksSize, bookBytes, madeAt, marksAt, marksSize, layoutAt}
+use Rattle.group_bytes.specs.Places.{orderAt, waitingAt, queuesSize}
 
 -- the three ranges
 pub record Ranges : Type 0 where
@@ -44,6 +46,18 @@ viewsMade r = viewsIn (r .list) 0 (madeOf r)
 unfoldable pub placeOf : Identifier → List View → ℕ
 placeOf g [] = 0
 placeOf g (v ∷ l) = cond (eqb (idOf v) g) 0 (suc (placeOf g l))
+
+-- the marks of the views attempted, a number: bit i is the mark of the view at place i
+abbrev pub marksOf : Ranges → ℕ
+marksOf r = get (r .queues) marksAt marksSize
+
+-- the number of the layout that the bytes have
+abbrev pub layoutOf : Ranges → ℕ
+layoutOf r = getD (r .queues) layoutAt 0
+
+-- whether the view with the identifier g is marked; an identifier of no view made has no mark in ranges that fit
+unfoldable pub marksIn : Ranges → Identifier → Bool
+marksIn r g = has (marksOf r) (placeOf g (viewsMade r))
 
 -- what waits for the member p in the view g, and the view's order; nothing for no member or no view made
 unfoldable pub waitingIn : Ranges → Member → Identifier → List Entry
@@ -91,6 +105,8 @@ rangesFit r = conditions (
     ∷ eqb (length (r .queues)) (queuesSize (roomOf (r .list)))
     ∷ within 1 (membersOf r) maxMembers
     ∷ within 1 (madeOf r) (roomOf (r .list))
+    ∷ not (isBeyond (marksOf r) (madeOf r))
+    ∷ eqb (layoutOf r) layoutNumber
     ∷ every (membersOf r) (seatFits (r .books) (membersOf r))
     ∷ every (madeOf r) (tableFits (r .queues) (membersOf r))
     ∷ [])

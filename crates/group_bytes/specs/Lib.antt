@@ -6,3 +6,4 @@ pub mod Answers
 pub mod Steps
 pub mod Promises
 pub mod Forming
+pub mod Crossing

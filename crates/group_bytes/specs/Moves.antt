@@ -3,9 +3,11 @@ use mathlib.Core.List.{List}
 use Prim.Native.Nat.{ℕ, zero, suc, _+_, _*_}
 use lib.ListN.{getD, set, drop}
 use lib.Seq.{paste}
+use Rattle.numbers.specs.Number.{get, put}
 use Rattle.views.specs.declared.View.{View}
 use Rattle.views.specs.Limits.{maxMembers}
 use Rattle.views.specs.Sizes.{viewSize}
+use Rattle.views.specs.Sets.{withMember}
 use Rattle.views.specs.Lists.{idOf, noView}
 use Rattle.rules.specs.Data.{Identifier, Member}
 use Rattle.slots.specs.Slots.{slotSize, messageIn}
@@ -14,8 +16,8 @@ use Rattle.slots.specs.Changes.{popped, ordered}
 use Rattle.wire.specs.Writer.{storeView}
 use Rattle.book_bytes.specs.Places.{takenAt, outgoingAt}
 use Rattle.book_bytes.specs.Records.{recordIn}
-use Rattle.book_steps.specs.Acts.{joinBytes, passBytes, takeBytes}
-use Rattle.group_bytes.specs.Places.{bookBytes, withBook, madeAt, orderAt, waitingAt}
+use Rattle.book_steps.specs.Acts.{joinBytes, passBytes, takeBytes, attemptBytes}
+use Rattle.group_bytes.specs.Places.{bookBytes, withBook, madeAt, marksAt, marksSize, orderAt, waitingAt}
 use Rattle.group_bytes.specs.Groups.{Ranges, madeOf, viewsMade, placeOf}
 
 -- the view made with an identifier
@@ -85,3 +87,18 @@ deliverRanges r p =
     let i = placeOf (idOf (recordIn b .carrier .view)) (viewsMade r) in
     let k = getD b takenAt 0 in
     rebooked r p (takeBytes (getD (r .queues) (orderSender (orderAt i) k) 0) (orderMessage (r .queues) (orderAt i) k) b)
+
+-- ---- 6. attempt: the book's step, and the carrier view is marked
+
+-- the view at place i has its mark
+unfoldable pub marked : List ℕ → ℕ → List ℕ
+marked q i = put q marksAt marksSize (withMember i (get q marksAt marksSize))
+
+unfoldable pub attemptRanges : Ranges → Member → Ranges
+attemptRanges r p =
+    let b = bookBytes (r .books) p in
+    record {
+      list = r .list;
+      books = withBook (r .books) p (attemptBytes b);
+      queues = marked (r .queues) (placeOf (idOf (recordIn b .carrier .view)) (viewsMade r));
+    }

@@ -28,9 +28,19 @@ bookBytes books p = take bookSize (drop (bookAt p) books)
 
 -- ---- the queues: 64 bytes for the group, then for each view its order and what waits in it
 
--- the number of views made; the other bytes of the group are for later use
+-- the number of views made, the marks of the views attempted and the number of the layout; the other bytes of the group
+-- are for later use
 abbrev pub madeAt : ℕ
 madeAt = 0
+
+abbrev pub marksAt : ℕ
+marksAt = 1
+
+abbrev pub marksSize : ℕ
+marksSize = 4
+
+abbrev pub layoutAt : ℕ
+layoutAt = marksAt + marksSize
 
 abbrev pub headSize : ℕ
 headSize = 64

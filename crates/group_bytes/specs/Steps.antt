@@ -14,11 +14,11 @@ use Rattle.rules.specs.Sound.{within, conditions}
 use Rattle.rules.specs.Group.{Next, start, stepOf}
 use Rattle.events.specs.declared.Reply.{Reply}
 use Rattle.events.specs.Replies.{verdictOf}
-use Rattle.book_steps.specs.Acts.{attemptBytes, registerBytes, sendBytes, handBytes, tellBytes, safeBytes, collectBytes}
+use Rattle.book_steps.specs.Acts.{registerBytes, sendBytes, handBytes, tellBytes, safeBytes, collectBytes}
 use Rattle.group_bytes.specs.Places.{roomOf, booksSize, bookBytes, queuesSize}
 use Rattle.group_bytes.specs.Groups.{Ranges, groupIn, rangesSound}
 use Rattle.group_bytes.specs.Moves.{viewAt, rebooked, createRanges, joinRanges, passRanges, orderRanges}
-use Rattle.group_bytes.specs.Moves.{deliverRanges}
+use Rattle.group_bytes.specs.Moves.{deliverRanges, attemptRanges}
 use Rattle.group_bytes.specs.Answers.{nextReply}
 
 -- ---- start: 4 for ranges not of their lengths, then 1, 2, 3
@@ -57,7 +57,7 @@ moved r c =
     ∷ passRanges r p
     ∷ orderRanges r p (c .second)
     ∷ deliverRanges r p
-    ∷ rebooked r p (attemptBytes b)
+    ∷ attemptRanges r p
     ∷ rebooked r p (registerBytes b)
     ∷ rebooked r p (sendBytes (c .second) b)
     ∷ rebooked r p (handBytes b)

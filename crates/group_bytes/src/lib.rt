@@ -20,8 +20,15 @@ pub const VIEW: usize = sizes::VIEW;
 
 pub const BOOKS: usize = book_bytes::SIZE * limits::MEMBERS as usize;
 
-// In the queues: the number of views made, and the bytes of the group before the first view's queues.
+// In the queues: the number of views made, the marks of the views attempted and how many bytes they take, the number of
+// the layout, and the bytes of the group before the first view's queues.
 pub const MADE: usize = 0;
+
+pub const MARKS: usize = 1;
+
+pub const MARKS_SIZE: usize = 4;
+
+pub const LAYOUT: usize = MARKS + MARKS_SIZE;
 
 pub const HEAD: usize = 64;
 

@@ -25,7 +25,7 @@ use Rattle.wire.specs.Writer.{storeView}
 use Rattle.events.specs.Replies.{verdictOf}
 use Rattle.group_bytes.specs.Places.{roomOf}
 use Rattle.group_bytes.specs.Groups.{Ranges, madeOf}
-use Rattle.group_bytes.specs.Moves.{createRanges, joinRanges, passRanges, orderRanges, deliverRanges}
+use Rattle.group_bytes.specs.Moves.{createRanges, joinRanges, passRanges, orderRanges, deliverRanges, attemptRanges}
 use Rattle.group_bytes.specs.Steps.{pickRanges, moved, stepResult, stepRanges}
 use Rattle.group_listed.specs.Parts.{viewOr}
 
@@ -43,7 +43,7 @@ module _ (r : Ranges) (c : Step) where
 
   -- what holds of the list, and in a create of the list with its view stored, holds of the list that an accepted step leaves
   pub moved-list : (P : List ℕ → Type 0) (k : ℕ) → P (r .list) → (k ≡ 1 → P (storeView (r .list) (viewSize * madeOf r) next)) → P (moved r (record { kind = k; first = c .first; second = c .second }) .list)
-  unfolding moved pickRanges createRanges joinRanges passRanges orderRanges deliverRanges
+  unfolding moved pickRanges createRanges joinRanges passRanges orderRanges deliverRanges attemptRanges
   moved-list P zero s m = s
   moved-list P (suc zero) s m = m refl
   moved-list P (suc (suc zero)) s m = s

@@ -27,7 +27,7 @@ use Rattle.book_bytes.specs.Books.{outgoingIn, bookIn, bytesSound}
 use Rattle.book_bytes.proofs.LayoutLaws.{layout-from}
 use Rattle.group_bytes.specs.Places.{bookBytes, orderAt, waitingAt}
 use Rattle.group_bytes.specs.Groups.{Ranges, membersOf, madeOf, viewsMade, placeOf, waitingIn, orderIn, bookOf, groupIn}
-use Rattle.group_bytes.proofs.RangesLaws.{Ranged}
+use Rattle.group_bytes.proofs.RangesLaws.{Ranged, marks-from}
 use Rattle.group_sound.specs.Parts.{sizesFit, numbersFit, recordListed, orderedIn, bookKnown, memberSound, orderSound, waitingSound, tableSound, recordsSound, partsSound}
 use Rattle.group_bytes.proofs.PlaceLaws.{place-in}
 use Rattle.group_bytes.proofs.PlaceTurns.{in-at, place-at}
@@ -157,7 +157,7 @@ module _ (r : Ranges) where
         and eq-eqb _ _ (f .books)
         and eq-eqb _ _ (f .queues)
         and tt)
-        and conditions-from _ (within-from 1 _ _ (f .members .0) (f .members .1) and within-from 1 _ _ (f .made .0) (f .made .1) and tt)
+        and conditions-from _ (eq-eqb _ _ (f .layout) and within-from 1 _ _ (f .members .0) (f .members .1) and within-from 1 _ _ (f .made .0) (f .made .1) and marks-from _ _ (f .marks) and tt)
         and conditions-from _ (
         both-from _ _ (all-from (setFits n) views sets-fit) rising
         and every-from n _ place-part

@@ -1,6 +1,6 @@
 -- The parts, by the tests that the code makes one after another.
 use mathlib.Core.Path.{_≡_, refl}
-use mathlib.Core.Bool.{Bool, true, false}
+use mathlib.Core.Bool.{Bool, true, false, not}
 use mathlib.Core.List.{List, [], _∷_}
 use Prim.Native.Nat.{ℕ, _+_, _-_, _*_, _%_, _/_, _≤_}
 use native.Mathlib.Omega.{arith}
@@ -9,8 +9,8 @@ use lib.Dec.{eqb, leb}
 use lib.ListN.{length, getD, take, drop}
 use Rattle.views.specs.declared.View.{View}
 use Rattle.views.specs.Limits.{maxMembers, maxViews, maxOpen}
-use Rattle.views.specs.Sizes.{viewSize}
-use Rattle.views.specs.Sets.{both}
+use Rattle.views.specs.Sizes.{viewSize, layoutNumber}
+use Rattle.views.specs.Sets.{both, isBeyond}
 use Rattle.views.specs.Lists.{isRising, listOf}
 use Rattle.views.proofs.SetLaws.{both-true}
 use Rattle.wire.specs.Reader.{viewIn, viewsIn}
@@ -25,7 +25,7 @@ use Rattle.book_bytes.specs.Books.{outgoingIn, bookIn, layoutFits, bytesSound}
 use Rattle.book_bytes.proofs.Opens.{opens-in}
 use Rattle.rules.proofs.Truth.{both-unit}
 use Rattle.group_bytes.specs.Places.{roomOf, booksSize, bookBytes, orderAt, queuesSize}
-use Rattle.group_bytes.specs.Groups.{Ranges, membersOf, madeOf}
+use Rattle.group_bytes.specs.Groups.{Ranges, membersOf, madeOf, marksOf, layoutOf}
 use Rattle.group_sound.specs.Parts.{sizesFit, numbersFit, listSound, viewsKnown, recordListed, memberSound}
 
 sizes-order : (z a b c d : Bool) → conditions (z ∷ both a b ∷ c ∷ d ∷ []) ≡ both z (both a (both b (both c d)))
@@ -35,10 +35,13 @@ sizes-order true false b c d = refl
 sizes-order true true false c d = refl
 sizes-order true true true c d = rw (both-unit d)
 
-numbers-order : (a b c d : Bool) → conditions (both a b ∷ both c d ∷ []) ≡ both a (both b (both c d))
+numbers-order : (l a b c d e : Bool) → conditions (l ∷ both a b ∷ both c d ∷ e ∷ []) ≡ both l (both a (both b (both c (both d e))))
 unfolding conditions
-numbers-order false b c d = refl
-numbers-order true b c d = rw (both-unit (both c d))
+numbers-order false a b c d e = refl
+numbers-order true false b c d e = refl
+numbers-order true true false c d e = refl
+numbers-order true true true false d e = refl
+numbers-order true true true true d e = rw (both-unit e)
 
 record-order : (s o a b : Bool) → conditions (both s o ∷ a ∷ b ∷ []) ≡ both s (both o (both a b))
 unfolding conditions
@@ -52,9 +55,11 @@ unfolding sizesFit
 sizes-are list books queues =
     sizes-order (eqb (list % viewSize) 0) (leb 1 (list / viewSize)) (leb (list / viewSize) maxViews) (eqb books booksSize) (eqb queues (queuesSize (list / viewSize)))
 
-pub numbers-are : (n made room : ℕ) → numbersFit n made room ≡ both (leb 1 n) (both (leb n maxMembers) (both (leb 1 made) (leb made room)))
+pub numbers-are : (layout n made room marks : ℕ) → numbersFit layout n made room marks
+    ≡ both (eqb layout layoutNumber) (both (leb 1 n) (both (leb n maxMembers) (both (leb 1 made) (both (leb made room) (not (isBeyond marks made))))))
 unfolding numbersFit
-numbers-are n made room = numbers-order (leb 1 n) (leb n maxMembers) (leb 1 made) (leb made room)
+numbers-are layout n made room marks =
+    numbers-order (eqb layout layoutNumber) (leb 1 n) (leb n maxMembers) (leb 1 made) (leb made room) (not (isBeyond marks made))
 
 record-are : (views : List View) (h : Record) → recordListed views h
     ≡ both (listed views (h .settled)) (both (all (listed views) (listOf (h .opens))) (both (listedIf views (seated (h .carrier))) (listedIf views (seated (h .client)))))
@@ -88,14 +93,18 @@ module _ (r : Ranges) (sizes : sizesFit (length (r .list)) (length (r .books)) (
   unfolding sizesFit
   queues-long = let (_, (_, (_, (x, _)))) = conditions-say _ sizes in eqb-true _ _ x
 
-  module _ (numbers : numbersFit (membersOf r) (madeOf r) (roomOf (r .list)) ≡ true) where
+  pub room-few : roomOf (r .list) ≤ maxViews
+  unfolding sizesFit
+  room-few = let (_, (x, _)) = conditions-say _ sizes in within-says 1 (roomOf (r .list)) maxViews x .1
+
+  module _ (numbers : numbersFit (layoutOf r) (membersOf r) (madeOf r) (roomOf (r .list)) (marksOf r) ≡ true) where
     pub members-few : membersOf r ≤ maxMembers
     unfolding numbersFit
-    members-few = let (x, _) = conditions-say _ numbers in within-says 1 (membersOf r) maxMembers x .1
+    members-few = let (_, (x, _)) = conditions-say _ numbers in within-says 1 (membersOf r) maxMembers x .1
 
     made-few : madeOf r ≤ roomOf (r .list)
     unfolding numbersFit
-    made-few = let (_, (x, _)) = conditions-say _ numbers in within-says 1 (madeOf r) (roomOf (r .list)) x .1
+    made-few = let (_, (_, (x, _))) = conditions-say _ numbers in within-says 1 (madeOf r) (roomOf (r .list)) x .1
 
     pub list-holds : 5 * madeOf r ≤ length (r .list)
     list-holds = omega (arith, made-few)

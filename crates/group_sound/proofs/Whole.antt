@@ -28,8 +28,8 @@ use Rattle.book_bytes.specs.Books.{bookIn, layoutFits, bytesSound}
 use Rattle.book_bytes.proofs.LayoutLaws.{layout-says}
 use Rattle.rules.proofs.Truth.{alike}
 use Rattle.group_bytes.specs.Places.{roomOf, bookBytes, orderAt, waitingAt}
-use Rattle.group_bytes.specs.Groups.{Ranges, membersOf, madeOf, viewsMade, placeOf, bookOf, groupIn, rangesFit, rangesSound}
-use Rattle.group_bytes.proofs.RangesLaws.{Queued, Columned, Ranged, ranges-says, ranges-from}
+use Rattle.group_bytes.specs.Groups.{Ranges, membersOf, madeOf, marksOf, layoutOf, viewsMade, placeOf, bookOf, groupIn, rangesFit, rangesSound}
+use Rattle.group_bytes.proofs.RangesLaws.{Queued, Columned, Ranged, marks-says, ranges-says, ranges-from}
 use Rattle.group_sound.specs.Parts.{sizesFit, numbersFit, bookKnown, memberSound, queueSound, orderSound, waitingSound, tableSound, recordsSound, partsSound}
 use Rattle.group_sound.proofs.GroupParts.{queue-in, order-in, book-in, outgoing-in}
 use Rattle.group_sound.proofs.Parted.{made, book-of, place-made, order-of, waiting-of, ordered-of, record-listed, parts-from}
@@ -51,7 +51,7 @@ module _ (r : Ranges) where
     unfolding partsSound
     sizes = let (x, _) = conditions-say _ h in x
 
-    numbers : numbersFit n (madeOf r) (roomOf (r .list)) ≡ true
+    numbers : numbersFit (layoutOf r) n (madeOf r) (roomOf (r .list)) (marksOf r) ≡ true
     unfolding partsSound
     numbers = let (_, (x, _)) = conditions-say _ h in x
 
@@ -124,7 +124,7 @@ module _ (r : Ranges) where
     unfolding sizesFit numbersFit
     ranged =
         let (whole, (room, (books, (queues, _)))) = conditions-say _ sizes in
-        let (members, (count, _)) = conditions-say _ numbers in
+        let (number, (members, (count, (marks, _)))) = conditions-say _ numbers in
         record {
           whole = eqb-true _ _ whole;
           room = within-says _ _ _ room;
@@ -132,6 +132,8 @@ module _ (r : Ranges) where
           queues = eqb-true _ _ queues;
           members = within-says _ _ _ members;
           made = within-says _ _ _ count;
+          marks = marks-says _ _ marks;
+          layout = eqb-true _ _ number;
           in-place = λ p k. record { layout = layout-says _ (layout p k); members = member-says p k .1; self = member-says p k .2 };
           tables = λ i k. record { order = order-says i k .0; waiting = λ p m. waiting-says i k p m .0 };
         }

@@ -1,6 +1,6 @@
 -- The parts in which three ranges are tested for a sound group: the sizes, the list, each member's book, the queues of
 -- each view made. Here `views` is the list of views made, and n the number of members.
-use mathlib.Core.Bool.{Bool, true}
+use mathlib.Core.Bool.{Bool, true, not}
 use mathlib.Core.Option.{Option, none, some}
 use mathlib.Core.List.{List, [], _∷_}
 use Prim.Native.Nat.{ℕ, zero, suc, _+_, _%_, _/_}
@@ -8,8 +8,8 @@ use lib.Dec.{eqb, leb}
 use lib.ListN.{length, getD}
 use Rattle.views.specs.declared.View.{View}
 use Rattle.views.specs.Limits.{maxMembers, maxViews, maxWaiting}
-use Rattle.views.specs.Sizes.{viewSize}
-use Rattle.views.specs.Sets.{both}
+use Rattle.views.specs.Sizes.{viewSize, layoutNumber}
+use Rattle.views.specs.Sets.{both, isBeyond}
 use Rattle.views.specs.Lists.{idOf, isRising, listOf}
 use Rattle.rules.specs.Data.{Entry}
 use Rattle.rules.specs.Member.{every, all}
@@ -22,7 +22,7 @@ use Rattle.book_bytes.specs.Records.{seated, seatIn, recordIn}
 use Rattle.book_bytes.specs.Books.{outgoingIn, bytesSound}
 use Rattle.book_sound.specs.EntryParts.{entrySound}
 use Rattle.group_bytes.specs.Places.{roomOf, booksSize, bookBytes, orderAt, waitingAt, queuesSize}
-use Rattle.group_bytes.specs.Groups.{Ranges, membersOf, madeOf, viewsMade, placeOf}
+use Rattle.group_bytes.specs.Groups.{Ranges, membersOf, madeOf, marksOf, layoutOf, viewsMade, placeOf}
 
 -- the lengths of the three ranges
 unfoldable pub sizesFit : ℕ → ℕ → ℕ → Bool
@@ -33,9 +33,14 @@ sizesFit list books queues = conditions (
     ∷ eqb queues (queuesSize (list / viewSize))
     ∷ [])
 
--- the number of members and of views made, in a list with this room
-unfoldable pub numbersFit : ℕ → ℕ → ℕ → Bool
-numbersFit n made room = conditions (within 1 n maxMembers ∷ within 1 made room ∷ [])
+-- the layout's number; the number of members and of views made, in a list with this room; no mark past the views made
+unfoldable pub numbersFit : ℕ → ℕ → ℕ → ℕ → ℕ → Bool
+numbersFit layout n made room marks = conditions (
+    eqb layout layoutNumber
+    ∷ within 1 n maxMembers
+    ∷ within 1 made room
+    ∷ not (isBeyond marks made)
+    ∷ [])
 
 -- the list of views made: every set fits n members, and the identifiers rise
 abbrev pub listSound : ℕ → List View → Bool
@@ -133,6 +138,6 @@ recordsSound views n books q = conditions (
 unfoldable pub partsSound : Ranges → Bool
 partsSound r = conditions (
     sizesFit (length (r .list)) (length (r .books)) (length (r .queues))
-    ∷ numbersFit (membersOf r) (madeOf r) (roomOf (r .list))
+    ∷ numbersFit (layoutOf r) (membersOf r) (madeOf r) (roomOf (r .list)) (marksOf r)
     ∷ recordsSound (viewsMade r) (membersOf r) (r .books) (r .queues)
     ∷ [])

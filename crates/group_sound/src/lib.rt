@@ -5,10 +5,11 @@ mod orders;
 mod tables;
 
 use views::limits;
+use views::sizes;
 ghost use mathlib.Core.Path.{_≡_};
 ghost use Prim.Native.Nat.{_*_, _≤_};
 ghost use lib.ListN.{length};
-ghost use Rattle.views.specs.Limits.{maxMembers};
+ghost use Rattle.views.specs.Limits.{maxMembers, maxViews};
 ghost use Rattle.views.specs.Sizes.{viewSize};
 ghost use Rattle.wire.specs.Reader.{viewsIn};
 ghost use Rattle.group_bytes.specs.Places.{booksSize, orderAt};
@@ -35,10 +36,14 @@ fn sizes_fit(list: usize, books: usize, queues: usize) -> bool
     queues == group_bytes::HEAD + group_bytes::TABLE * room
 }
 
-// The number of members and of views made, in a list with this room.
-fn numbers_fit(n: u8, made: u8, room: usize) -> bool
-    ensures { λ r. ⌜ r ≡ numbersFit n made room ⌝ }
+// The layout's number; the number of members and of views made, in a list with this room; no mark past the views made.
+fn numbers_fit(layout: u8, n: u8, made: u8, room: usize, marks: u64) -> bool
+    requires { ⌜ room ≤ maxViews ⌝ }
+    ensures { λ r. ⌜ r ≡ numbersFit layout n made room marks ⌝ }
 {
+    if layout != sizes::LAYOUT {
+        return false;
+    }
     if n < 1 {
         return false;
     }
@@ -48,7 +53,10 @@ fn numbers_fit(n: u8, made: u8, room: usize) -> bool
     if made < 1 {
         return false;
     }
-    made as usize <= room
+    if room < made as usize {
+        return false;
+    }
+    !(0 < marks >> made)
 }
 
 // The list, the books and the queues, with so many views made.
@@ -77,7 +85,9 @@ pub fn sound(list: &[u8], books: &[u8], queues: &[u8]) -> bool
     }
     let n = books[book_bytes::MEMBERS];
     let made = queues[group_bytes::MADE];
-    if !numbers_fit(n, made, list.len() / group_bytes::VIEW) {
+    let marks = numbers::get_number(queues, group_bytes::MARKS, group_bytes::MARKS_SIZE);
+    let layout = queues[group_bytes::LAYOUT];
+    if !numbers_fit(layout, n, made, list.len() / group_bytes::VIEW, marks) {
         return false;
     }
     records_sound(list, books, queues, made, n)

@@ -7,3 +7,4 @@ pub mod OwnStepLaws
 pub mod JoinLaws
 pub mod DeliverLaws
 pub mod NextLaws
+pub mod AttemptLaws

@@ -1,4 +1,4 @@
--- A member's step in a group: on its own book among the eight, 6 first.
+-- A member's step in a group: on its own book among the eight, 6 first. Attempt marks its view too.
 use mathlib.Core.Path.{_≡_}
 use mathlib.Core.Bool.{true}
 use mathlib.Core.List.{List}
@@ -7,13 +7,17 @@ use lib.Dec.{ltb}
 use lib.ListN.{length, getD}
 use Rattle.views.specs.declared.refusal.Refusal.the-variants.{NoSuchMember}
 use Rattle.views.specs.Limits.{maxMembers}
+use Rattle.views.specs.Sets.{one}
 use Rattle.views.specs.Refusals.{left}
 use Rattle.rules.specs.Data.{Member, Result, need}
-use Rattle.rules.specs.Member.{Done}
+use Rattle.rules.specs.Member.{Done, attempts}
 use Rattle.book_bytes.specs.Places.{membersAt}
-use Rattle.book_bytes.specs.Books.{bytesSound}
+use Rattle.book_bytes.specs.Books.{bookIn, bytesSound, membersIn, selfIn}
 use Rattle.events.specs.declared.Reply.{Reply}
 use Rattle.events.specs.Replies.{replyOf, verdictOf}
+use Rattle.book_steps.specs.Acts.{fewOpen, attemptBytes}
+use Rattle.group_bytes.specs.Groups.{Ranges}
+use Rattle.group_bytes.specs.Moves.{attemptRanges}
 use Rattle.group_bytes.specs.Places.{booksSize, bookBytes, withBook}
 
 -- what is asked of the books: eight, of at most eight members, and the book of p is sound if p is a member
@@ -31,3 +35,14 @@ pub record OwnStep (p : Member) (result : Result Done) (new : List ℕ → List 
     : Type 0 where
   pub reply : r ≡ replyOf result
   pub books : exit ≡ left (verdictOf result) (withBook entry p (new (bookBytes entry p))) entry
+
+-- ---- attempt: its view is marked too
+
+-- 6, then the rule on the bytes of p's book
+unfoldable pub attemptResult : List ℕ → Member → Result Done
+attemptResult books p = ofMember books p (λ b. fewOpen (attempts one (membersIn b) (selfIn b) (bookIn b)))
+
+-- the reply x, and the books and the queues at exit
+pub record Attempted (r : Ranges) (p : Member) (books queues : List ℕ) (x : Reply) : Type 0 where
+  pub own : OwnStep p (attemptResult (r .books) p) attemptBytes (r .books) books x
+  pub marks : queues ≡ left (verdictOf (attemptResult (r .books) p)) (attemptRanges r p .queues) (r .queues)

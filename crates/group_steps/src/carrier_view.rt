@@ -1,5 +1,6 @@
-// The steps that change which views there are and which a member has: create, in a file of its own, join, attempt,
-// collect. Attempt and collect are the member's own, on its book among the eight: 6, then the step.
+// The steps that change which views there are and which a member has: create and attempt, each in a file of its own,
+// join, collect. Collect is the member's own, on its book among the eight: 6, then the step.
+pub mod attempt;
 pub mod create;
 
 use events::Reply;
@@ -11,12 +12,11 @@ ghost use lib.ListN.{length, getD};
 ghost use mathlib.Core.Bool.{true};
 ghost use mathlib.Core.Path.{_≡_};
 ghost use Rattle.views.specs.Sizes.{viewSize};
-ghost use Rattle.views.specs.Sets.{one};
 ghost use Rattle.wire.specs.Reader.{viewIn};
-ghost use Rattle.rules.specs.Member.{joins, attempts, collects};
+ghost use Rattle.rules.specs.Member.{joins, collects};
 ghost use Rattle.book_bytes.specs.Places.{membersAt};
 ghost use Rattle.book_bytes.specs.Books.{bookIn, selfIn, membersIn};
-ghost use Rattle.book_steps.specs.Acts.{joinBytes, fewOpen, attemptBytes, collectBytes};
+ghost use Rattle.book_steps.specs.Acts.{joinBytes, collectBytes};
 ghost use Rattle.group_bytes.specs.Groups.{rangesSound};
 ghost use Rattle.group_steps.specs.OwnParts.{HasBook, ofMember, OwnStep};
 ghost use Rattle.group_steps.specs.VisitParts.{Joined};
@@ -52,21 +52,6 @@ pub fn join(list: &[u8], all: &mut [u8], queues: &[u8], p: Member, id: ViewId) -
         return events::refuse(Refusal::NoSuchView);
     }
     enter(list, all, p, i)
-}
-
-// The carrier view becomes open and becomes the client view.
-pub fn attempt(all: &mut [u8], p: Member) -> Reply
-    requires { ⌜ HasBook (now all) (p .0) ⌝ }
-    ensures { λ r. ⌜ OwnStep (p .0)
-        (ofMember (now (all .entry)) (p .0) (λ b. fewOpen (attempts one (membersIn b) (selfIn b) (bookIn b))))
-        attemptBytes (now (all .entry)) (now (all .exit)) r ⌝ }
-{
-    if all[book_bytes::MEMBERS] <= p.0 {
-        return events::refuse(Refusal::NoSuchMember);
-    }
-    let a = book_bytes::SIZE * (p.0 as usize);
-    let e = a + book_bytes::SIZE;
-    book_steps::carrier_view::attempt(&mut all[a..e])
 }
 
 // The carrier view becomes settled; only open views above it remain.

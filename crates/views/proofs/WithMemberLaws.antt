@@ -1,4 +1,4 @@
--- Which members a set has after one is added.
+-- A set with one more member: which members it has, and that it stays below its bound.
 use mathlib.Core.Path.{_≡_, refl, ap, fun-ext, _∙_}
 use mathlib.Core.Logic.{⊎-elim}
 use mathlib.Core.Bool.{true, false}
@@ -6,7 +6,7 @@ use Prim.Native.Nat.{ℕ, zero, suc, _+_, _-_, _/_, _%_, _^_, _<_}
 use native.Mathlib.Nat.{pow-suc, div-eq-of-lt, div-self}
 use native.Mathlib.Omega.{arith}
 use lib.Dec.{eqb, ltb}
-use lib.Bits.{bitOr, or-zero-r, or-shr, or-mod}
+use lib.Bits.{bitOr, or-lt, or-zero-r, or-shr, or-mod}
 use lib.Pow.{pow-pos, pow-add, pow-lt, shl-shr}
 use borrow.Author.Tests.{eqb-true, eqb-false, ltb-true, ltb-false}
 use Rattle.views.specs.Sets.{has, withMember}
@@ -53,3 +53,8 @@ has-with q s r =
 
 pub one-noted : (q s : ℕ) → has (withMember q s) ≡ at q true (has s)
 one-noted q s = fun-ext (has-with q s)
+
+-- a member below the bound leaves the set below it
+pub with-below : (q s n : ℕ) → s < 2 ^ n → q < n → withMember q s < 2 ^ n
+unfolding withMember
+with-below q s n h l = or-lt n s (2 ^ q) h (pow-lt l)

@@ -41,10 +41,7 @@ deliver-requires : tie.Need-deliver-requires
 deliver-requires c κs = search needs
 
 attempt-requires : tie.Need-attempt-requires
-attempt-requires c κs =
-    let s = c .before .before .before .before .before .before in
-    let r : Ranges = record { list = s .args .list .now; books = s .args .all .now; queues = s .args .queues .now } in
-    desk r (s .pre) (c .before .before .member .result .0)
+attempt-requires c κs = search needs
 
 register-requires : tie.Need-register-requires
 register-requires c κs =
@@ -168,16 +165,22 @@ returns-5 c =
 same-length-16 : tie.Need-same-length-16
 same-length-16 c = search needs
 
-returns-6 : tie.Need-returns-6
-returns-6 c =
-    let s = c .before .before .before .before .before .before .before .before .before in
-    let r : Ranges = record { list = s .args .list .now; books = s .args .all .now; queues = s .args .queues .now } in
-    let p = c .before .before .before .before .before .member in
-    let bytes : RangesBytes r = record { list = λ j. omega (arith, c .before .before .before .before .before .before .before .before .slice-known .given j); books = λ j. omega (arith, c .before .before .before .before .before .before .before .slice-known2 .given j); queues = λ j. omega (arith, c .before .before .before .before .before .before .slice-known3 .given j) } in
-    rw (c .before .before .before .before .match .keys6) (by-member r (s .pre) 4 (s .args .first) (s .args .second) (omega arith) (p .result .0) (p .ensures) _ _ (attempt-went r (s .pre) (p .result .0) (s .args .second) _ _ bytes (c .before .before .attempt .ensures)))
-
 same-length-17 : tie.Need-same-length-17
 same-length-17 c = search needs
+
+same-length-18 : tie.Need-same-length-18
+same-length-18 c = search needs
+
+returns-6 : tie.Need-returns-6
+returns-6 c =
+    let s = c .before .before .before .before .before .before .before .before .before .before .before .before .before in
+    let r : Ranges = record { list = s .args .list .now; books = s .args .all .now; queues = s .args .queues .now } in
+    let p = c .before .before .before .before .before .before .before .before .before .member in
+    let bytes : RangesBytes r = record { list = λ j. omega (arith, c .before .before .before .before .before .before .before .before .before .before .before .before .slice-known .given j); books = λ j. omega (arith, c .before .before .before .before .before .before .before .before .before .before .before .slice-known2 .given j); queues = λ j. omega (arith, c .before .before .before .before .before .before .before .before .before .before .slice-known3 .given j) } in
+    rw (c .before .before .before .before .before .before .before .before .match .keys6) (by-member r (s .pre) 4 (s .args .first) (s .args .second) (omega arith) (p .result .0) (p .ensures) _ _ (attempt-went r (s .pre) (p .result .0) (s .args .second) _ _ _ bytes (c .before .before .before .before .attempt .ensures)))
+
+same-length-19 : tie.Need-same-length-19
+same-length-19 c = search needs
 
 returns-7 : tie.Need-returns-7
 returns-7 c =
@@ -186,8 +189,8 @@ returns-7 c =
     let p = c .before .before .before .before .before .member in
     rw (c .before .before .before .before .match .keys7) (by-member r (s .pre) 5 (s .args .first) (s .args .second) (omega arith) (p .result .0) (p .ensures) _ _ (register-went r (s .pre) (p .result .0) (s .args .second) _ _ (c .before .before .register .ensures)))
 
-same-length-18 : tie.Need-same-length-18
-same-length-18 c = search needs
+same-length-20 : tie.Need-same-length-20
+same-length-20 c = search needs
 
 returns-8 : tie.Need-returns-8
 returns-8 c =
@@ -196,8 +199,8 @@ returns-8 c =
     let p = c .before .before .before .before .before .member in
     rw (c .before .before .before .before .match .keys8) (by-member r (s .pre) 6 (s .args .first) (s .args .second) (omega arith) (p .result .0) (p .ensures) _ _ (send-went r (s .pre) (p .result .0) (s .args .second) _ _ (c .before .before .send .ensures)))
 
-same-length-19 : tie.Need-same-length-19
-same-length-19 c = search needs
+same-length-21 : tie.Need-same-length-21
+same-length-21 c = search needs
 
 returns-9 : tie.Need-returns-9
 returns-9 c =
@@ -206,8 +209,8 @@ returns-9 c =
     let p = c .before .before .before .before .before .member in
     rw (c .before .before .before .before .match .keys9) (by-member r (s .pre) 7 (s .args .first) (s .args .second) (omega arith) (p .result .0) (p .ensures) _ _ (hand-went r (s .pre) (p .result .0) (s .args .second) _ _ (c .before .before .hand .ensures)))
 
-same-length-20 : tie.Need-same-length-20
-same-length-20 c = search needs
+same-length-22 : tie.Need-same-length-22
+same-length-22 c = search needs
 
 returns-10 : tie.Need-returns-10
 returns-10 c =
@@ -216,8 +219,8 @@ returns-10 c =
     let p = c .before .before .before .before .before .member in
     rw (c .before .before .before .before .match .keys10) (by-member r (s .pre) 8 (s .args .first) (s .args .second) (omega arith) (p .result .0) (p .ensures) _ _ (tell-went r (s .pre) (p .result .0) (s .args .second) _ _ (c .before .before .tell .ensures)))
 
-same-length-21 : tie.Need-same-length-21
-same-length-21 c = search needs
+same-length-23 : tie.Need-same-length-23
+same-length-23 c = search needs
 
 returns-11 : tie.Need-returns-11
 returns-11 c =
@@ -226,8 +229,8 @@ returns-11 c =
     let p = c .before .before .before .before .before .member in
     rw (c .before .before .before .before .match .keys11) (by-member r (s .pre) 9 (s .args .first) (s .args .second) (omega arith) (p .result .0) (p .ensures) _ _ (safe-went r (s .pre) (p .result .0) (s .args .second) _ _ (c .before .before .safe .ensures)))
 
-same-length-22 : tie.Need-same-length-22
-same-length-22 c = search needs
+same-length-24 : tie.Need-same-length-24
+same-length-24 c = search needs
 
 returns-12 : tie.Need-returns-12
 returns-12 c =
@@ -284,17 +287,19 @@ dispatch-spec =
     same-length-15
     returns-5
     same-length-16
-    returns-6
     same-length-17
-    returns-7
     same-length-18
-    returns-8
+    returns-6
     same-length-19
-    returns-9
+    returns-7
     same-length-20
-    returns-10
+    returns-8
     same-length-21
-    returns-11
+    returns-9
     same-length-22
+    returns-10
+    same-length-23
+    returns-11
+    same-length-24
     returns-12
     returns-13)

@@ -1,11 +1,12 @@
+-- `group_steps::carrier_view::attempt::own` meets its contract: 6, or the step on the part of the books that is the member's.
 use mathlib.Core.Path.{refl}
 use Prim.Native.Nat.{_+_, _-_, _*_}
 use native.Mathlib.Omega.{arith}
 use Rattle.book_bytes.specs.Places.{bookSize}
 use Rattle.group_steps.proofs.OwnStepLaws.{desk-refused, desk-sound, desk-done}
 use borrow.Author.Needs.{needs}
-use Rattle.group_steps.proofs.carrier_view.attempt.Statement.{statement}
-use Rattle.group_steps.proofs.carrier_view.attempt.Tie as tie
+use Rattle.group_steps.proofs.carrier_view.attempt.own.Statement.{statement}
+use Rattle.group_steps.proofs.carrier_view.attempt.own.Tie as tie
 
 slice-read-if1 : tie.Need-slice-read-if1
 slice-read-if1 c = search needs
@@ -37,16 +38,23 @@ part-attempt-end : tie.Need-part-attempt-end
 part-attempt-end c = search needs
 
 attempt-requires : tie.Need-attempt-requires
-attempt-requires c κs = desk-sound (c .before .before .before .before .before .before .args .all .now) (c .before .before .before .before .before .before .args .p .0) (c .before .before .before .before .before .before .pre) (c .before .before .if1 .left) (bookSize * c .before .before .before .before .before .before .args .p .0 + bookSize - bookSize * c .before .before .before .before .before .before .args .p .0) (omega arith)
+attempt-requires c κs =
+    let c6 = c .before .before .before .before .before .before in
+    desk-sound (c6 .args .all .now) (c6 .args .p .0) (c6 .pre) (c .before .before .if1 .left)
+    (bookSize * c6 .args .p .0 + bookSize - bookSize * c6 .args .p .0) (omega arith)
 
 same-length : tie.Need-same-length
 same-length c = search needs
 
 returns-2 : tie.Need-returns-2
-returns-2 c = desk-done (c .before .before .before .before .before .before .before .before .before .args .all .now) (c .before .before .before .before .before .before .before .before .before .args .p .0) _ _ _ (c .before .before .before .before .before .if1 .left) (bookSize * c .before .before .before .before .before .before .before .before .before .args .p .0 + bookSize - bookSize * c .before .before .before .before .before .before .before .before .before .args .p .0) (omega arith) _ _ (c .before .before .attempt .ensures) refl
+returns-2 c =
+    let c5 = c .before .before .before .before .before in
+    let c9 = c5 .before .before .before .before in
+    desk-done (c9 .args .all .now) (c9 .args .p .0) _ _ _ (c5 .if1 .left)
+    (bookSize * c9 .args .p .0 + bookSize - bookSize * c9 .args .p .0) (omega arith) _ _ (c .before .before .attempt .ensures) refl
 
-pub attempt-spec : {M : Type 1} → statement M
-attempt-spec =
+pub own-spec : {M : Type 1} → statement M
+own-spec =
     tie.close
     (tie.spec
     slice-read-if1
