@@ -1,13 +1,17 @@
--- What is given out, case by case: an event's bytes stored one part behind the other, a length, a delivery, and what each verdict says.
+-- What is given out, case by case: an event's bytes stored one part after the other, a length, a delivery, a view that may be missing, and what each
+-- verdict says.
 use mathlib.Core.Path.{_≡_, refl, sym, ap, _∙_}
 use mathlib.Core.List.{List, [], _∷_, _++_, append-assoc, append-nil}
 use Prim.Native.Nat.{ℕ, _<_, _≤_}
 use native.Mathlib.Omega.{arith}
-use lib.ListN.{length, set, length-append}
+use lib.ListN.{length, set, replicate, length-append}
 use lib.Seq.{drop-length}
 use borrow.Author.Tests.{eq-eqb, ne-eqb, lt-ltb, le-ltb}
 use Rattle.numbers.specs.Number.{put, digits}
 use Rattle.numbers.proofs.NumberLaws.{length-digits}
+use Rattle.views.specs.declared.View.{View}
+use Rattle.views.specs.declared.list.Lookup.{Lookup}
+use Rattle.views.specs.declared.list.Lookup.the-variants.{Found, Missing}
 use Rattle.views.specs.declared.refusal.Refusal.{Refusal}
 use Rattle.views.specs.declared.refusal.Refusal.the-variants.{RecordsUnsound}
 use Rattle.views.specs.declared.refusal.Verdict.{Verdict}
@@ -17,7 +21,7 @@ use Rattle.wire.specs.Format.{viewBytes}
 use Rattle.wire.specs.Writer.{overwritten, storeView}
 use Rattle.wire.proofs.SeamLaws.{byte-seam, number-seam, view-seam, length-viewBytes}
 use Rattle.events.specs.declared.Event.{Event}
-use Rattle.c_answers.specs.Answers.{eventSize, eventBytes, lengthSize, lengthBytes, deliverySize, deliveryBytes, sized, narrowed}
+use Rattle.c_answers.specs.Answers.{eventSize, eventBytes, lengthSize, lengthBytes, deliverySize, deliveryBytes, foundSize, foundBytes, sized, narrowed}
 
 -- bytes as long as the buffer leave nothing of it
 overwritten-whole : (w b : List ℕ) → length w ≡ length b → overwritten w b ≡ w
@@ -69,6 +73,20 @@ delivery-stored b c n x v size ec ex =
     let count : c ≡ overwritten (digits 4 n) b = ec ∙ number-seam [] b 0 4 n refl (omega arith) in
     rw (count, ex) (byte-seam (digits 4 n) b 4 (codeOf v) (length-digits 4 n) (omega arith))
     ∙ overwritten-whole (digits 4 n ++ codeOf v ∷ []) b (length-delivery n v ∙ sym size)
+
+-- ---- a view that may be missing
+
+pub missing-stored : (f : Lookup) (b d : List ℕ) → length b ≡ foundSize → f ≡ Missing → d ≡ replicate (length b) 0 → d ≡ foundBytes f
+unfolding foundBytes
+missing-stored f b d n e h = rw e (h ∙ rw n)
+
+pub found-stored : (f : Lookup) (v : View) (b d : List ℕ) → length b ≡ foundSize → f ≡ Found v → d ≡ storeView (set b 0 1) 1 v → d ≡ foundBytes f
+unfolding foundBytes
+found-stored f v b d n e h =
+    rw e
+    (h ∙ ap (λ (x : List ℕ). storeView x 1 v) (byte-seam [] b 0 1 refl (omega arith))
+    ∙ view-seam (1 ∷ []) b v 1 refl (omega arith)
+    ∙ overwritten-whole (1 ∷ viewBytes v) b (omega (arith, length-viewBytes v)))
 
 -- ---- the verdicts
 

@@ -1,12 +1,14 @@
 -- What the calls of the C interface have in common: the bytes of an event, which a run writes too, of a length or a
--- count that a call gives out, and of a delivery; a range that must have its length, a number that is taken in one
--- byte.
+-- count that a call gives out, of a delivery, and of a view that may be missing; a range that must have its length, a
+-- number that is taken in one byte.
 use mathlib.Core.Bool.{cond}
 use mathlib.Core.List.{List, [], _∷_, _++_}
 use Prim.Native.Nat.{ℕ, _+_}
 use lib.Dec.{eqb, ltb}
-use lib.ListN.{length}
+use lib.ListN.{length, replicate}
 use Rattle.numbers.specs.Number.{digits}
+use Rattle.views.specs.declared.list.Lookup.{Lookup}
+use Rattle.views.specs.declared.list.Lookup.the-variants.{Found, Missing}
 use Rattle.views.specs.declared.refusal.Refusal.the-variants.{RecordsUnsound}
 use Rattle.views.specs.declared.refusal.Verdict.{Verdict}
 use Rattle.views.specs.Sizes.{viewSize, numberSize}
@@ -48,6 +50,14 @@ deliverySize = lengthSize + 1
 
 unfoldable pub deliveryBytes : ℕ → Verdict → List ℕ
 deliveryBytes n stopped = digits lengthSize n ++ (codeOf stopped ∷ [])
+
+-- a view that may be missing: 1 and the view, or 0 in every byte
+abbrev pub foundSize : ℕ
+foundSize = 1 + viewSize
+
+unfoldable pub foundBytes : Lookup → List ℕ
+foundBytes (Found v) = 1 ∷ viewBytes v
+foundBytes Missing = replicate foundSize 0
 
 -- 4, before anything else, for a range that is not of its length
 unfoldable pub sized : List ℕ → ℕ → Verdict → Verdict

@@ -1,8 +1,9 @@
 // Answers as numbers and lent bytes: a verdict's number; the bytes of an event, which the calls of the C interface and
-// the answers of a run share, of a number that a call gives out, and of a delivery; and numbers of 32 bits taken in a
-// byte.
+// the answers of a run share, of a number that a call gives out, of a delivery, and of a view that may be missing; and
+// numbers of 32 bits taken in a byte.
 use events::Event;
 use events::Reply;
+use views::list::Lookup;
 use views::refusal;
 use views::refusal::Refusal;
 use views::refusal::Verdict;
@@ -11,7 +12,7 @@ ghost use lib.ListN.{length};
 ghost use mathlib.Core.Path.{_≡_};
 ghost use Rattle.views.specs.Refusals.{codeOf, numberOf, left};
 ghost use Rattle.c_answers.specs.Answers.{narrowed, eventSize, eventBytes, lengthSize, lengthBytes};
-ghost use Rattle.c_answers.specs.Answers.{deliverySize, deliveryBytes};
+ghost use Rattle.c_answers.specs.Answers.{deliverySize, deliveryBytes, foundSize, foundBytes};
 
 // Where the parts of an event stand: its kind, the member, the view, the sender, the entry number.
 pub const KIND: usize = 0;
@@ -37,6 +38,14 @@ pub const STOPPED: usize = COUNT + LENGTH;
 
 // Bytes of a delivery.
 pub const DELIVERY: usize = STOPPED + 1;
+
+// The places in a view that may be missing: whether there is one, the view.
+pub const THERE: usize = 0;
+
+pub const SEEN: usize = THERE + 1;
+
+// Bytes of such a view.
+pub const FOUND: usize = SEEN + sizes::VIEW;
 
 // 0 for accepted, or the refusal's number.
 pub fn code(v: Verdict) -> u32
@@ -116,6 +125,20 @@ pub fn account(out: &mut [u8], v: Verdict, n: usize, stopped: Verdict) -> u32
             numbers::put_number(out, COUNT, LENGTH, n as u64);
             out[STOPPED] = refusal::code(stopped);
             0
+        }
+    }
+}
+
+// A view, or zeros if there is none.
+pub fn put_found(out: &mut [u8], f: Lookup)
+    requires { ⌜ length (now out) ≡ foundSize ⌝ }
+    ensures { λ _. ⌜ now (out .exit) ≡ foundBytes f ⌝ }
+{
+    match f {
+        Lookup::Missing => wire::writer::clear(out),
+        Lookup::Found(v) => {
+            out[THERE] = 1;
+            wire::writer::store_view(out, SEEN, v);
         }
     }
 }

@@ -4,6 +4,7 @@ pub mod MessageLaws
 pub mod EventLaws
 pub mod GroupLaws
 pub mod FormLaws
+pub mod CrossingLaws
 pub mod GroupNarrowing
 pub mod Chain
 pub mod Demand2

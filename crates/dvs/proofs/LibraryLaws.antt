@@ -11,7 +11,7 @@ use Rattle.wire.specs.Records.{recordSize}
 use Rattle.rules.specs.Sound.{within}
 use Rattle.book_bytes.specs.Places.{bookSize}
 use Rattle.group_bytes.specs.Places.{booksSize, queuesSize}
-use Rattle.c_answers.specs.Answers.{eventSize, lengthSize, deliverySize}
+use Rattle.c_answers.specs.Answers.{eventSize, lengthSize, deliverySize, foundSize}
 use Rattle.group_run.specs.Records.{stepSize, answerSize}
 use Rattle.dvs.specs.Library.{memberSize, groupSize, listSize, tablesSize, sizeOf}
 
@@ -59,11 +59,11 @@ unfolding memberSize
 member-sizes k other z a b c d e o p q r s t =
     t ∙ ap (cond (eqb k 1) bookSize) (s ∙ ap (cond (eqb k 2) eventSize) (r ∙ ap (cond (eqb k 3) lengthSize) (q ∙ ap (cond (eqb k 4) recordSize) (p ∙ ap (cond (eqb k 5) longest) o))))
 
-pub group-sizes : (k list queues a b c d e : ℕ) → a ≡ cond (eqb k 10) answerSize 0 → b ≡ cond (eqb k 9) stepSize a → c ≡ cond (eqb k 8) queues b
+pub group-sizes : (k list queues z a b c d e : ℕ) → z ≡ cond (eqb k 12) foundSize 0 → a ≡ cond (eqb k 10) answerSize z → b ≡ cond (eqb k 9) stepSize a → c ≡ cond (eqb k 8) queues b
     → d ≡ cond (eqb k 7) booksSize c → e ≡ cond (eqb k 6) list d → e ≡ groupSize k list queues
 unfolding groupSize
-group-sizes k list queues a b c d e p q r s t =
-    t ∙ ap (cond (eqb k 6) list) (s ∙ ap (cond (eqb k 7) booksSize) (r ∙ ap (cond (eqb k 8) queues) (q ∙ ap (cond (eqb k 9) stepSize) p)))
+group-sizes k list queues z a b c d e o p q r s t =
+    t ∙ ap (cond (eqb k 6) list) (s ∙ ap (cond (eqb k 7) booksSize) (r ∙ ap (cond (eqb k 8) queues) (q ∙ ap (cond (eqb k 9) stepSize) (p ∙ ap (cond (eqb k 10) answerSize) o))))
 
 pub all-sizes : (k views list queues group x : ℕ) → list ≡ listSize views → queues ≡ tablesSize views → group ≡ groupSize k list queues
     → x ≡ memberSize k group → x ≡ sizeOf k views

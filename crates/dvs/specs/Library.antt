@@ -8,7 +8,7 @@ use Rattle.wire.specs.Records.{recordSize}
 use Rattle.rules.specs.Sound.{within}
 use Rattle.book_bytes.specs.Places.{bookSize}
 use Rattle.group_bytes.specs.Places.{booksSize, queuesSize}
-use Rattle.c_answers.specs.Answers.{eventSize, lengthSize, deliverySize}
+use Rattle.c_answers.specs.Answers.{eventSize, lengthSize, deliverySize, foundSize}
 use Rattle.group_run.specs.Records.{stepSize, answerSize}
 
 -- major · 10000 + minor · 100 + patch
@@ -27,14 +27,16 @@ memberSize range other =
     cond (eqb range 5) longest (
     cond (eqb range 11) deliverySize other)))))
 
--- a group's list 6, its books 7, its queues 8; of a run a step 9 and an answer 10; 0 for every other number
+-- a group's list 6, its books 7, its queues 8; of a run a step 9 and an answer 10; a view that may be missing 12; 0 for
+-- every other number
 unfoldable pub groupSize : ℕ → ℕ → ℕ → ℕ
 groupSize range list queues =
     cond (eqb range 6) list (
     cond (eqb range 7) booksSize (
     cond (eqb range 8) queues (
     cond (eqb range 9) stepSize (
-    cond (eqb range 10) answerSize 0))))
+    cond (eqb range 10) answerSize (
+    cond (eqb range 12) foundSize 0)))))
 
 -- a list with room for so many views, and the queues for it; 0 where they are not 1 to 32
 unfoldable pub listSize : ℕ → ℕ

@@ -4,6 +4,7 @@
 pub mod carrier_view;
 pub mod checks;
 pub mod client_view;
+pub mod crossing;
 pub mod forming;
 pub mod library;
 pub mod messages;

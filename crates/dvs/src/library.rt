@@ -32,6 +32,9 @@ pub const ANSWER: u32 = 10;
 // And of a packet.
 pub const DELIVERY: u32 = 11;
 
+// And of a view that may be missing.
+pub const FOUND: u32 = 12;
+
 // The version of the library.
 #[no_mangle]
 pub extern "C" fn dvs_version() -> u32
@@ -88,11 +91,12 @@ fn member_size(range: u32, other: u64) -> u64
     pick(range, BOOK, book_bytes::SIZE, event)
 }
 
-// The ranges of a whole group and of a run.
+// The ranges of a whole group, of a run and of a view that may be missing.
 fn group_size(range: u32, list: usize, queues: usize) -> u64
     ensures { λ r. ⌜ r ≡ groupSize range list queues ⌝ }
 {
-    let answer = pick(range, ANSWER, group_run::ANSWER, 0);
+    let found = pick(range, FOUND, c_answers::FOUND, 0);
+    let answer = pick(range, ANSWER, group_run::ANSWER, found);
     let step = pick(range, STEP, group_run::STEP, answer);
     let tables = pick(range, QUEUES, queues, step);
     let books = pick(range, BOOKS, group_bytes::BOOKS, tables);

@@ -19,10 +19,13 @@ pick-requires-4 c κs = search needs
 pick-requires-5 : tie.Need-pick-requires-5
 pick-requires-5 c κs = search needs
 
+pick-requires-6 : tie.Need-pick-requires-6
+pick-requires-6 c κs = search needs
+
 returns : tie.Need-returns
 returns c =
     let early = c .before .before .before .before in
-    group-sizes _ _ _ _ _ _ _ _ (early .pick .ensures) (c .before .before .before .pick2 .ensures) (c .before .before .pick3 .ensures) (c .before .pick4 .ensures) (c .pick5 .ensures)
+    group-sizes _ _ _ _ _ _ _ _ _ (early .before .pick .ensures) (early .pick2 .ensures) (c .before .before .before .pick3 .ensures) (c .before .before .pick4 .ensures) (c .before .pick5 .ensures) (c .pick6 .ensures)
 
 pub group-size-spec : {M : Type 1} → statement M
 group-size-spec =
@@ -33,4 +36,5 @@ group-size-spec =
     pick-requires-3
     pick-requires-4
     pick-requires-5
+    pick-requires-6
     returns)
