@@ -18,38 +18,50 @@ pub use Rattle.group_bytes.proofs.GroupForms.{taken-given, all-or-none}
 -- 9. Demand 3 and never wedged of a host's calls, by 6, 7 and 8: `demand3-calls` and `never-wedged-calls` below.
 -- 10. In whatever demand 3 promises, what is reported safe is final if members register last; so it is in a host's calls: `finality-calls` below.
 pub use Rattle.rules.proofs.Final.{finality-promised}
+-- 11. The marks in the ranges agree with the replies, by 5; so the crossing queries tell what a host's calls showed: `crossings-calls` below.
+pub use Rattle.group_bytes.proofs.MarkRuns.{crossed-ranges, newest-ranges}
 use mathlib.Core.Path.{_≡_, refl, sym, ap, _∙_, subst}
 use mathlib.Core.Bool.{Bool, true, false}
 use mathlib.Core.List.{List, [], _∷_, _++_, append-nil}
-use Prim.Native.Nat.{ℕ, zero, suc, _+_, _*_, _/_, _^_, _<_}
+use Prim.Native.Nat.{ℕ, zero, suc, _+_, _*_, _/_, _^_, _<_, _≤_}
+use native.Mathlib.Omega.{arith}
 use borrow.Author.Tests.{eqb-true, eqb-false}
 use lib.Dec.{eqb}
 use lib.ListN.{length}
+use Rattle.views.specs.declared.View.{View}
 use Rattle.views.specs.declared.refusal.Refusal.the-variants.{RecordsUnsound}
 use Rattle.views.specs.declared.refusal.Verdict.{Verdict}
 use Rattle.views.specs.declared.refusal.Verdict.the-variants.{Accepted, Refused}
-use Rattle.views.specs.Refusals.{numberOf, left}
+use Rattle.views.specs.Limits.{maxViews}
+use Rattle.views.specs.Refusals.{numberOf, codeOf, left}
 use Rattle.views.specs.Sets.{one}
 use Rattle.views.proofs.Numbers.{never-0}
 use Rattle.wire.proofs.TripViews.{AreBytes, get-fits}
 use Rattle.rules.specs.Data.{Identifier, Step, Event as Outward, Group, Result, refused, accepted}
 use Rattle.rules.specs.Promise.{Promised}
-use Rattle.group_bytes.specs.Groups.{Ranges, rangesSound}
+use Rattle.rules.specs.Crossing.{Crossed, NewestBefore}
+use Rattle.group_bytes.specs.Groups.{Ranges, madeOf, marksOf, rangesSound}
 use Rattle.group_bytes.specs.Starts.{startRanges}
 use Rattle.group_bytes.specs.Steps.{startResult, stepRanges, stepReply, lastRanges, repliesOf}
 use Rattle.group_bytes.specs.Forming.{formVerdict, formTaken}
+use Rattle.group_bytes.specs.Crossing.{pickedIn, newestIn}
 use Rattle.events.specs.Shown.{shownBy, eventsShown}
 use Rattle.group_bytes.specs.Promises.{Given, AllGiven}
 use Rattle.group_bytes.proofs.RangesLaws.{same-ranges}
 use Rattle.group_bytes.proofs.GivenSteps.{last-append, replies-append, none-given, given-first, one-given, given-append}
 use Rattle.group_bytes.proofs.GroupForms.{refused-none}
 use Rattle.events.proofs.ShownLaws.{shown-append}
-use Rattle.c_answers.specs.Answers.{eventSize, lengthSize}
+use Rattle.c_answers.specs.Answers.{eventSize, lengthSize, lengthBytes, foundBytes}
 use Rattle.c_answers.proofs.AnswerLaws.{sized-met, sized-unmet}
+use Rattle.group_crossing.specs.Queries.{isWanted, idsOf, foundIn, storeIds, lookupOf}
+use Rattle.group_crossing.specs.QueryParts.{pickAt}
+use Rattle.group_crossing.proofs.QueryLaws.{found-below, few-below}
+use Rattle.group_crossing.proofs.QueryCases.{ranged}
 use Rattle.group_run.specs.Records.{stepSize, stepAt, stepsFrom, stepsIn, eventsIn}
 use Rattle.group_run.specs.Runs.{goOnVerdict}
 use Rattle.dvs.specs.GroupCalls.{Begins, Steps, stepping, GoesOn, Forms, forming}
-use Rattle.dvs.specs.Promises.{Called, none, call, list, form, Demand3, Finality, NeverWedged}
+use Rattle.dvs.specs.CrossingCalls.{crossing, Crosses, seeking, Seeks}
+use Rattle.dvs.specs.Promises.{Called, none, call, list, form, Demand3, Finality, NeverWedged, CrossingTold, Crossings}
 use Rattle.dvs.proofs.GroupLaws.{step-left}
 use Rattle.dvs.proofs.FormLaws.{form-left}
 
@@ -194,3 +206,48 @@ pub never-wedged-calls : NeverWedged
 never-wedged-calls n S r d f l b k =
     let (s, e, (steps, given, _, last)) = from-start n S r d f l b k in
     subst (λ (z : Ranges). rangesSound z ≡ true) last (never-wedged-ranges n S r s e steps given)
+
+-- ---- the crossing queries
+
+-- 0 is the number of no refusal, so what a call that gave 0 has left is what was accepted
+zero-left : {A : Type 0} (v : Verdict) (x y : A) → 0 ≡ codeOf v → left v x y ≡ x
+unfolding left
+zero-left Accepted x y e = refl
+zero-left (Refused q) x y e = absurd (eqb-false (numberOf q) 0 (never-0 q) (sym e))
+
+ids-length : (l : List View) → length (idsOf l) ≡ length l
+ids-length [] = refl
+ids-length (v ∷ l) = ap suc (ids-length l)
+
+found-few : (r : Ranges) → rangesSound r ≡ true → (hold : Bool) (T : ℕ) → length (foundIn r hold T) ≤ maxViews
+found-few r s hold T =
+    let t = pickAt (r .list) (marksOf r) hold T in
+    let fits = ranged r s in
+    rw (found-below r s hold T) (omega (arith, few-below (r .list) t (madeOf r), fits .made .1, fits .room .1))
+
+pub crossings-calls : Crossings
+unfolding foundIn
+crossings-calls n S r d f l b k =
+    let (s, e, (steps, given, shown, last)) = from-start n S r d f l b k in
+    record {
+      queried = λ hold T o o' c c' q.
+          let found = pickedIn f (isWanted hold T) in
+          let z = startRanges n S r in
+          let told : Crossed S (eventsShown (repliesOf z steps)) (isWanted hold T) (pickedIn (lastRanges z steps) (isWanted hold T))
+          = crossed-ranges n S r s e steps given (isWanted hold T) in (
+            found,
+            subst (λ (y : Ranges). Crossed S l (isWanted hold T) (pickedIn y (isWanted hold T))) last
+                (subst (λ (m : List (Outward ℕ)). Crossed S m (isWanted hold T) (pickedIn (lastRanges z steps) (isWanted hold T))) shown told),
+            q .buffer ∙ zero-left (crossing f hold T o c) (storeIds o 0 (foundIn f hold T)) o (q .number),
+            q .count ∙ zero-left (crossing f hold T o c) (lengthBytes (length (foundIn f hold T))) c (q .number) ∙ ap lengthBytes (ids-length found),
+          );
+      few = λ hold T. found-few f (never-wedged-calls n S r d f l b k) hold T;
+      sought = λ g o o' q.
+          let z = startRanges n S r in
+          let told : NewestBefore S (eventsShown (repliesOf z steps)) g (newestIn (lastRanges z steps) g) = newest-ranges n S r s e steps given g in (
+            newestIn f g,
+            subst (λ (y : Ranges). NewestBefore S l g (newestIn y g)) last
+                (subst (λ (m : List (Outward ℕ)). NewestBefore S m g (newestIn (lastRanges z steps) g)) shown told),
+            q .found ∙ zero-left (seeking f o) (foundBytes (lookupOf (newestIn f g))) o (q .number),
+          );
+    }
