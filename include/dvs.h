@@ -199,6 +199,28 @@ uint32_t dvs_group_steps(uint8_t *list, size_t list_size, uint8_t *books, size_t
 uint32_t dvs_group_check(const uint8_t *list, size_t list_size, const uint8_t *books, size_t books_size, const uint8_t *queues,
                          size_t queues_size) DVS_MUST_CHECK;
 
+/*
+ * ---- which views were attempted: queries that change nothing in the group
+ *
+ * A view counts as attempted if any member attempted it; the first view always does. Books forget old views, and these queries do not.
+ */
+
+/* Finds the attempted views that share a member with `set`. Writes their identifiers to the front of `views`, newest first and each once, and their number
+ * to `count` (DVS_LENGTH_SIZE bytes). `views` has room for whole identifiers of DVS_IDENTIFIER_SIZE bytes, or the call returns 4; DVS_VIEWS of them are
+ * always enough. The bytes after the identifiers found stay as they were. Refusals: 4, 7, 46. */
+uint32_t dvs_group_crossing(const uint8_t *list, size_t list_size, const uint8_t *books, size_t books_size, const uint8_t *queues, size_t queues_size,
+                            uint32_t set, uint8_t *views, size_t views_size, uint8_t *count, size_t count_size) DVS_MUST_CHECK;
+
+/* Finds the attempted views of which `set` holds a majority: twice the members in common exceed the view's members. It gives them as dvs_group_crossing
+ * does. Refusals: 4, 7, 46. */
+uint32_t dvs_group_holding(const uint8_t *list, size_t list_size, const uint8_t *books, size_t books_size, const uint8_t *queues, size_t queues_size,
+                           uint32_t set, uint8_t *views, size_t views_size, uint8_t *count, size_t count_size) DVS_MUST_CHECK;
+
+/* Finds the newest attempted view with an identifier below `view`, which need not be a view's. Writes 1 and its view record to `found` (DVS_FOUND_SIZE
+ * bytes), or 0 everywhere if there is none, which is an answer and no refusal. Refusals: 4. */
+uint32_t dvs_group_newest_before(const uint8_t *list, size_t list_size, const uint8_t *books, size_t books_size, const uint8_t *queues,
+                                 size_t queues_size, uint32_t view, uint8_t *found, size_t found_size) DVS_MUST_CHECK;
+
 #ifdef __cplusplus
 }
 #endif

@@ -32,6 +32,8 @@
 #define DVS_DELIVERY_SIZE 5u                                         /* the result of a packet: how many messages were taken, what stopped it */
 #define DVS_MESSAGE_SIZE 174u                                        /* a message's record, of the kinds below */
 #define DVS_VIEW_SIZE 5u                                             /* a view record: identifier 4, set 1 */
+#define DVS_IDENTIFIER_SIZE 4u                                       /* an identifier in a buffer of identifiers */
+#define DVS_FOUND_SIZE 6u                                            /* a view that was found, or none */
 #define DVS_LIST_SIZE(views) (DVS_VIEW_SIZE * DVS_COUNT(views))      /* a group's list with room for 1 to 32 views */
 #define DVS_BOOKS_SIZE 41872u                                        /* a group's eight books */
 #define DVS_QUEUES_SIZE(views) (64u + 32841u * DVS_COUNT(views))     /* a group's queues, for a list with room for as many views */
@@ -57,6 +59,7 @@
 #define DVS_SIZE_STEP 9u      /* DVS_STEP_SIZE */
 #define DVS_SIZE_ANSWER 10u   /* DVS_ANSWER_SIZE */
 #define DVS_SIZE_DELIVERY 11u /* DVS_DELIVERY_SIZE */
+#define DVS_SIZE_FOUND 12u    /* DVS_FOUND_SIZE */
 
 /* ---- places in a book that a host may want to read, in a book that was started and that only calls have changed. docs/LAYOUT.md has all places */
 
@@ -79,6 +82,8 @@
 /* ---- places in a group's queues; i is a view's place in the list, 0 for the first view, p a member */
 
 #define DVS_QUEUES_MADE 0u                                                               /* 1 byte: how many views were made */
+#define DVS_QUEUES_MARKS 1u                                                              /* 4 bytes: bit i is the mark of view i, 1 if it was attempted */
+#define DVS_QUEUES_LAYOUT 5u                                                             /* 1 byte: the DVS_LAYOUT of the library that started it */
 #define DVS_QUEUES_ORDER(i) (64u + 32841u * DVS_COUNT(i))                                /* 1 byte: how many messages view i's order has */
 #define DVS_QUEUES_WAITING(i, p) (21953u + 32841u * DVS_COUNT(i) + 1369u * DVS_COUNT(p)) /* 1 byte: how many messages of member p wait in view i */
 
@@ -100,6 +105,11 @@
 
 #define DVS_DELIVERY_COUNT 0u   /* 4 bytes: how many messages of the packet were taken */
 #define DVS_DELIVERY_STOPPED 4u /* 1 byte: the refusal that stopped the next one (DVS_REFUSED_...), 0 if all were taken */
+
+/* ---- places in a view that was found: DVS_FOUND_SIZE bytes */
+
+#define DVS_FOUND_THERE 0u /* 1 byte: 1 if there is one, else 0 */
+#define DVS_FOUND_VIEW 1u  /* its view record; all 0 if there is none */
 
 /* ---- places in the records of a list: a step, DVS_STEP_SIZE bytes, and the answer to it, DVS_ANSWER_SIZE bytes */
 
@@ -167,7 +177,14 @@ static inline size_t dvs_length(const uint8_t *length) { return dvs_get32(length
 static inline size_t dvs_delivery_count(const uint8_t *delivery) { return dvs_get32(delivery + DVS_DELIVERY_COUNT); }
 static inline uint32_t dvs_delivery_stopped(const uint8_t *delivery) { return delivery[DVS_DELIVERY_STOPPED]; }
 
-/* A view record: in a book, a list or a message's record. */
+/* A view that was found: 1 and its view record, or 0. */
+static inline uint32_t dvs_found(const uint8_t *found) { return found[DVS_FOUND_THERE]; }
+static inline const uint8_t *dvs_found_view(const uint8_t *found) { return found + DVS_FOUND_VIEW; }
+
+/* Identifier i in a buffer of identifiers. */
+static inline uint32_t dvs_identifier(const uint8_t *views, size_t i) { return dvs_get32(views + DVS_IDENTIFIER_SIZE * i); }
+
+/* A view record: in a book, a list, a message's record, or found. */
 static inline uint32_t dvs_view_identifier(const uint8_t *view) { return dvs_get32(view + DVS_VIEW_IDENTIFIER); }
 static inline uint32_t dvs_view_set(const uint8_t *view) { return view[DVS_VIEW_SET]; }
 

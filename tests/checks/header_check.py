@@ -11,8 +11,7 @@ from sources import ROOT, constants, source
 WIDTHS = {'u8': 'uint8_t', 'u32': 'uint32_t', 'u64': 'uint64_t'}
 BOOK_PLACES = ('MEMBERS', 'SELF', 'SETTLED', 'CARRIER', 'CLIENT', 'REGISTERED', 'HANDED', 'TOLD', 'REPORTED', 'TAKEN', 'INFOS',
                'REGISTRATIONS', 'TOLDS', 'OPENS', 'OUTGOING')
-RANGES = ('BOOK', 'EVENT', 'LENGTH', 'MESSAGE', 'BUFFER', 'LIST', 'BOOKS', 'QUEUES', 'STEP', 'ANSWER',
-          'DELIVERY')
+RANGES = ('BOOK', 'EVENT', 'LENGTH', 'MESSAGE', 'BUFFER', 'LIST', 'BOOKS', 'QUEUES', 'STEP', 'ANSWER', 'DELIVERY', 'FOUND')
 faults = []
 
 
@@ -52,17 +51,19 @@ def expected_constants():
     wanted = {'DVS_' + name: limits[name] for name in ('MEMBERS', 'VIEWS', 'OPEN', 'OUTGOING', 'WAITING', 'ORDERED', 'LONGEST')}
     wanted.update(DVS_BOOK_SIZE=books['SIZE'], DVS_EVENT_SIZE=answers['EVENT'], DVS_LENGTH_SIZE=answers['LENGTH'],
                   DVS_DELIVERY_SIZE=answers['DELIVERY'], DVS_MESSAGE_SIZE=messages['RECORD'], DVS_VIEW_SIZE=groups['VIEW'],
-                  DVS_BOOKS_SIZE=groups['BOOKS'])
+                  DVS_BOOKS_SIZE=groups['BOOKS'], DVS_IDENTIFIER_SIZE=sizes['IDENTIFIER'], DVS_FOUND_SIZE=answers['FOUND'])
     wanted['DVS_LIST_SIZE(views)'] = '(DVS_VIEW_SIZE * DVS_COUNT(views))'
     wanted['DVS_QUEUES_SIZE(views)'] = '(%du + %du * DVS_COUNT(views))' % (groups['HEAD'], groups['TABLE'])
     wanted['DVS_QUEUES_ORDER(i)'] = '(%du + %du * DVS_COUNT(i))' % (groups['HEAD'], groups['TABLE'])
     waiting = groups['HEAD'] + groups['ORDER'], groups['TABLE'], groups['WAITING']
     wanted['DVS_QUEUES_WAITING(i, p)'] = '(%du + %du * DVS_COUNT(i) + %du * DVS_COUNT(p))' % waiting
-    wanted['DVS_LAYOUT'] = layout()
+    wanted['DVS_LAYOUT'] = sizes['LAYOUT']
+    if layout() != sizes['LAYOUT']:
+        faults.append('docs/LAYOUT.md is of layout %d, the sources have %d' % (layout(), sizes['LAYOUT']))
     wanted['DVS_MUST_CHECK'] = '__attribute__((warn_unused_result))'
     wanted['DVS_COUNT(views)'] = '((size_t)(views))'  # as C has it, the last of the two
     wanted.update({'DVS_BOOK_' + name: books[name] for name in BOOK_PLACES})
-    wanted.update({'DVS_SIZE_' + name: library[name] for name in RANGES}, DVS_VERSION=version(), DVS_QUEUES_MADE=groups['MADE'])
+    wanted.update({'DVS_SIZE_' + name: library[name] for name in RANGES}, DVS_VERSION=version(), DVS_QUEUES_MADE=groups['MADE'], DVS_QUEUES_MARKS=groups['MARKS'], DVS_QUEUES_LAYOUT=groups['LAYOUT'])
     wanted.update(DVS_VIEW_IDENTIFIER=0, DVS_VIEW_SET=sizes['IDENTIFIER'])
     # a run's records: the kind and the number stand first
     wanted.update(DVS_STEP_SIZE=run['STEP'], DVS_STEP_KIND=0, DVS_STEP_FIRST=run['FIRST'], DVS_STEP_SECOND=run['SECOND'],
@@ -71,6 +72,7 @@ def expected_constants():
     wanted.update({'DVS_EVENT_' + name: answers[name] for name in ('KIND', 'MEMBER', 'VIEW', 'SENDER', 'ENTRY')})
     wanted['DVS_EVENT_SET'] = answers['VIEW'] + sizes['IDENTIFIER']
     wanted.update({'DVS_DELIVERY_' + name: answers[name] for name in ('COUNT', 'STOPPED')})
+    wanted.update(DVS_FOUND_THERE=answers['THERE'], DVS_FOUND_VIEW=answers['SEEN'])
     wanted.update({'DVS_MESSAGE_' + name: messages[name] for name in ('KIND', 'VIEW', 'NUMBER', 'COUNT', 'VIEWS')})
     wanted.update({'DVS_' + name: kinds[name] for name in ('CLIENT', 'INFO', 'REGISTERED', 'TOLD')})
     # the steps, by the kinds of the dispatcher's arms; the refusals, by their numbers
