@@ -20,7 +20,8 @@ from refusals import (
     ORDER_FULL, NONE_WAITING, NONE_TO_DELIVER, NOT_ABOVE_CLIENT, INFO_MISSING, TEST_FAILED, NO_CLIENT_VIEW,
     ALREADY_REGISTERED, OUTGOING_FULL, NONE_TO_HAND, CLIENT_NOT_CARRIER, NOTHING_NEW_TO_TELL, NONE_TO_REPORT,
     TOLD_TOO_LOW, NOT_ABOVE_SETTLED, REGISTRATION_MISSING, ENDS_EARLY, UNKNOWN_KIND, SECTION_COUNT, EMPTY_SET,
-    NOT_RISING, TOLD_OUT_OF_RANGE, BYTES_LEFT_OVER, LINE_UNREADABLE, VIEW_NOT_FRESH, FORM_TEST_FAILED, Refused, refuse_if,
+    NOT_RISING, TOLD_OUT_OF_RANGE, BYTES_LEFT_OVER, LINE_UNREADABLE, VIEW_NOT_FRESH, FORM_TEST_FAILED, TOO_FEW_PLACES,
+    Refused, refuse_if,
 )
 
 # "Words and bounds"
@@ -54,6 +55,10 @@ def empty_or_beyond(members_set, members):
 def is_above(identifier, view):
     """No view at all is below every identifier; equal is not above."""
     return view is None or identifier > view[0]
+
+
+def shares_member(one_set, other_set):
+    return one_set & other_set != 0
 
 
 def passes_test(new_set, held_set):
@@ -113,18 +118,22 @@ class Group:
         self.order = {0: []}
         self.waiting = {0: [[] for _ in range(members)]}
         self.member = [fresh_member(in_set(m, first_set), first) for m in range(members)]
+        # Every view that an `attempt` reply named, "the first view's from the start".
+        self.attempted = {first}
 
     def step(self, kind, x=0, y=0):
         """One step with its operands: ("ok",), ("refused", R) or the event it gives."""
         try:
             refuse_if(kind not in STEPS, UNKNOWN_STEP)
             name, does, _ = STEPS[kind]
-            if name == "create":
-                return does(self, x, y)
-            refuse_if(x >= self.members, NO_SUCH_MEMBER)
-            return does(self, x, y)
+            refuse_if(name != "create" and x >= self.members, NO_SUCH_MEMBER)
+            reply = does(self, x, y)
         except Refused as refusal:
             return ("refused", refusal.number)
+        if reply[0] == "attempt":
+            _, _, identifier, members_set = reply
+            self.attempted.add((identifier, members_set))
+        return reply
 
     def form(self, identifier):
         """The driver: ("formed", how many steps), or ("refused", R) and nothing changes."""
@@ -135,6 +144,26 @@ class Group:
             return ("formed", count)
         except Refused as refusal:
             return ("refused", refusal.number)
+
+    def crossing(self, members_set, places):
+        """The attempted views that share a member with the set: ("crossing", how many, their identifiers), or
+        ("refused", R). `places` is how many identifiers the buffer has room for."""
+        return self.listed("crossing", shares_member, members_set, places)
+
+    def holding(self, members_set, places):
+        """The same of those against which a view with this set would pass the test."""
+        return self.listed("holding", passes_test, members_set, places)
+
+    def listed(self, name, belongs, members_set, places):
+        try:
+            return (name, *list_attempted(self, belongs, members_set, places))
+        except Refused as refusal:
+            return ("refused", refusal.number)
+
+    def before(self, identifier):
+        """The newest attempted view below the identifier: ("before", its identifier, its set), or ("none",)."""
+        lower = [view for view in self.attempted if view[0] < identifier]
+        return ("before", *max(lower)) if lower else ("none",)
 
 
 def start(members, first_set, room):
@@ -405,6 +434,17 @@ def form(group, identifier):
         reply = group.step(*step)
         refuse_if(reply[0] == "refused", reply[-1])
     return len(steps)
+
+
+# The queries
+
+
+def list_attempted(group, belongs, members_set, places):
+    """How many attempted views belong with the set, and their identifiers, "newest first and each once"."""
+    refuse_if(empty_or_beyond(members_set, group.members), SET_UNFIT)
+    views = [view for view in group.attempted if belongs(members_set, view[1])]
+    refuse_if(len(views) > places, TOO_FEW_PLACES)
+    return [len(views)] + sorted((identifier for identifier, _ in views), reverse=True)
 
 
 # "Message bytes": the reader

@@ -6,7 +6,7 @@
 import copy
 import io
 
-from reference import Group, Refused, bench, form_steps, members_of, read_front, read_one, start
+from reference import Group, Refused, answer, bench, form_steps, members_of, read_front, read_one, start
 
 KIND = {
     "create": 1, "join": 2, "pass": 3, "order": 4, "deliver": 5, "attempt": 6,
@@ -288,6 +288,101 @@ def form_fails_where_steps_pass():
     assert [reply for reply in [group.step(*step) for step in form_steps((3, 0b10000011))] if reply[0] == "refused"] == []
 
 
+# More places than any list of views needs.
+ENOUGH = 32
+
+
+def asked_at_once():
+    """The first view is attempted from the start. {3} crosses it and holds no majority of it; {4} is outside it."""
+    group = Group(5, 0b01111, 32)
+    assert group.crossing(0b01111, ENOUGH) == ("crossing", 1, 0) and group.holding(0b01111, ENOUGH) == ("holding", 1, 0)
+    assert group.crossing(0b01000, ENOUGH) == ("crossing", 1, 0) and group.holding(0b01000, ENOUGH) == ("holding", 0)
+    assert group.crossing(0b10000, ENOUGH) == ("crossing", 0) and group.holding(0b10000, ENOUGH) == ("holding", 0)
+    assert group.before(1) == ("before", 0, 0b01111)
+
+
+def joined_is_not_attempted():
+    """Made, joined and every info taken is not enough, nor is a refused attempt; one member's attempt is."""
+    group = made_and_joined(0b11111, 1, 0b00111)
+    assert group.crossing(0b00111, ENOUGH) == ("crossing", 1, 0) and group.before(2) == ("before", 0, 0b11111)
+    assert do(group, "attempt", 4) == ("refused", 19)
+    assert group.crossing(0b00111, ENOUGH) == ("crossing", 1, 0)
+    assert do(group, "attempt", 1) == ("attempt", 1, 1, 0b00111)
+    assert group.crossing(0b00111, ENOUGH) == ("crossing", 2, 1, 0) and group.before(2) == ("before", 1, 0b00111)
+    assert group.crossing(0b11000, ENOUGH) == ("crossing", 1, 0)
+    # A further attempt of the same view lists it no second time.
+    assert do(group, "attempt", 2) == ("attempt", 2, 1, 0b00111)
+    assert group.crossing(0b00111, ENOUGH) == ("crossing", 2, 1, 0)
+    # Nor does a view that fails the test become attempted, by hand or by the driver.
+    group = made_and_joined(0b11111, 1, 0b00011)
+    assert do(group, "attempt", 0) == ("refused", 21)
+    all_ok(group, ("create", 2, 0b00011))
+    assert group.form(2) == ("refused", 45)
+    assert group.crossing(0b11111, ENOUGH) == ("crossing", 1, 0)
+
+
+def three_attempted():
+    """A group whose view 4 was attempted by one member, and whose view 7 the driver formed."""
+    group = made_and_joined(0b11111, 4, 0b00111)
+    assert do(group, "attempt", 0)[0] == "attempt"
+    formed(group, 7, 0b11110)
+    return group
+
+
+def forgotten_is_listed():
+    """A view that no book holds any more is listed as long as the group lives."""
+    group = three_attempted()
+    formed(group, 8, 0b11111)
+    for m in group.member:
+        assert m["settled"] == m["carrier"] == m["client"] == (8, 0b11111) and m["open"] == []
+    assert group.crossing(0b00001, ENOUGH) == ("crossing", 3, 8, 4, 0)
+    assert group.crossing(0b00010, ENOUGH) == ("crossing", 4, 8, 7, 4, 0)
+    assert group.holding(0b00011, ENOUGH) == ("holding", 1, 4)
+    assert group.holding(0b01110, ENOUGH) == ("holding", 4, 8, 7, 4, 0)
+
+
+def half_is_no_majority():
+    """Of the view, and not of the set: the test the other way round answers something else."""
+    group = Group(5, 0b01111, 32)
+    assert group.holding(0b00011, ENOUGH) == ("holding", 0) and group.holding(0b10011, ENOUGH) == ("holding", 0)
+    assert group.holding(0b00111, ENOUGH) == ("holding", 1, 0)
+    group = Group(8, 0b00000001, 32)
+    assert group.holding(0b11111111, ENOUGH) == ("holding", 1, 0)
+
+
+def places_for_the_list():
+    """46 for a buffer one identifier short, none at an exact fit. 7 is checked first."""
+    group = three_attempted()
+    for places in [3, 4, ENOUGH]:
+        assert group.crossing(0b00010, places) == ("crossing", 3, 7, 4, 0)
+        assert group.holding(0b11110, places) == ("holding", 3, 7, 4, 0)
+    for places in [0, 1, 2]:
+        assert group.crossing(0b00010, places) == group.holding(0b11110, places) == ("refused", 46)
+    assert group.holding(0b01000, 0) == ("holding", 0)
+    for unfit in [0, 0b100000, 0b100010, 255, 256, 256 + 0b11111, 2**32 - 1]:
+        for places in [0, 2, ENOUGH]:
+            assert group.crossing(unfit, places) == group.holding(unfit, places) == ("refused", 7)
+
+
+def newest_before():
+    """Strictly below; the identifier need not be a view's, and a view that was only made is passed over."""
+    group = three_attempted()
+    all_ok(group, ("create", 9, 0b11111))
+    first, second, third = ("before", 0, 0b11111), ("before", 4, 0b00111), ("before", 7, 0b11110)
+    for found, identifiers in [(("none",), [0]), (first, [1, 3, 4]), (second, [5, 6, 7]), (third, [8, 9, 10, 2**32 - 1])]:
+        for identifier in identifiers:
+            assert group.before(identifier) == found, identifier
+
+
+def another_group_starts_afresh():
+    """A refused `group` leaves the views attempted; an accepted one leaves its first view alone."""
+    group = three_attempted()
+    same, reply = answer(group, b"group 9 1")
+    assert reply == ("refused", 1) and same.crossing(0b00010, ENOUGH) == ("crossing", 3, 7, 4, 0)
+    other, reply = answer(group, b"group 3 3")
+    assert reply == ("ok",) and other.crossing(0b111, ENOUGH) == ("crossing", 1, 0) and other.before(9) == ("before", 0, 3)
+
+
 CASES = [
     whole_case,
     three_of_five_pass,
@@ -309,6 +404,13 @@ CASES = [
     formed_by_one_to_eight,
     form_refusals,
     form_fails_where_steps_pass,
+    asked_at_once,
+    joined_is_not_attempted,
+    forgotten_is_listed,
+    half_is_no_majority,
+    places_for_the_list,
+    newest_before,
+    another_group_starts_afresh,
 ]
 
 if __name__ == "__main__":
