@@ -83,6 +83,13 @@ struct Reply {
   uint64_t number = 0;
 };
 
+// A list of views: their identifiers, the newest first.
+struct Found {
+  Refusal refusal = kAccepted;
+  unsigned count = 0;
+  uint32_t ids[kViews] = {};
+};
+
 inline Reply refuse(Refusal r) { Reply reply; reply.refusal = r; return reply; }
 
 inline Reply show(Event event, uint8_t member, uint32_t id, uint8_t who = 0, uint64_t number = 0) {
@@ -95,9 +102,12 @@ inline unsigned ones(unsigned set) { return static_cast<unsigned>(__builtin_popc
 
 inline bool majority(uint8_t set, uint8_t held) { return 2 * ones(set & held) > ones(held); }
 
+inline bool shares(uint8_t set, uint8_t other) { return (set & other) != 0; }
+
 struct Group {
   uint8_t members, length, made;  // length: how many view records were lent
   View list[kViews];
+  bool attempted[kViews];  // by the view's place in the list
   Channel channels[kViews];
   Book books[kMembers];
 
@@ -105,11 +115,17 @@ struct Group {
   Reply step(uint8_t kind, uint64_t first, uint64_t second);
   // The driver: `number` is how many steps it took.
   Reply form(uint64_t id);
+  // The queries: the attempted views that share a member with the set, and those of which it holds a majority, in so many
+  // places; the newest attempted view below the identifier, or null.
+  Found crossing(uint64_t set, size_t places) const { return list_attempted(shares, set, places); }
+  Found holding(uint64_t set, size_t places) const { return list_attempted(majority, set, places); }
+  const View* before(uint32_t id) const;
 
  private:
   bool set_allowed(uint64_t set) const { return set != 0 && set >> members == 0; }
   unsigned find(uint64_t id) const;
   bool listed(const View& v) const;
+  Found list_attempted(bool (*belongs)(uint8_t, uint8_t), uint64_t set, size_t places) const;
   bool sound_entry(const Entry& e) const;
   bool sound_book(const Book& b) const;
   bool sound() const;
@@ -137,6 +153,7 @@ inline Refusal Group::start(uint64_t members_given, uint64_t first, uint64_t len
   length = static_cast<uint8_t>(length_given);
   made = 1;
   list[0] = View{0, static_cast<uint8_t>(first)};
+  attempted[0] = true;
   for (auto& w : channels[0].waiting) w.clear();
   channels[0].order.count = 0;
   for (unsigned p = 0; p < kMembers; ++p) {
@@ -248,6 +265,7 @@ inline Reply Group::create(uint64_t id, uint64_t set) {
   if (id <= list[made - 1].id) return refuse(kIdentifierNotAbove);
   if (made == length) return refuse(kListFull);
   list[made] = View{static_cast<uint32_t>(id), static_cast<uint8_t>(set)};
+  attempted[made] = false;
   for (auto& w : channels[made].waiting) w.clear();
   channels[made].order.count = 0;
   ++made;
@@ -351,6 +369,7 @@ inline Reply Group::attempt(Book& b, uint8_t p) {
   bool passes = majority(b.carrier.set, b.settled.set);
   for (unsigned i = 0; i < b.opens; ++i) passes = passes && majority(b.carrier.set, b.open[i].set);
   if (!passes) return refuse(kTestFailed);
+  attempted[find(b.carrier.id)] = true;
   open_view(b, b.carrier);
   b.client = b.carrier;
   b.has_client = true;
@@ -456,6 +475,22 @@ inline Reply Group::form(uint64_t id) {
       for (unsigned n = 0; n < (v.set >> p & 1) * (kind == 5 ? ones(v.set) : 1); ++n, ++reply.number)
         if (Refusal r = step(kind, p, id).refusal) return *this = before, refuse(r);
   return reply;
+}
+
+inline Found Group::list_attempted(bool (*belongs)(uint8_t, uint8_t), uint64_t set, size_t places) const {
+  Found found;
+  if (kCheck && !sound()) return found.refusal = kRecordsUnsound, found;
+  if (!set_allowed(set)) return found.refusal = kSetUnfit, found;
+  for (unsigned i = made; i-- > 0;)
+    if (attempted[i] && belongs(static_cast<uint8_t>(set), list[i].set)) found.ids[found.count++] = list[i].id;
+  if (found.count > places) return found.refusal = kTooFewPlaces, found;
+  return found;
+}
+
+inline const View* Group::before(uint32_t id) const {
+  unsigned i = made;
+  while (i > 0 && !(attempted[i - 1] && list[i - 1].id < id)) --i;
+  return i > 0 ? &list[i - 1] : nullptr;
 }
 
 }  // namespace reference
