@@ -43,10 +43,6 @@ NEAR_WIDTHS = [
     b"0x1", b"1.0", b"1e0", b"", b"\xd9\xa1", b"one",
 ]
 
-
-# Of a thousand lines that are tried, how many form a view, in a script that has such lines.
-FORMS = 30
-
 # The line that shows refusals where it is the first; to how many lines there is one that is not.
 ALL = b"all"
 LINES_TO_AN_ALL = 40
@@ -63,13 +59,9 @@ def accepted(reply):
 
 
 class Script:
-    """Lines with their replies, without a first line `all`; `seed` determines both. With `forms` there are lines
-    `form IDENTIFIER` among them, which no bench reads, and none that is hostile."""
+    """Lines with their replies, without a first line `all`; `seed` determines both."""
 
-    def __init__(self, seed, forms=False):
-        self.forms = forms
-        # How often the driver refused a view for an open view alone: it passed against every settled one.
-        self.open_alone = 0
+    def __init__(self, seed):
         self.draw = random.Random(seed)
         self.group = None
         self.lines = []
@@ -87,19 +79,26 @@ class Script:
     def write(self, count):
         """`count` lines more."""
         end = len(self.lines) + count
-        while not self.forms and self.draw.random() < 0.7 and len(self.lines) < end:
-            self.put(self.hostile_line())
+        self.put_first_lines(end)
         while len(self.lines) < end:
             if self.group is None or self.lines_left <= 0:
                 self.begin()
-            elif not self.forms and self.draw.randrange(100) < HOSTILE:
-                self.put(self.hostile_line())
-            elif self.forms and self.draw.randrange(1000) < FORMS:
-                self.form()
-            else:
+            elif not self.put_other_line():
                 self.next_step()
             self.lines_left -= 1
             self.mood_left -= 1
+
+    def put_first_lines(self, end):
+        """Some hostile lines before the first group."""
+        while self.draw.random() < 0.7 and len(self.lines) < end:
+            self.put(self.hostile_line())
+
+    def put_other_line(self):
+        """At times a line that is no step; whether there is one."""
+        hostile = self.draw.randrange(100) < HOSTILE
+        if hostile:
+            self.put(self.hostile_line())
+        return hostile
 
     def put_alls(self):
         """Lines `all` behind the first one, where they are unreadable and change nothing."""
@@ -113,34 +112,12 @@ class Script:
         members = draw.choice([1, 2, 3, 3, 4, 4, 5, 5, 6, 7, 8, 8])
         whole = 2**members - 1
         first = draw.choice([whole, whole, draw.randint(1, whole), whole & ~(1 << draw.randrange(members)) or whole])
-        self.put(b"group %d %d" % (members, first))
+        self.start(members, first)
         self.lines_left = draw.choice([150, 600, 1500, 4000, 8000])
         self.mood_left = 0
 
-    def form(self):
-        """A view is made and formed, whether or not the last one was settled; or any other one is."""
-        if self.draw.random() < 0.3:
-            self.leave_open()
-        identifier = self.some_identifier()
-        if self.draw.random() < 0.8:
-            identifier = self.new_identifier()
-            self.put(line_of((1, identifier, self.new_set())))
-        new_set, reply = self.group.views[-1][1], self.group.form(identifier)
-        self.keep(b"form %d" % identifier, reply)
-        settled = [self.group.member[p]["settled"][1] for p in reference.members_of(new_set)]
-        self.open_alone += reply == ("refused", 45) and all(reference.passes_test(new_set, held) for held in settled)
-        # Nothing more can be formed once the list is full: another group is begun.
-        if len(self.group.views) == self.group.room:
-            self.lines_left = 0
-
-    def leave_open(self):
-        """A view is made and, by hand, attempted by its members; nobody registers, so it stays open."""
-        self.put(line_of((1, self.new_identifier(), self.new_set())))
-        for kind, *operands in reference.form_steps(self.group.views[-1]):
-            name, _, widths = reference.STEPS[kind]
-            if name == "register":
-                break
-            self.put(line_of((kind, *operands[: len(widths)])))
+    def start(self, members, first_set):
+        self.put(b"group %d %d" % (members, first_set))
 
     def next_step(self):
         draw = self.draw

@@ -1,8 +1,8 @@
 """Benches beside each other: the same script for every command, their answers line by line.
 
     python3 tests/reference/compare.py random SEED LINES CMD...   a random script
-    python3 tests/reference/compare.py forms SEED LINES CMD...    one with lines for the driver, and none that is hostile:
-                                                                  tests/outside/lines.hpp
+    python3 tests/reference/compare.py forms SEED LINES CMD...    one with lines for the driver and the queries, and none
+                                                                  that is hostile: tests/outside/lines.hpp
     python3 tests/reference/compare.py live SEED LINES CMD...     each line sent when the last was answered
     python3 tests/reference/compare.py corpus DIR CMD...          every DIR/NAME.txt, with DIR/NAME.out as answers, and those
                                                                   that begin with `all` without it too
@@ -23,6 +23,7 @@ import sys
 import threading
 
 import bench_script
+import form_script
 import reference
 
 TAIL = 15
@@ -86,8 +87,8 @@ def same(lines, expected, name, answers, what):
     return False
 
 
-def random_script(seed, lines, forms=False):
-    script = bench_script.Script(seed, forms)
+def random_script(seed, lines, sort=bench_script.Script):
+    script = sort(seed)
     script.write(lines)
     return script
 
@@ -102,16 +103,12 @@ def compare_random(seed, script, commands):
 
 
 def compare_forms(seed, script, commands):
-    """The driver: views of every size, each of its refusals that steps lead to, and 45 for an open view alone, must have come."""
-    seen = {reply for line, reply in zip(script.lines, script.replies) if line.startswith(b"form ")}
-    wanted = {f"formed {2 * k * k + 8 * k}" for k in range(1, 9)} | {"refused 10", "refused 44", "refused 45"}
-    for reply in sorted(seen ^ wanted):
-        print(f"seed {seed}: the driver's answer '{reply}' {'was not seen' if reply in wanted else 'is none of its own'}")
-    if not script.open_alone:
-        print(f"seed {seed}: no view was refused for an open view alone")
+    """The driver and the queries: each of their answers that steps lead to must have come, and what else is wanted."""
+    for sort in sorted(script.seen ^ form_script.WANTED):
+        print(f"seed {seed}: '{sort}' {'was not seen' if sort in form_script.WANTED else 'is no answer'}")
     lines, expected = script.answers(bench_script.everything)
     good = all([same(lines, expected, c, run(c, script.bytes()), f"seed {seed}, forms") for c in commands])
-    return good and seen == wanted and script.open_alone > 0
+    return good and script.seen == form_script.WANTED
 
 
 def compare_live(seed, lines, commands):
@@ -182,7 +179,7 @@ def main(arguments):
     if mode == "random" and len(rest) >= 3:
         return compare_random(rest[0], random_script(int(rest[0]), int(rest[1])), rest[2:])
     if mode == "forms" and len(rest) >= 3:
-        return compare_forms(rest[0], random_script(int(rest[0]), int(rest[1]), forms=True), rest[2:])
+        return compare_forms(rest[0], random_script(int(rest[0]), int(rest[1]), form_script.FormScript), rest[2:])
     if mode == "live" and len(rest) >= 3:
         return compare_live(int(rest[0]), int(rest[1]), rest[2:])
     if mode == "corpus" and len(rest) >= 1:
