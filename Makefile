@@ -107,7 +107,7 @@ headers:
 	tests/outside/headers.sh
 
 # The library beside a plain implementation in C++: every length, limit and refusal, and random cases. Once with the host's code sanitized. Then the
-# driver, which the bench has no line for, beside the reference in Python, by random scripts.
+# driver and the queries, which the bench has no lines for, beside the reference in Python, by random scripts.
 .PHONY: outside
 REFERENCE := tests/reference/reference_group.hpp tests/reference/refusals.inc
 OUTSIDE := $(wildcard tests/outside/*.hpp tests/outside/*.cpp tests/outside/*.inc) $(REFERENCE) include/dvs.h

@@ -62,7 +62,7 @@ class Lines : LentGroup {
   // Ends the program unless the number and the bytes are those of tests/reference/reference_group.hpp.
   void want_third(const char* name, uint64_t operand, uint32_t answer, uint32_t third, bool same_bytes) {
     if (answer == third && same_bytes) return;
-    printf("\nDIFFERENCE in %s %" PRIu64 ": the library answers %u, tests/reference/reference_group.hpp %u%s\n", name, operand,
+    printf("DIFFERENCE in %s %" PRIu64 ": the library answers %u, tests/reference/reference_group.hpp %u%s\n", name, operand,
            answer, third, same_bytes ? "" : ", and the lent bytes are not the same");
     c_.tally.say_again();
   }
