@@ -113,7 +113,7 @@ class Calls {
   // What calls are lent besides books and a group's ranges. Their contents are whatever the last call left.
   Lent event{"event", 64}, buffer{"buffer", 512}, length{"length", 16}, bytes{"bytes", 1 << 16}, message{"message", 256};
   Lent steps{"steps", 4096 * plain::kStepSize}, answers{"answers", 4096 * plain::kAnswerSize};
-  Lent count{"count", 64}, delivery{"delivery", 64};
+  Lent count{"count", 64}, delivery{"delivery", 64}, views{"views", 256}, found{"found", 64};
 
   explicit Calls(Tally& t) : tally(t) { usual(); }
 
@@ -122,8 +122,8 @@ class Calls {
     event.resize(DVS_EVENT_SIZE, kBack), length.resize(DVS_LENGTH_SIZE, kBack), bytes.resize(0, kBack);
     buffer.resize(DVS_LONGEST, kBack), message.resize(DVS_MESSAGE_SIZE, kBack);
     steps.resize(2 * DVS_STEP_SIZE, kBack), answers.resize(2 * DVS_ANSWER_SIZE, kBack), count.resize(DVS_LENGTH_SIZE, kBack);
-    delivery.resize(DVS_DELIVERY_SIZE, kBack);
-    for (Lent* lent : {&event, &length, &buffer, &message, &steps, &answers, &count, &delivery}) lent->copy_to_theirs();
+    delivery.resize(DVS_DELIVERY_SIZE, kBack), views.resize(DVS_IDENTIFIER_SIZE * DVS_VIEWS, kBack), found.resize(DVS_FOUND_SIZE, kBack);
+    for (Lent* lent : {&event, &length, &buffer, &message, &steps, &answers, &count, &delivery, &views, &found}) lent->copy_to_theirs();
   }
 
   // Each call under its own name. A case gives a book, or a group's three ranges, and the call's numbers.
@@ -177,7 +177,7 @@ inline bool library_agrees() {
       bool some = views >= 1 && views <= plain::kViews;
       uint64_t sizes[] = {0, DVS_BOOK_SIZE, DVS_EVENT_SIZE, DVS_LENGTH_SIZE, DVS_MESSAGE_SIZE, DVS_LONGEST,
                           some ? DVS_LIST_SIZE(views) : 0, DVS_BOOKS_SIZE, some ? DVS_QUEUES_SIZE(views) : 0,
-                          DVS_STEP_SIZE, DVS_ANSWER_SIZE, DVS_DELIVERY_SIZE};
+                          DVS_STEP_SIZE, DVS_ANSWER_SIZE, DVS_DELIVERY_SIZE, DVS_FOUND_SIZE};
       // The last views beyond 32 bits' half and whole, so that none is taken for a smaller number.
       uint32_t given = views < 298 ? static_cast<uint32_t>(views) : UINT32_MAX - static_cast<uint32_t>(300 - views);
       uint32_t asked = range < 298 ? range : 0x80000000u + (range - 298);

@@ -51,9 +51,9 @@ inline size_t book_place(Random& r, const uint8_t* book) {
   return list + column_place(r, book[list], {1, 8});
 }
 
-// A place in a group's queues: the number of views made, or in a queue of a view made.
+// A place in a group's queues: the number of views made, the marks, the number of the layout, or in a queue of a view made.
 inline size_t queues_place(Random& r, const uint8_t* queues, size_t room) {
-  if (r.chance(100)) return r.chance(700) ? 0 : r.below(plain::kQueuesHead);
+  if (r.chance(150)) return r.chance(400) ? plain::kQueuesMade : r.chance(800) ? r.below(plain::kQueuesFree) : r.below(plain::kQueuesHead);
   unsigned made = queues[0] >= 1 && queues[0] <= room ? queues[0] : static_cast<unsigned>(room);
   size_t table = plain::kQueuesHead + plain::kTableSize * r.below(made);
   if (r.chance(400)) return table + column_place(r, queues[table], {1, 1, 1, 8, plain::kInfoSize});

@@ -12,7 +12,7 @@ class Driver {
   Range list_, books_, queues_;
 
   unsigned members() const { return books_.at[kAtMembers]; }
-  unsigned made() const { return queues_.at[0]; }
+  unsigned made() const { return queues_.at[kQueuesMade]; }
   View view(unsigned i) const { return get_view(list_.at + kViewSize * i); }
   View newest() const { return view(made() - 1); }
 

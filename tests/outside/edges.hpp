@@ -174,6 +174,35 @@ class Edges {
     }
   }
 
+  // Two views that were attempted and one that was not: every length of the buffer, of the count and of what was found, numbers
+  // near every limit, in a group that is sound and in one that is not.
+  void queries() {
+    cut(list_, 15, false), cut(books_, plain::kBooksSize, false), cut(queues_, plain::queues_size(3), false);
+    c_.dvs_group_start(list_, books_, queues_, 8, 255);
+    for (uint32_t id : {7u, 9u}) c_.dvs_group_step(list_, books_, queues_, plain::kCreate, id, 31);
+    queues_.poke(plain::kQueuesMarks + 3, 5);
+    auto calls = [&](uint32_t set, uint32_t id) {
+      c_.dvs_group_crossing(list_, books_, queues_, set), c_.dvs_group_holding(list_, books_, queues_, set);
+      c_.dvs_group_newest_before(list_, books_, queues_, id);
+    };
+    for (bool sound : {true, false}) {
+      queues_.poke(plain::kQueuesLayout, sound ? plain::kLayout : 0);
+      for (size_t size = 0; size <= 140; ++size)
+        for (size_t count = 0; count <= 8; ++count)
+          for (uint32_t set : {31u, 0xe0u, 0u})
+            cut(c_.views, size, true), cut(c_.count, count, true), cut(c_.found, size % 64, true), calls(set, 9);
+      c_.usual();
+      for (uint32_t set = 0; set <= 257; ++set) calls(set, set);
+      for (uint32_t word : kWords) calls(word, word);
+      for (size_t at = 0; at < plain::kQueuesHead; ++at)
+        for (unsigned bit = 0; bit < 8; ++bit) {
+          uint8_t was = queues_.mine()[at];
+          queues_.poke(at, static_cast<uint8_t>(was ^ 1u << bit)), c_.every_call(9, list_, books_, queues_), calls(255, 9);
+          queues_.poke(at, was);
+        }
+    }
+  }
+
   // Every length of the steps with every length of the answers: only whole records, as many of each, are taken. A list by
   // itself is applied to a group that is sound and to one that is not.
   void run_lengths() {
@@ -275,7 +304,7 @@ class Edges {
  public:
   explicit Edges(Calls& c) : c_(c) {
     for (Lent* lent : {&book_, &list_, &books_, &c_.event, &c_.length, &c_.bytes, &c_.buffer, &c_.message, &c_.answers, &c_.count,
-                       &c_.delivery}) {
+                       &c_.delivery, &c_.views, &c_.found}) {
       uint8_t noise[64];
       r_.fill(noise, sizeof noise);
       memcpy(lent->mine(), noise, lent == &c_.length ? 16 : 64);
@@ -285,7 +314,7 @@ class Edges {
   void run() {
     c_.usual();
     book_lengths(), other_lengths(), packet_lengths(), numbers(), group_lengths(), forms(), run_lengths(), group_numbers();
-    inward_columns(), long_infos(), order_columns();
+    inward_columns(), long_infos(), order_columns(), queries();
   }
 };
 

@@ -22,7 +22,7 @@ class FormCases : LentGroup {
     Random r(members, set);
     lend(r, room);
     expect("start", c_.dvs_group_start(list_, books_, queues_, members, set), 0);
-    third_->start(members, set, room), clean_ = true;
+    begin(members, set);
   }
   void create(uint32_t id, uint32_t set) { expect("create", call(DVS_STEP_CREATE, id, set), 0); }
 

@@ -19,7 +19,7 @@ class FormRefusals : LentGroup {
   uint8_t* order() { return queues_.mine() + plain::kQueuesHead + plain::kTableSize * 2; }
   uint8_t* waiting(unsigned p) { return order() + plain::kOrderSize + plain::kWaitingSize * p; }
 
-  // Noise wherever a started group has nothing.
+  // Noise wherever a started group has nothing. Of the head the number of views made, the marks and the layout's number stay.
   void scatter() {
     std::vector<uint8_t> was(books_.mine(), books_.mine() + books_.size());
     r_.fill(books_.mine(), books_.size());
@@ -28,7 +28,7 @@ class FormRefusals : LentGroup {
       for (size_t at : {plain::kAtSide, plain::kAtOpen, plain::kAtOutgoing, plain::kAtInward0, plain::kAtInward1}) book(p)[at] = 0;
     }
     r_.fill(list_.mine() + plain::kViewSize, list_.size() - plain::kViewSize);
-    r_.fill(queues_.mine() + 1, queues_.size() - 1);
+    r_.fill(queues_.mine() + plain::kQueuesFree, queues_.size() - plain::kQueuesFree);
     uint8_t* table = queues_.mine() + plain::kQueuesHead;
     table[0] = 0;
     for (unsigned p = 0; p < 4; ++p) table[plain::kOrderSize + plain::kWaitingSize * p] = 0;

@@ -99,7 +99,10 @@ inline void random_group(Random& r, plain::Range list, plain::Range books, plain
   Pool pool(r, members, r.chance(300) ? room : r.between(1, room));
   for (plain::Range range : {list, books, queues}) r.fill(range.at, range.size);
   for (unsigned i = 0; i < pool.count; ++i) plain::put_view(list.at + plain::kViewSize * i, pool.views[i]);
-  queues.at[0] = static_cast<uint8_t>(pool.count);
+  queues.at[plain::kQueuesMade] = static_cast<uint8_t>(pool.count), queues.at[plain::kQueuesLayout] = plain::kLayout;
+  // Any views have marks, or all of them: a view that is any member's may have none, and so may the first.
+  uint64_t all = (uint64_t{1} << pool.count) - 1;
+  plain::put(queues.at + plain::kQueuesMarks, plain::kMarksSize, r.chance(300) ? all : r.bits() & all);
   auto order = [&](unsigned i) { return queues.at + plain::kQueuesHead + plain::kTableSize * i; };
   for (unsigned i = 0; i < pool.count; ++i) {
     bool empty = fresh && i + 1 == pool.count;

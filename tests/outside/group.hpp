@@ -64,7 +64,8 @@ class Group {
 
   size_t room() const { return list_.size / kViewSize; }
   unsigned members() const { return books_.at[kAtMembers]; }
-  unsigned made() const { return queues_.at[0]; }
+  unsigned made() const { return queues_.at[kQueuesMade]; }
+  uint64_t marks() const { return get(queues_.at + kQueuesMarks, kMarksSize); }
   View view(unsigned i) const { return get_view(list_.at + kViewSize * i); }
   uint8_t* book(unsigned p) const { return books_.at + kBookSize * p; }
   Order order(unsigned i) const { return Order{queues_.at + kQueuesHead + kTableSize * i}; }
@@ -88,6 +89,8 @@ class Group {
     if (members() < 1 || members() > kMembers || made() < 1 || made() > room()) return false;
     for (unsigned i = 0; i < made(); ++i)
       if (!set_fits(view(i).set, members()) || (i > 0 && view(i).id <= view(i - 1).id)) return false;
+    // "a mark past the views made; in the queues' head the number of another layout": 32 views leave no such mark.
+    if (marks() >> made() != 0 || queues_.at[kQueuesLayout] != kLayout) return false;
     Setting in{members(), list_.at, made()};
     for (unsigned i = 0; i < made(); ++i) {
       if (!order(i).sound(in)) return false;
@@ -109,7 +112,7 @@ class Group {
     put_view(list_.at + kViewSize * made(), View{static_cast<uint32_t>(id), static_cast<uint8_t>(set)});
     order(made()).at[0] = 0;
     for (unsigned p = 0; p < kMembers; ++p) waiting(made(), p).at[0] = 0;
-    ++queues_.at[0];
+    ++queues_.at[kQueuesMade];
     return kAccepted;
   }
 
@@ -150,13 +153,20 @@ class Group {
     return m_.take(e.message(m_.carrier.id), e.sender());
   }
 
+  // "An accepted attempt marks its view", which is the carrier view.
+  Refusal attempt(Event& e) {
+    Refusal r = m_.attempt(e);
+    if (r == kAccepted) put(queues_.at + kQueuesMarks, kMarksSize, marks() | uint64_t{1} << find(m_.carrier.id));
+    return r;
+  }
+
   Refusal member_step(uint32_t kind, unsigned p, uint64_t second, Event& e) {
     switch (kind) {
       case kJoin: return join(p, second);
       case kPass: return pass(p);
       case kOrder: return order_one(p, second);
       case kDeliver: return deliver();
-      case kAttempt: return m_.attempt(e);
+      case kAttempt: return attempt(e);
       case kRegister: return m_.enroll(e);
       case kSend: return m_.send(second, e);
       case kHand: return m_.hand(e);
@@ -195,7 +205,8 @@ class Group {
     memset(queues_.at, 0, queues_.size);
     put_view(list_.at, View{0, static_cast<uint8_t>(first_set)});
     for (unsigned p = 0; p < members; ++p) store_fresh(book(p), members, static_cast<uint8_t>(first_set), p);
-    queues_.at[0] = 1;
+    queues_.at[kQueuesMade] = 1, queues_.at[kQueuesLayout] = kLayout;
+    put(queues_.at + kQueuesMarks, kMarksSize, 1);
     return kAccepted;
   }
 

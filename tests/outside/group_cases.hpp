@@ -72,6 +72,24 @@ class GroupCases : LentGroup {
     return form(id);
   }
 
+  // A query by a set or an identifier that fits more often than not. One by a set is made again, with a buffer for exactly
+  // what it listed, for one identifier fewer, or of any length about that.
+  uint32_t some_query(Random& r) {
+    if (r.chance(300)) {
+      uint32_t id = view(r.below(made() - 1 < room() ? made() : 1)).id + r.below(3) - 1;
+      return newest_before(r.chance(900) ? id : r.odd_word());
+    }
+    bool holds = r.chance(500);
+    uint32_t set = r.chance(900) ? r.set(some_members()) : r.odd_word();
+    lend_views(r, plain::kIdentifierSize * plain::kViews);
+    uint32_t answer = holds ? holding(set) : crossing(set);
+    if (answer != plain::kAccepted) return answer;
+    size_t exact = plain::kIdentifierSize * listed();
+    lend_views(r, r.chance(400) ? exact : r.chance(500) ? exact - (exact ? plain::kIdentifierSize : 0) : exact + r.below(9) - (exact ? 4 : 0));
+    holds ? holding(set) : crossing(set);
+    return answer;
+  }
+
   // A list of any steps; now and then some member joins its own client view, which a carrier view below it lets it do.
   uint32_t some_list(Random& r, bool wide) {
     return as_list(r, [&] {
@@ -107,6 +125,11 @@ class GroupCases : LentGroup {
         size_t book = plain::kBookSize * r.below(members() <= 8 && r.chance(900) ? members() : 8);
         size_t at = book + book_place(r, books_.mine() + book);
         change(books_, at, other_byte(r, books_.mine()[at]));
+      } else if (which == 9 && r.chance(300)) {
+        // A mark, most often that of the first place after the views made.
+        unsigned place = made() < plain::kViews && r.chance(500) ? made() : r.below(plain::kViews);
+        size_t at = plain::kQueuesMarks + plain::kMarksSize - 1 - place / 8;
+        change(queues_, at, static_cast<uint8_t>(queues_.mine()[at] ^ 1u << place % 8));
       } else {
         size_t at = queues_place(r, queues_.mine(), room());
         uint8_t was = queues_.mine()[at];
@@ -118,6 +141,7 @@ class GroupCases : LentGroup {
     uint32_t answer = r.chance(50)    ? call(r.odd_word(), r.odd_word(), r.odd_long())
                       : r.chance(100) ? form(newest().id)
                       : r.chance(100) ? some_list(r, true)
+                      : r.chance(150) ? some_query(r)
                                       : step(r, r.between(1, 12), true);
     if (answer == plain::kAccepted) return;
     clean_ = was_clean;
@@ -144,8 +168,7 @@ class GroupCases : LentGroup {
     bool wide = r.chance(700);
     auto first = wide ? static_cast<uint8_t>((1u << members) - 1) : r.set(members);
     c_.dvs_group_start(list_, books_, queues_, members, first);
-    third_->start(members, first, room());
-    clean_ = true;
+    begin(members, first);
     unsigned length = r.chance(800) ? 200 : 2000;
     for (unsigned n = 0; n < length; ++n) {
       unsigned which = 0, at = r.below(sum);
@@ -156,6 +179,7 @@ class GroupCases : LentGroup {
       if (r.chance(40)) damaged(r);
       if (r.chance(10)) some_form(r, wide);
       if (r.chance(15)) some_list(r, wide);
+      if (r.chance(60)) some_query(r);
       if (r.chance(5)) call(r.chance(500) ? r.below(2) * 13 : r.odd_word(), r.odd_word(), r.odd_long());
     }
   }
@@ -172,6 +196,7 @@ class GroupCases : LentGroup {
       if (step(r, r.between(1, 12), true) == plain::kRecordsUnsound) return;
       if (r.chance(500)) damaged(r);
       if (r.chance(50)) some_form(r, true);
+      if (r.chance(200)) some_query(r);
     }
     c_.every_call(r.odd_long(), list_, books_, queues_);
   }
@@ -203,6 +228,7 @@ class GroupCases : LentGroup {
     if (room() < 1 || room() > plain::kViews) return;
     for (unsigned n = 0; n < 5; ++n) call(r.between(1, 12), r.below(members), r.below(views));
     form(r.below(views));
+    some_query(r);
   }
 
   // Bytes that mean nothing, or little.
@@ -211,11 +237,13 @@ class GroupCases : LentGroup {
     clean_ = false;
     for (Lent* lent : {&list_, &books_, &queues_}) r.fill(lent->mine(), lent->size());
     if (r.chance(800)) books_.mine()[0] = static_cast<uint8_t>(r.between(1, 8));
-    if (r.chance(800)) queues_.mine()[0] = static_cast<uint8_t>(r.between(1, 3));
+    if (r.chance(800)) queues_.mine()[plain::kQueuesMade] = static_cast<uint8_t>(r.between(1, 3));
+    if (r.chance(800)) plain::put(queues_.mine() + plain::kQueuesMarks, plain::kMarksSize, r.below(4));
+    if (r.chance(800)) queues_.mine()[plain::kQueuesLayout] = plain::kLayout;
     copy_to_theirs();
     for (unsigned n = r.between(1, 4); n > 0; --n)
       call(r.chance(900) ? r.between(1, 12) : r.odd_word(), r.below(9), r.odd_long());
-    form(r.odd_word());
+    form(r.odd_word()), some_query(r);
     uint32_t members = r.chance(800) ? r.between(1, 8) : r.odd_word();
     c_.dvs_group_start(list_, books_, queues_, members, r.chance(800) ? r.between(1, 255) : r.odd_word());
   }

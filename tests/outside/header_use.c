@@ -15,11 +15,13 @@ HOLDS(waits, DVS_BOOK_INFOS == 24 && DVS_BOOK_REGISTRATIONS == 25 && DVS_BOOK_TO
 HOLDS(run_sizes, DVS_STEP_SECOND + 8 == DVS_STEP_SIZE && DVS_ANSWER_EVENT + DVS_EVENT_SIZE == DVS_ANSWER_SIZE);
 HOLDS(run_places, DVS_STEP_KIND == 0 && DVS_STEP_FIRST == 1 && DVS_ANSWER_NUMBER == 0);
 HOLDS(queues_places, DVS_QUEUES_MADE == 0 && DVS_QUEUES_ORDER(1) == 64 + 32841 && DVS_QUEUES_WAITING(0, 0) == 65 + 128 * 171);
+HOLDS(queues_head, DVS_QUEUES_MARKS == 1 && DVS_QUEUES_LAYOUT == 5 && DVS_LAYOUT == 1);
 HOLDS(queues_end, DVS_QUEUES_WAITING(31, 8) == DVS_QUEUES_SIZE(32));
 HOLDS(ranges_to_5, DVS_SIZE_BOOK == 1 && DVS_SIZE_EVENT == 2 && DVS_SIZE_LENGTH == 3 && DVS_SIZE_MESSAGE == 4 && DVS_SIZE_BUFFER == 5);
 HOLDS(ranges_to_10, DVS_SIZE_LIST == 6 && DVS_SIZE_BOOKS == 7 && DVS_SIZE_QUEUES == 8 && DVS_SIZE_STEP == 9 && DVS_SIZE_ANSWER == 10);
-HOLDS(range_11, DVS_SIZE_DELIVERY == 11);
+HOLDS(ranges_to_12, DVS_SIZE_DELIVERY == 11 && DVS_SIZE_FOUND == 12);
 HOLDS(delivery, DVS_DELIVERY_COUNT == 0 && DVS_DELIVERY_STOPPED == 4 && DVS_DELIVERY_STOPPED + 1 == DVS_DELIVERY_SIZE);
+HOLDS(found, DVS_FOUND_THERE == 0 && DVS_FOUND_VIEW == 1 && DVS_FOUND_VIEW + DVS_VIEW_SIZE == DVS_FOUND_SIZE && DVS_IDENTIFIER_SIZE == 4);
 HOLDS(books, DVS_BOOKS_SIZE == DVS_MEMBERS * DVS_BOOK_SIZE);
 HOLDS(list, DVS_LIST_SIZE(32) == 160);
 HOLDS(queues, DVS_QUEUES_SIZE(32) == 64 + 32 * (1 + 128 * 171 + 8 * (1 + 8 * 171)));
@@ -55,6 +57,6 @@ uint64_t look(const uint8_t *at) {
   sum += dvs_message_kind(at) + dvs_message_view(at) + dvs_message_number(at) + dvs_message_count(at);
   sum += dvs_view_set(dvs_message_views(at, 1)) + dvs_book_infos(at) + dvs_book_registrations(at) + dvs_book_told(at, 7);
   sum += dvs_queues_made(at) + dvs_queues_ordered(at, 1) + dvs_queues_waiting(at, 1, 2);
-  sum += dvs_delivery_count(at) + dvs_delivery_stopped(at);
+  sum += dvs_delivery_count(at) + dvs_delivery_stopped(at) + dvs_found(at) + dvs_view_set(dvs_found_view(at)) + dvs_identifier(at, 1);
   return sum + dvs_answer_number(at, 1) + dvs_event_kind(dvs_answer_event(at, 1));
 }

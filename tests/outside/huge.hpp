@@ -19,13 +19,13 @@ class Huge {
   // Room for five times 32 bits, 10 bytes more, and as much as any queue has behind it.
   static constexpr size_t kAll = 5 * kFar + (size_t{1} << 21);
 
-  // The ranges of calls.inc: those of a group with room for two views, and one step with its answer.
+  // The ranges of calls.inc: those of a group with room for two views, and one step with its answer. A buffer for identifiers may have any length.
   enum Range : unsigned {
 #define RANGE(name, length) k_##name,
 #include "calls.inc"
     kRanges
   };
-  static constexpr size_t ANY = 0, VIEWS = 2, RECORDS = 1;
+  static constexpr size_t ANY = 0, VIEWS = 2, RECORDS = 1, PLACES = 0;
   static constexpr size_t kRight[kRanges] = {
 #define RANGE(name, length) length,
 #include "calls.inc"
@@ -133,6 +133,22 @@ class Huge {
     size_t steps = plain::kStepSize * ((kFar + plain::kStepSize) / plain::kStepSize);
     expect("dvs_group_run", dvs_group_run(l, 10, b, books_size, q, queues_size, 2, 3, at_, steps, answer, 17), 4);
     expect("dvs_group_steps", dvs_group_steps(l, 10, b, books_size, q, queues_size, at_, steps, answer, 17), 4);
+    queries();
+  }
+
+  // A buffer for as many identifiers as 32 bits can count, and for one more: of both only the first view's place is written. Bytes that are no whole
+  // identifier are still refused.
+  void queries() {
+    uint8_t *l = at(k_list), *b = at(k_books), *q = at(k_queues), *count = at(k_count);
+    size_t list_size = size(k_list), books_size = size(k_books), queues_size = size(k_queues);
+    const std::vector<uint8_t> noise(64, 0x5a);
+    for (auto query : {dvs_group_crossing, dvs_group_holding})
+      for (size_t far : {kFar, kFar + 4, 4 * kFar, 4 * kFar + 4}) {
+        lend(noise.data(), noise.size());
+        expect("a query", query(l, list_size, b, books_size, q, queues_size, 3, at_, far, count, 4), 0, 4);
+        expect("the identifier that it found", dvs_identifier(at_, 0) + static_cast<uint32_t>(dvs_length(count)), 1, 4);
+        expect("a query", query(l, list_size, b, books_size, q, queues_size, 3, at_, far + 3, count, 4), 4, 4);
+      }
   }
 
  public:

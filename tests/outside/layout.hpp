@@ -13,7 +13,7 @@ constexpr unsigned kMembers = 8, kViews = 32, kOpen = 31, kOutgoing = 16, kWaiti
 // Lengths of ranges and of what stands in them.
 constexpr size_t kViewSize = 5, kSlotSize = 171, kBookSize = 5234, kEventSize = 16, kLengthSize = 4;
 constexpr size_t kRecordSize = 174, kLongest = 167, kBooksSize = kMembers * kBookSize;
-constexpr size_t kStepSize = 13, kAnswerSize = 17, kDeliverySize = 5;
+constexpr size_t kStepSize = 13, kAnswerSize = 17, kDeliverySize = 5, kIdentifierSize = 4, kFoundSize = 6;
 constexpr size_t kQueuesHead = 64, kWaitingSize = 1 + kWaiting * kSlotSize;
 
 // Places in a book.
@@ -33,14 +33,18 @@ constexpr size_t kTableSize = kOrderSize + kMembers * kWaitingSize;
 static_assert(kInwardSize == kAtInward1 - kAtInward0 && kAtInward1 + kInwardSize == kBookSize, "the inward lists");
 static_assert(kTableSize == 32841, "the queues of one view");
 
+// Places in the queues' head, and the number of the layout that stands there.
+constexpr size_t kQueuesMade = 0, kQueuesMarks = 1, kMarksSize = 4, kQueuesLayout = 5, kQueuesFree = 6;
+constexpr uint8_t kLayout = 1;
+
 constexpr size_t queues_size(size_t views) { return kQueuesHead + kTableSize * views; }
 
 // Places in a queue entry's slot, and in a message's record.
 constexpr size_t kSlotSender = 0, kSlotKind = 1, kSlotNumber = 2, kSlotCount = 10, kSlotViews = 11;
 constexpr size_t kRecordKind = 0, kRecordView = 1, kRecordNumber = 5, kRecordCount = 13, kRecordViews = 14;
 
-// Places in a delivery.
-constexpr size_t kDelivered = 0, kStopped = 4;
+// Places in a delivery, and in a view that was found.
+constexpr size_t kDelivered = 0, kStopped = 4, kThere = 0, kFoundView = 1;
 
 // The refusals, numbered as in the specification's table.
 enum Refusal : uint32_t {

@@ -1,7 +1,11 @@
 // A whole group's three ranges, lent for one case after another, and the calls on them. As long as they were not damaged,
-// the calls are put to tests/reference/reference_group.hpp too, a third implementation.
+// the calls are put to tests/reference/reference_group.hpp too, a third implementation, and the queries must answer what the
+// events have shown, whatever the marks are.
 #pragma once
 
+#include <algorithm>
+#include <functional>
+#include <map>
 #include <memory>
 #include <vector>
 
@@ -54,12 +58,33 @@ class LentGroup {
     c_.tally.say_again();
   }
 
+  // What a query answered, beside what it must list: the views shown as attempted, as far as they are wanted.
+  template <class Wanted> uint32_t as_shown(const char* name, uint32_t answer, Wanted wanted) {
+    if (!clean_ || (answer != plain::kAccepted && answer != plain::kTooFewPlaces)) return answer;
+    std::vector<uint8_t> ids;
+    for (auto [id, set] : shown_) {
+      if (!wanted(set)) continue;
+      ids.resize(ids.size() + plain::kIdentifierSize);
+      plain::put(&ids[ids.size() - plain::kIdentifierSize], plain::kIdentifierSize, id);
+    }
+    bool fits = ids.size() <= c_.views.size();
+    if (answer == plain::kTooFewPlaces ? !fits : fits && listed() * plain::kIdentifierSize == ids.size() &&
+                                                 std::equal(ids.begin(), ids.end(), c_.views.theirs())) return answer;
+    not_shown(name);
+  }
+  [[noreturn]] void not_shown(const char* name) {
+    printf("\nDIFFERENCE in %s: it does not answer what the events have shown\n", name);
+    c_.tally.say_again();
+  }
+
  protected:
   Calls& c_;
   Lent list_{"list", 256}, books_{"books", plain::kBooksSize, false};
   Lent queues_{"queues", plain::queues_size(plain::kViews), false};
   std::unique_ptr<reference::Group> third_ = std::make_unique<reference::Group>();
   bool clean_ = false;  // whether the third implementation has made the same steps
+  // The views that the events have shown as attempted since the start, and the first one: identifiers and sets, newest first.
+  std::map<uint32_t, uint8_t, std::greater<uint32_t>> shown_;
 
   explicit LentGroup(Calls& c) : c_(c) {}
 
@@ -67,10 +92,22 @@ class LentGroup {
   unsigned members() { return books_.mine()[plain::kAtMembers]; }
   // As many as there are books for, if the bytes have a larger number.
   unsigned some_members() { return members() <= plain::kMembers ? members() : plain::kMembers; }
-  unsigned made() { return queues_.mine()[0]; }
+  unsigned made() { return queues_.mine()[plain::kQueuesMade]; }
   View view(unsigned i) { return plain::get_view(list_.mine() + plain::kViewSize * i); }
   // The last view made, or the first where the bytes have no such number.
   View newest() { return view(made() - 1 < room() ? made() - 1 : 0); }
+
+  // The group was started, and what is compared beside it starts too.
+  void begin(unsigned members, uint32_t set) {
+    auto first = static_cast<uint8_t>(set);
+    third_->start(members, first, room()), shown_ = {{0, first}}, clean_ = true;
+  }
+
+  // A buffer for identifiers of another length, with noise in it.
+  void lend_views(Random& r, size_t size) {
+    c_.views.resize(size, r.chance(500) ? kFront : kBack);
+    r.fill(c_.views.mine(), size), c_.views.copy_to_theirs();
+  }
 
   void lend(Random& r, unsigned room) {
     list_.resize(plain::kViewSize * room, r.chance(500) ? kFront : kBack);
@@ -78,7 +115,9 @@ class LentGroup {
     queues_.resize(plain::queues_size(room), r.chance(500) ? kFront : kBack);
     c_.event.resize(plain::kEventSize, r.chance(500) ? kFront : kBack);
     c_.count.resize(plain::kLengthSize, r.chance(500) ? kFront : kBack);
-    c_.event.copy_to_theirs(), c_.count.copy_to_theirs();
+    c_.found.resize(plain::kFoundSize, r.chance(500) ? kFront : kBack);
+    for (Lent* lent : {&c_.event, &c_.count, &c_.found}) lent->copy_to_theirs();
+    lend_views(r, plain::kIdentifierSize * plain::kViews);
   }
 
   void copy_to_theirs() {
@@ -109,6 +148,8 @@ class LentGroup {
     uint32_t answer = c_.dvs_group_step(list_, books_, queues_, kind, first, second);
     if (listing_ && kind <= 255) note({static_cast<uint8_t>(kind), first, second}, answer);
     if (!clean_ || kind > 255) return answer;
+    if (answer == plain::kAccepted && kind == plain::kAttempt)
+      shown_.emplace(dvs_event_view(c_.event.theirs()), static_cast<uint8_t>(dvs_event_set(c_.event.theirs())));
     reference::Reply reply = third_->step(static_cast<uint8_t>(kind), first, second);
     uint8_t event[plain::kEventSize];
     store_third(reply, event);
@@ -147,11 +188,31 @@ class LentGroup {
   uint32_t form(uint32_t id) {
     uint32_t answer = c_.dvs_group_form(list_, books_, queues_, id);
     if (!clean_) return answer;
+    if (answer == plain::kAccepted) shown_.emplace(id, newest().set);
     reference::Reply reply = third_->form(id);
     uint64_t count = plain::get(c_.count.mine(), plain::kLengthSize);
     if (reply.refusal == answer && (answer != plain::kAccepted || reply.number == count)) return answer;
     third_differs(0, id, 0, reply.refusal, answer);
   }
+
+  // The queries, and how many identifiers the last one listed.
+  uint32_t crossing(uint32_t set) {
+    return as_shown("dvs_group_crossing", c_.dvs_group_crossing(list_, books_, queues_, set), [=](uint8_t of) { return (set & of) != 0; });
+  }
+  uint32_t holding(uint32_t set) {
+    return as_shown("dvs_group_holding", c_.dvs_group_holding(list_, books_, queues_, set),
+                    [=](uint8_t of) { return 2 * plain::ones(set & of) > plain::ones(of); });
+  }
+  uint32_t newest_before(uint32_t id) {
+    uint32_t answer = c_.dvs_group_newest_before(list_, books_, queues_, id);
+    if (!clean_ || answer != plain::kAccepted) return answer;
+    auto below = shown_.upper_bound(id);
+    View v = below == shown_.end() ? View{0, 0} : View{below->first, below->second};
+    const uint8_t* found = c_.found.theirs();
+    if (dvs_found(found) == (v.set != 0) && plain::get_view(dvs_found_view(found)) == v) return answer;
+    not_shown("dvs_group_newest_before");
+  }
+  size_t listed() { return dvs_length(c_.count.theirs()); }
 };
 
 }  // namespace outside

@@ -9,6 +9,7 @@
 #include <ctime>
 #include <string>
 
+#include "crossing_cases.hpp"
 #include "edges.hpp"
 #include "form_cases.hpp"
 #include "form_refusals.hpp"
@@ -47,7 +48,7 @@ class Test {
     Random r(seed, number);
     // Nothing of an earlier case is left in what calls are lent besides books.
     for (Lent* lent : {&calls_.event, &calls_.buffer, &calls_.length, &calls_.message, &calls_.answers, &calls_.count,
-                       &calls_.delivery})
+                       &calls_.delivery, &calls_.views, &calls_.found})
       r.fill(lent->mine(), lent->most());
     calls_.usual();
     switch (number % 15) {
@@ -79,7 +80,8 @@ class Test {
   int run_short(uint64_t seed) {
     if (!guards_work()) return printf("the pages beside a lent range can be touched\n"), 1;
     if (!library_agrees()) return 1;
-    if (!Papers(calls_).run() || !forms_.run() || !FormRefusals(calls_).run() || !packets_.run() || !ListCases(calls_).run())
+    if (!Papers(calls_).run() || !forms_.run() || !FormRefusals(calls_).run() || !packets_.run() || !ListCases(calls_).run() ||
+        !CrossingCases(calls_).run())
       return 1;
     for (uint64_t number = 0; number < kShortCases; ++number) run_case(seed, number);
     Random r(seed);

@@ -52,7 +52,7 @@ class Stack {
 
   // Lends a group's ranges with room for so many views, a list of one step of each kind, and all else at its length.
   void lend(size_t VIEWS) {
-    constexpr size_t RECORDS = 12, ANY = DVS_LONGEST;
+    constexpr size_t RECORDS = 12, PLACES = DVS_VIEWS, ANY = DVS_LONGEST;
 #define RANGE(name, length) lent_.name.resize(length);
 #include "calls.inc"
     for (uint8_t kind = 1; kind <= RECORDS; ++kind) plain::put_step(&lent_.steps[DVS_STEP_SIZE * (kind - 1u)], {kind, kind % 3u, 1});

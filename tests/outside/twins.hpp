@@ -1,12 +1,13 @@
 // The plain twin of every call, under the call's own name and with its parameters in their order. The work is done in
-// alone.hpp, wire.hpp, group.hpp and driver.hpp.
+// alone.hpp, wire.hpp, group.hpp, driver.hpp and queries.hpp.
 #pragma once
 
 #include "driver.hpp"
+#include "queries.hpp"
 
 namespace twin {
 
-using plain::Alone, plain::Driver, plain::Group, plain::Range, plain::Refusal;
+using plain::Alone, plain::Driver, plain::Group, plain::Queries, plain::Range, plain::Refusal;
 
 // The member by itself.
 inline Refusal dvs_start(Range book, uint32_t members, uint32_t first_set, uint32_t own) {
@@ -53,5 +54,16 @@ inline Refusal dvs_group_steps(Range list, Range books, Range queues, Range step
   return Group(list, books, queues).steps(steps, answers);
 }
 inline Refusal dvs_group_check(Range list, Range books, Range queues) { return Group(list, books, queues).check(); }
+
+// Which views were attempted.
+inline Refusal dvs_group_crossing(Range list, Range books, Range queues, uint32_t set, Range views, Range count) {
+  return Queries(list, books, queues).crossing(set, views, count);
+}
+inline Refusal dvs_group_holding(Range list, Range books, Range queues, uint32_t set, Range views, Range count) {
+  return Queries(list, books, queues).holding(set, views, count);
+}
+inline Refusal dvs_group_newest_before(Range list, Range books, Range queues, uint32_t view, Range found) {
+  return Queries(list, books, queues).newest_before(view, found);
+}
 
 }  // namespace twin
