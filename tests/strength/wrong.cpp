@@ -6,8 +6,9 @@
 //                    outside: an accepted call writes beside a range
 //   WRONG_RANGE      which of its lent ranges, from 0
 //
-// Only the tenth call that could show the fault has it. The driver, lists of steps, packets, one message delivered and the reader's front have faults
-// of their own, in every call: wrong_driver.hpp, wrong_list.hpp, wrong_packet.hpp.
+// Only the tenth call that could show the fault has it. The driver, lists of steps, packets, one message delivered, the reader's front, the queries and
+// what concerns their marks have faults of their own, in every call: wrong_driver.hpp, wrong_list.hpp, wrong_packet.hpp, wrong_queries.hpp,
+// wrong_marks.hpp.
 #include <cstdio>
 #include <cstdlib>
 #include <cstring>
@@ -16,7 +17,9 @@
 #include "real.hpp"
 #include "wrong_driver.hpp"
 #include "wrong_list.hpp"
+#include "wrong_marks.hpp"
 #include "wrong_packet.hpp"
+#include "wrong_queries.hpp"
 
 namespace {
 
@@ -75,6 +78,26 @@ uint32_t make(Other_dvs_group_form, PARAMETERS(dvs_group_form)) {
 }
 uint32_t make(Other_dvs_group_steps, PARAMETERS(dvs_group_steps)) {
   return WrongList{{fault, list, books, queues, list_size, books_size, queues_size}}.steps(steps, steps_size, answers, answers_size);
+}
+uint32_t make(Other_dvs_group_start, PARAMETERS(dvs_group_start)) {
+  return WrongMarks{{fault, list, books, queues, list_size, books_size, queues_size}}.start(members, first_set);
+}
+uint32_t make(Other_dvs_group_step, PARAMETERS(dvs_group_step)) {
+  return WrongMarks{{fault, list, books, queues, list_size, books_size, queues_size}}.step(kind, first, second, event, event_size);
+}
+// A check writes none of its ranges.
+uint32_t make(Other_dvs_group_check, PARAMETERS(dvs_group_check)) {
+  auto lent = [](const uint8_t* range) { return const_cast<uint8_t*>(range); };
+  return WrongMarks{{fault, lent(list), lent(books), lent(queues), list_size, books_size, queues_size}}.check();
+}
+uint32_t make(Other_dvs_group_crossing, PARAMETERS(dvs_group_crossing)) {
+  return WrongQueries{fault, list, books, queues, list_size, books_size, queues_size}.query(false, set, views, views_size, count, count_size);
+}
+uint32_t make(Other_dvs_group_holding, PARAMETERS(dvs_group_holding)) {
+  return WrongQueries{fault, list, books, queues, list_size, books_size, queues_size}.query(true, set, views, views_size, count, count_size);
+}
+uint32_t make(Other_dvs_group_newest_before, PARAMETERS(dvs_group_newest_before)) {
+  return WrongQueries{fault, list, books, queues, list_size, books_size, queues_size}.newest_before(view, found, found_size);
 }
 // Every other call has none.
 template <class Other, class... All> uint32_t make(Other, All...) {

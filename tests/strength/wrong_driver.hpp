@@ -10,6 +10,10 @@
 //   driver-undoes-no-waiting          what waits in it is not
 //   driver-undoes-counts              of them the counts alone are
 //   driver-undoes-older-queues        the queues of the view before are put back in their place
+//   driver-undoes-no-marks            the marks are not put back
+//   driver-marks-nothing              the attempts leave the marks as they were
+//   driver-ignores-marks              a mark past the views made is no fault
+//   driver-ignores-layout             the number of another layout is no fault
 //   driver-counts-after-refusal       the count is written after a refusal too
 //   driver-counts-short               the count is short by as many as there are servers
 //   driver-counts-backwards           the count's last byte stands first
@@ -123,6 +127,7 @@ struct WrongDriver : WrongGroup {
       for (size_t i = 0; i < DVS_BOOK_SIZE; ++i)
         if (!is("undoes-books-but-slots") || i <= DVS_BOOK_OUTGOING) book(p)[i] = old_books[DVS_BOOK_SIZE * p + i];
     }
+    if (!is("undoes-no-marks")) memcpy(queues, old_queues.data(), DVS_QUEUES_ORDER(0));
     size_t table = DVS_QUEUES_ORDER(made() - 1), waits = DVS_QUEUES_WAITING(made() - 1, 0), end = DVS_QUEUES_ORDER(made());
     for (size_t at = table; at < end && !is("undoes-no-queues"); ++at) {
       if ((is("undoes-no-order") && at < waits) || (is("undoes-no-waiting") && at >= waits)) continue;
@@ -133,12 +138,14 @@ struct WrongDriver : WrongGroup {
   }
 
   uint32_t form(uint8_t* count, size_t count_size) const {
+    HiddenHead hidden(fault, queues, queues_size);
     if (count_size != DVS_LENGTH_SIZE || !sound()) return DVS_REFUSED_RECORDS_UNSOUND;
     uint32_t refused = asked(), k = ones(set()), taken = 2 * k * k + 8 * k - (is("counts-short") ? k : 0);
     if (refused == 0) {
       const std::vector<uint8_t> old_books(books, books + books_size), old_queues(queues, queues + queues_size);
       refused = all_steps();
       if (refused != 0) put_back(old_books, old_queues);
+      if (is("marks-nothing")) memcpy(queues, old_queues.data(), DVS_QUEUES_ORDER(0));
     }
     if (refused != 0 && !is("counts-after-refusal")) return refused;
     for (unsigned i = 0; i < DVS_LENGTH_SIZE; ++i, taken >>= 8)

@@ -21,6 +21,9 @@
 //   dvs_group_steps: list-puts-back               after a refusal the group is as it was
 //   dvs_group_steps: list-narrows-first           of a step's first operand the last byte counts
 //   dvs_group_steps: list-narrows-second          of its second operand the last four bytes count
+//   dvs_group_steps: list-marks-nothing           its attempts leave the marks as they were
+//   dvs_group_steps: list-ignores-marks           a mark past the views made is no fault
+//   dvs_group_steps: list-ignores-layout          the number of another layout is no fault
 #pragma once
 
 #include <utility>
@@ -83,6 +86,7 @@ struct WrongList : WrongGroup {
   }
 
   uint32_t steps(const uint8_t* records, size_t steps_size, uint8_t* answers, size_t answers_size) const {
+    HiddenHead hidden(fault, queues, queues_size);
     bool checks = !is("checks-4-never") && !is("checks-4-in-steps") && !(is("accepts-none") && steps_size == 0);
     if (!paired(steps_size, answers_size) || (checks && !sound()) || (is("refuses-none") && steps_size == 0)) {
       if (is("writes-on-4") && answers_size > 0) memset(answers, 0, answers_size);
@@ -103,6 +107,7 @@ struct WrongList : WrongGroup {
       if (is("ends-at-unsound") && refused == DVS_REFUSED_RECORDS_UNSOUND) return refused;
     }
     if (is("puts-back") && last != 0) put_back(before);
+    if (is("marks-nothing")) memcpy(queues + DVS_QUEUES_MARKS, &before[list_size + books_size + DVS_QUEUES_MARKS], 4);
     return is("gives-refusal") ? last : 0;
   }
 };
