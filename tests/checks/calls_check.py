@@ -158,6 +158,9 @@ def spec():
         'dvs_group_run': places['start and list of steps'],
         'dvs_group_steps': places['list of steps'],
         'dvs_group_check': places['every step'][:1],
+        'dvs_group_crossing': places['crossing and holding'],
+        'dvs_group_holding': places['crossing and holding'],
+        'dvs_group_newest_before': places['newest before'],
     })
     for call in REFUSING:
         if call is not STEPS and call not in OWN.values():

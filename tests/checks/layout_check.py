@@ -11,7 +11,7 @@ import sys
 from sources import ROOT, constants, source
 
 # the layout's number, and a digest of the places that it stands for: a book or a group with other places has another number
-NUMBER, DIGEST = 1, '40c921d064a63cbf'
+NUMBER, DIGEST = 1, '6c09caa728977943'
 LENT = 'A queue entry', 'An inward list', 'An order', "A member's book", 'The list', 'The queues'
 LAYOUT = (ROOT / 'docs' / 'LAYOUT.md').read_text()
 SAVED = (ROOT / 'include' / 'dvs_saved.hpp').read_text()
@@ -112,7 +112,9 @@ TABLES = {
         (after(view, identifier), 1)],
     'The queues': [
         (group['MADE'], 1, 1),
-        (1, group['HEAD'] - 1, 0),
+        (group['MARKS'], group['MARKS_SIZE'], 2),
+        (group['LAYOUT'], 1, sizes['LAYOUT']),
+        (group['LAYOUT'] + 1, group['HEAD'] - group['LAYOUT'] - 1, 0),
         (at(group['HEAD'], order), line['SIZE']),
         (at(waits, order, waiting), 1, 0, limits['WAITING']),
         (at(waits + 1, order, waiting, (slot['SLOT'], 'k')), slot['SLOT'])],
@@ -132,6 +134,9 @@ TABLES = {
     'A delivery': [
         (event['COUNT'], event['STOPPED'] - event['COUNT'], ordered),
         (event['STOPPED'], 1, 0)],
+    'A view that was found': [
+        (event['THERE'], 1, 1, 0),
+        (event['SEEN'], view, *parts, 0)],
     "A message's record": [
         (record['KIND'], 1, *any_kind, refusal['UnknownKind']),
         (record['VIEW'], identifier),
@@ -153,11 +158,13 @@ TEXTS = {
     'The books': [group['BOOKS'], book['SIZE'], book['SIZE']],
     'The queues': [group['HEAD'], group['TABLE'], 0, 1, 0],
     'A list of steps and its answers': [unsound, run['STEP'], run['ANSWER']],
-    'What the C interface lends': [unsound] + [library[name] for name in ('BOOK', 'BUFFER', 'LIST', 'QUEUES', 'STEP', 'ANSWER', 'DELIVERY')],
+    'What the C interface lends': [unsound] + [library[name] for name in ('BOOK', 'BUFFER', 'LIST', 'QUEUES', 'STEP', 'ANSWER', 'DELIVERY', 'FOUND')],
     'An event': [event['EVENT'], 0],
-    # a length, what a message took, and the steps of a driver
-    'A number that a call gives out': [event['LENGTH'], longest, wire['SHORTEST'], longest, 2 * members * members + 8 * members],
+    # a length, what a message took, the steps of a driver, and the views of a query
+    'A number that a call gives out': [event['LENGTH'], longest, wire['SHORTEST'], longest, 2 * members * members + 8 * members, views],
     'A delivery': [event['DELIVERY'], 0],
+    'A view that was found': [event['FOUND']],
+    'Identifiers': [identifier],
     "A message's record": [record['RECORD'], record['RECORD']],
 }
 faults = []
@@ -191,6 +198,8 @@ compare("the reasons of 'A saved book'", re.findall(r'^\d\. `(\w+)`', sections.g
 polynomial = re.findall(r'polynomial (\w+)', sections.get('A saved book', ''))
 compare("the polynomial of 'A saved book'", polynomial, [found for found in polynomial if re.search(r'\b%su?\b' % found, SAVED, re.I)] or ['another'])
 compare('its number', [int(found) for found in re.findall(r'^This is layout (\d+),', LAYOUT, re.M)], [NUMBER])
+if sizes['LAYOUT'] != NUMBER:
+    faults.append('views::sizes has layout %d; this check is of layout %d' % (sizes['LAYOUT'], NUMBER))
 digest = hashlib.sha256(repr([(title, [row[:2] for row in TABLES[title]]) for title in LENT]).encode()).hexdigest()[:16]
 if digest != DIGEST:
     faults.append('these are not the places of layout %d: raise DVS_LAYOUT, its number in docs/LAYOUT.md and the minor version; here it is %d, with the digest '
