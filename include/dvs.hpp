@@ -380,6 +380,80 @@ struct GroupMemory {
   std::array<std::uint8_t, DVS_QUEUES_SIZE(Views)> queues{};
 };
 
+// What a group says. A GroupReader reads three ranges that are lent to it and must outlive it. It changes nothing in them, and it sees what later calls
+// of a Group change there.
+class GroupReader {
+ public:
+  GroupReader(Bytes list, Bytes books, Bytes queues) noexcept : list_(list), books_(books), queues_(queues) {}
+  template <class Owner, class = detail::Temporary<Owner>>
+  GroupReader(Owner &&, Bytes, Bytes) = delete;
+  template <class Owner, class = detail::Temporary<Owner>>
+  GroupReader(Bytes, Owner &&, Bytes) = delete;
+  template <class Owner, class = detail::Temporary<Owner>>
+  GroupReader(Bytes, Bytes, Owner &&) = delete;
+  template <std::size_t Views>
+  explicit GroupReader(const GroupMemory<Views> &memory) noexcept : GroupReader(memory.list, memory.books, memory.queues) {}
+  template <std::size_t Views>
+  explicit GroupReader(const GroupMemory<Views> &&) = delete;
+
+  // Whether the ranges are a sound group, which every step takes.
+  Result<void> check() const noexcept {
+    return static_cast<Refusal>(dvs_group_check(list_.data(), list_.size(), books_.data(), books_.size(), queues_.data(), queues_.size()));
+  }
+
+  // Three queries tell which views were attempted. A view counts if any member attempted it, and the first view always does. Books forget old views, and
+  // these queries do not.
+
+  // Finds the attempted views that share a member with the set, newest first and each once. Identifiers has a place for every view of a group, so the
+  // query never returns Refusal::too_few_places.
+  Result<Identifiers> crossing(Set set) const noexcept { return found_by(dvs_group_crossing, set); }
+  // Finds in the same way the attempted views of which the set holds a majority: twice the members in common exceed the view's members.
+  Result<Identifiers> holding(Set set) const noexcept { return found_by(dvs_group_holding, set); }
+  // Finds the newest attempted view with an identifier below this one, which need not be a view's. 'None' is an answer and not a refusal. So
+  // `if (before)` does not compile: a host asks whether the call was accepted, and then whether there is a view.
+  //
+  //   const auto before = group.newest_before(dvs::Identifier{7});
+  //   if (!before.accepted()) log(dvs::text(before.refusal()));                // the ranges are not a sound group
+  //   else if (const auto &view = *before) look_at(view->identifier, view->set);
+  Result<std::optional<View>> newest_before(Identifier view) const noexcept {
+    detail::FoundBytes found{};
+    const auto refusal = static_cast<Refusal>(dvs_group_newest_before(list_.data(), list_.size(), books_.data(), books_.size(), queues_.data(),
+                                                                      queues_.size(), number(view), found.data(), found.size()));
+    if (refusal != Refusal::none) return refusal;
+    return dvs_found(found.data()) == 1 ? std::optional<View>(detail::view(found, DVS_FOUND_VIEW)) : std::nullopt;
+  }
+
+  // The functions below read single places by docs/LAYOUT.md and call nothing. They give meaningless numbers if the ranges are not a sound group.
+
+  // The book of a member 0 to 7.
+  BookReader look(Member member) const noexcept {
+    const std::size_t at = DVS_BOOK_SIZE * std::size_t{number(member)};
+    return BookReader(at + DVS_BOOK_SIZE <= books_.size() ? Bytes(books_.data() + at, DVS_BOOK_SIZE) : Bytes());
+  }
+  // How many views were made. For the view at a place of the list: whether it was attempted, how many messages its order has, and how many messages of a
+  // member wait in it.
+  unsigned made() const noexcept { return detail::byte(queues_, DVS_QUEUES_MADE); }
+  bool attempted(std::size_t place) const noexcept { return place < DVS_VIEWS && (detail::get(queues_, DVS_QUEUES_MARKS, 4) >> place & 1u) != 0; }
+  unsigned ordered(std::size_t place) const noexcept { return detail::byte(queues_, DVS_QUEUES_ORDER(place)); }
+  unsigned waiting(std::size_t place, Member member) const noexcept {
+    return number(member) < DVS_MEMBERS ? detail::byte(queues_, DVS_QUEUES_WAITING(place, number(member))) : 0u;
+  }
+
+ private:
+  Result<Identifiers> found_by(decltype(&dvs_group_crossing) query, Set set) const noexcept {
+    detail::IdentifiersBytes views{};
+    detail::LengthBytes count{};
+    const auto refusal = static_cast<Refusal>(query(list_.data(), list_.size(), books_.data(), books_.size(), queues_.data(), queues_.size(),
+                                                    set.bits, views.data(), views.size(), count.data(), count.size()));
+    if (refusal != Refusal::none) return refusal;
+    Identifiers found;
+    for (std::size_t i = 0; i < dvs_length(count.data()); ++i) found.push_back(static_cast<Identifier>(dvs_identifier(views.data(), i)));
+    return found;
+  }
+
+  Bytes list_, books_, queues_;
+};
+
 // All members and the carrier between them. A Group holds no memory: it works in three ranges that are lent to it and must outlive it.
 class Group {
  public:
@@ -412,10 +486,6 @@ class Group {
     if (refusal != Refusal::none) return refusal;
     return dvs_length(count.data());
   }
-  // Whether the ranges are a sound group, which every step takes.
-  Result<void> check() const noexcept {
-    return static_cast<Refusal>(dvs_group_check(list_.data(), list_.size(), books_.data(), books_.size(), queues_.data(), queues_.size()));
-  }
   Result<Event> step(Step step_) noexcept { return step(static_cast<std::uint32_t>(step_.kind), step_.first, step_.second); }
   // A step by its number (DVS_STEP_...), as the library takes it; the others name it.
   Result<Event> step(std::uint32_t kind, std::uint32_t first, std::uint64_t second = 0) noexcept {
@@ -439,19 +509,21 @@ class Group {
   Result<Event> safe(Member member) noexcept { return step(Step::safe(member)); }
   Result<void> collect(Member member) noexcept { return step(Step::collect(member)).refusal(); }
 
-  // The book of a member 0 to 7.
-  BookReader look(Member member) const noexcept {
-    const std::size_t at = DVS_BOOK_SIZE * std::size_t{number(member)};
-    return BookReader(at + DVS_BOOK_SIZE <= books_.size() ? Bytes(books_.data() + at, DVS_BOOK_SIZE) : Bytes());
-  }
-  // How many views were made, and of the one at a place of the list how many messages its order has and how many of a member wait.
-  unsigned made() const noexcept { return detail::byte(queues_, DVS_QUEUES_MADE); }
-  unsigned ordered(std::size_t place) const noexcept { return detail::byte(queues_, DVS_QUEUES_ORDER(place)); }
-  unsigned waiting(std::size_t place, Member member) const noexcept {
-    return number(member) < DVS_MEMBERS ? detail::byte(queues_, DVS_QUEUES_WAITING(place, number(member))) : 0u;
-  }
+  // A Group converts to a GroupReader of its ranges, and answers the same questions itself.
+  operator GroupReader() const noexcept { return reader(); }
+  Result<void> check() const noexcept { return reader().check(); }
+  Result<Identifiers> crossing(Set set) const noexcept { return reader().crossing(set); }
+  Result<Identifiers> holding(Set set) const noexcept { return reader().holding(set); }
+  Result<std::optional<View>> newest_before(Identifier view) const noexcept { return reader().newest_before(view); }
+  BookReader look(Member member) const noexcept { return reader().look(member); }
+  unsigned made() const noexcept { return reader().made(); }
+  bool attempted(std::size_t place) const noexcept { return reader().attempted(place); }
+  unsigned ordered(std::size_t place) const noexcept { return reader().ordered(place); }
+  unsigned waiting(std::size_t place, Member member) const noexcept { return reader().waiting(place, member); }
 
  private:
+  GroupReader reader() const noexcept { return {list_, books_, queues_}; }
+
   MutableBytes list_, books_, queues_;
 };
 

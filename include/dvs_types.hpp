@@ -17,6 +17,7 @@
 #include <cstdint>
 #include <initializer_list>
 #include <iterator>
+#include <optional>
 #include <type_traits>
 #include <utility>
 #if __cplusplus >= 202002L
@@ -140,6 +141,15 @@ inline namespace DVS_INLINE_NAMESPACE {
 
 struct Delivery;
 
+namespace detail {
+
+template <class T>
+constexpr bool is_optional = false;
+template <class T>
+constexpr bool is_optional<std::optional<T>> = true;
+
+}  // namespace detail
+
 // What a call gives: a value, or the refusal in its place. To take the value of a refused call is a fault of the program: an assert ends it, and with
 // NDEBUG the value is T{}. A Result without a name gives its value away and has no arrow, so that nothing can point into it once it is gone.
 template <class T>
@@ -149,10 +159,14 @@ class [[nodiscard]] Result {
   constexpr Result(Refusal refusal) noexcept : refusal_(refusal) {}
 
   constexpr bool accepted() const noexcept { return refusal_ == Refusal::none; }
+  template <class Value = T, std::enable_if_t<!detail::is_optional<Value>, int> = 0>
   constexpr explicit operator bool() const & noexcept { return accepted(); }
   // A delivery without a name is not tested: an accepted packet may have been stopped, and what stopped it would be lost. whole(…) is the test.
   template <class Value = T, class = std::enable_if_t<std::is_same_v<Value, Delivery>>>
   explicit operator bool() const && = delete;
+  // A result that may hold 'none' has no test, because `if (result)` could mean two things. accepted() says whether there is an answer, value() has it.
+  template <class Value = T, std::enable_if_t<detail::is_optional<Value>, int> = 0>
+  explicit operator bool() const & = delete;
   constexpr Refusal refusal() const noexcept { return refusal_; }
   constexpr const T &value() const & noexcept { return given(); }
   constexpr T value() && noexcept { return given(); }
@@ -265,32 +279,38 @@ struct View {
 constexpr bool operator==(View a, View b) noexcept { return a.identifier == b.identifier && a.set == b.set; }
 constexpr bool operator!=(View a, View b) noexcept { return !(a == b); }
 
-// Up to 32 views by value.
-class ViewList {
+// Up to 32 items by value: one for each view that a group can have.
+template <class Item>
+class ShortList {
  public:
   constexpr std::size_t size() const noexcept { return size_; }
   constexpr bool empty() const noexcept { return size_ == 0; }
-  constexpr const View *begin() const noexcept { return places_.data(); }
-  constexpr const View *end() const noexcept { return places_.data() + size_; }
-  constexpr const View &operator[](std::size_t place) const noexcept { return places_[place]; }
-  // False, and nothing done, where the list is full.
-  constexpr bool push_back(View view) noexcept {
+  constexpr const Item *begin() const noexcept { return places_.data(); }
+  constexpr const Item *end() const noexcept { return places_.data() + size_; }
+  constexpr const Item &operator[](std::size_t place) const noexcept { return places_[place]; }
+  // Returns false, and changes nothing, if the list is full.
+  constexpr bool push_back(Item item) noexcept {
     if (size_ == places_.size()) return false;
-    places_[size_++] = view;
+    places_[size_++] = item;
     return true;
   }
 
  private:
-  std::array<View, DVS_VIEWS> places_{};
+  std::array<Item, DVS_VIEWS> places_{};
   std::size_t size_ = 0;
 };
-constexpr bool operator==(const ViewList &a, const ViewList &b) noexcept {
+template <class Item>
+constexpr bool operator==(const ShortList<Item> &a, const ShortList<Item> &b) noexcept {
   if (a.size() != b.size()) return false;
   for (std::size_t i = 0; i < a.size(); ++i)
     if (a[i] != b[i]) return false;
   return true;
 }
-constexpr bool operator!=(const ViewList &a, const ViewList &b) noexcept { return !(a == b); }
+template <class Item>
+constexpr bool operator!=(const ShortList<Item> &a, const ShortList<Item> &b) noexcept { return !(a == b); }
+
+using ViewList = ShortList<View>;
+using Identifiers = ShortList<Identifier>;
 
 // ---- numbers in bytes: big-endian; what lies beyond the end reads as 0
 
@@ -318,6 +338,8 @@ constexpr std::uint8_t set_byte(Set set) noexcept { return static_cast<std::uint
 using EventBytes = std::array<std::uint8_t, DVS_EVENT_SIZE>;
 using LengthBytes = std::array<std::uint8_t, DVS_LENGTH_SIZE>;
 using DeliveryBytes = std::array<std::uint8_t, DVS_DELIVERY_SIZE>;
+using FoundBytes = std::array<std::uint8_t, DVS_FOUND_SIZE>;
+using IdentifiersBytes = std::array<std::uint8_t, DVS_IDENTIFIER_SIZE * DVS_VIEWS>;
 
 }  // namespace detail
 
