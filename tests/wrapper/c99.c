@@ -1,5 +1,5 @@
-/* The C header in a C99 program: a book, its event read by the header's readers, a packet, a view formed, a list of steps, words, and what a shared object
- * answers where one is linked. Besides, every call is made once with no bytes in any range, so every name of the header is linked. */
+/* The C header in a C99 program: a book, its event read by the header's readers, a packet, a view formed, queries, a list of steps, words, and what a
+ * shared object answers if one is linked. Besides, every call is made once with no bytes in any range, so every name of the header is linked. */
 #include <dvs.h>
 
 #include <string.h>
@@ -42,6 +42,20 @@ int main(void) {
   if (dvs_group_step(list, sizeof list, books, sizeof books, queues, sizeof queues, DVS_STEP_CREATE, 258, 6, event, sizeof event) != DVS_ACCEPTED) return 20;
   if (dvs_group_form(list, sizeof list, books, sizeof books, queues, sizeof queues, 258, count, sizeof count) != DVS_ACCEPTED) return 21;
   if (dvs_length(count) != 24 || dvs_view_identifier(books + DVS_BOOK_SIZE + DVS_BOOK_SETTLED) != 258) return 22;
+  /* Views 258 and 0 were attempted. Member 0 is only in view 0, and a buffer with one place is too short for both. */
+  static uint8_t views[2 * DVS_IDENTIFIER_SIZE], found[DVS_FOUND_SIZE];
+  if (dvs_group_crossing(list, sizeof list, books, sizeof books, queues, sizeof queues, 6, views, 4, count, sizeof count) != DVS_REFUSED_TOO_FEW_PLACES)
+    return 39;
+  if (dvs_group_crossing(list, sizeof list, books, sizeof books, queues, sizeof queues, 6, views, sizeof views, count, sizeof count) != DVS_ACCEPTED) return 40;
+  if (dvs_length(count) != 2 || dvs_identifier(views, 0) != 258 || dvs_identifier(views, 1) != 0) return 41;
+  if (dvs_group_crossing(list, sizeof list, books, sizeof books, queues, sizeof queues, 1, views, 4, count, sizeof count) != DVS_ACCEPTED) return 42;
+  if (dvs_length(count) != 1 || dvs_identifier(views, 0) != 0) return 43;
+  if (dvs_group_holding(list, sizeof list, books, sizeof books, queues, sizeof queues, 1, views, 0, count, sizeof count) != DVS_ACCEPTED) return 44;
+  if (dvs_length(count) != 0) return 45;
+  if (dvs_group_newest_before(list, sizeof list, books, sizeof books, queues, sizeof queues, 300, found, sizeof found) != DVS_ACCEPTED) return 46;
+  if (dvs_found(found) != 1 || dvs_view_identifier(dvs_found_view(found)) != 258 || dvs_view_set(dvs_found_view(found)) != 6) return 47;
+  if (dvs_group_newest_before(list, sizeof list, books, sizeof books, queues, sizeof queues, 0, found, sizeof found) != DVS_ACCEPTED) return 48;
+  if (dvs_found(found) != 0 || dvs_view_set(dvs_found_view(found)) != 0) return 49;
   /* Member 1 sends 9, and has nothing to hand. */
   static const uint8_t steps[2 * DVS_STEP_SIZE] = {DVS_STEP_SEND, 0, 0, 0, 1, 0, 0, 0, 0, 0, 0, 0, 9, DVS_STEP_HAND, 0, 0, 0, 1};
   static uint8_t answers[2 * DVS_ANSWER_SIZE];

@@ -79,6 +79,38 @@ void buffers(dvs::Book &book) {
   use(dvs::Group(dvs::GroupMemory<1>{}));  // refused: cannot bind|no matching
 }
 
+// A reader of a group whose bytes are gone when the statement is over. A group only names its bytes, so it may be a temporary.
+void readers(const dvs::Group &group) {
+  const std::vector<std::uint8_t> list = receive(), books = list;
+  std::string queues = receive_text();
+  dvs::GroupMemory<1> memory;
+  const dvs::GroupMemory<1> constant;
+  const dvs::GroupReader reader = group, parts({list.data(), 0}, dvs::Bytes(books), std::string_view(queues));
+  use(reader, parts, dvs::GroupReader(list, books, queues), dvs::GroupReader(memory), dvs::GroupReader(constant), dvs::GroupReader(dvs::Group(memory)));
+  use(dvs::GroupReader(receive(), books, queues));  // refused: deleted
+  use(dvs::GroupReader(list, receive_array(), queues));  // refused: deleted
+  use(dvs::GroupReader(list, books, receive_text()));  // refused: deleted
+  use(dvs::GroupReader(list, books, std::move(queues)));  // refused: deleted
+  use(dvs::GroupReader({list.data(), 0}, receive(), queues));  // refused: deleted
+  use(dvs::GroupReader(receive(), receive(), receive()));  // refused: ambiguous
+  use(dvs::GroupReader(dvs::GroupMemory<1>{}));  // refused: deleted
+  use(dvs::GroupReader(std::move(constant)));  // refused: deleted
+}
+
+// A query that finds no view is accepted too, so 'accepted' does not mean that there is a view.
+void queries(const dvs::GroupReader &group, dvs::Identifier view) {
+  const auto before = group.newest_before(view);
+  if (before.accepted() && *before) use((*before)->set, before->value().set);
+  if (const auto found = *group.newest_before(view)) use(found->set);
+  if (before) use(before);  // refused: deleted
+  if (!before) use(before);  // refused: deleted
+  if (group.newest_before(view)) use(view);  // refused: deleted
+  if (const auto found = group.newest_before(view)) use(found);  // refused: deleted
+  use(group.check() && group.newest_before(view));  // refused: deleted
+  if (const auto found = group.crossing(dvs::Set{1}); found && !found->empty()) use((*found)[0]);
+  use(group.crossing(dvs::Set{1})->size());  // refused: deleted
+}
+
 // A call that stops a packet is accepted too, so 'accepted' does not mean that the whole packet was taken.
 void packets(dvs::Book &book, dvs::Bytes bytes, dvs::Member sender) {
   if (whole(book.deliver_packet(bytes, sender))) use(bytes);
@@ -114,4 +146,4 @@ void literals(dvs::Book &book, dvs::Member sender) {
 
 }  // namespace
 
-int main() { use(views, calls, buffers, packets, lines, loads, literals); }
+int main() { use(views, calls, buffers, readers, queries, packets, lines, loads, literals); }

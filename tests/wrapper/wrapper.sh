@@ -109,6 +109,8 @@ for compiler in g++ clang++; do
     "$work/saved" >> "$work/out"
     "$compiler" "${flags[@]}" -fno-exceptions -fno-rtti -o "$work/lines" tests/wrapper/lines.cpp "${libs[@]}"
     "$work/lines" "${scripts[@]}" >> "$work/out"
+    "$compiler" "${flags[@]}" -fno-exceptions -fno-rtti -o "$work/crossing" tests/wrapper/crossing.cpp "${libs[@]}"
+    "$work/crossing" >> "$work/out"
     [ "$standard" != 17 ] || shows "$compiler" "${flags[@]}"
     "$compiler" "${flags[@]}" -o "$work/first" examples/first/first.cpp "${libs[@]}"
     "$work/first" | diff examples/first/expected.txt -
