@@ -116,6 +116,9 @@ for compiler in g++ clang++; do
     "$work/first" | diff examples/first/expected.txt -
     "$compiler" "${flags[@]}" -o "$work/offices" examples/offices/*.cpp "${libs[@]}"
     "$work/offices" | diff examples/offices/expected.txt -
+    "$compiler" "${flags[@]}" -o "$work/trace" examples/trace/*.cpp "${libs[@]}"
+    "$work/trace" '{1,3}' examples/trace/story.txt "$work/trace.svg" | diff examples/trace/expected.txt -
+    diff examples/trace/expected.svg "$work/trace.svg"
     # These take long to compile with sanitizers, so under one standard they are compiled and no more.
     kept=(-Iexamples/kept examples/kept/*.cpp tests/kept/*.cpp)
     if [ "$standard" = 17 ]; then
