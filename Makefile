@@ -79,7 +79,8 @@ offices: $(BUILT)/offices
 	$< > $<.txt; status=$$?; cat $<.txt; exit $$status
 	diff examples/offices/expected.txt $<.txt
 
-# A script of the bench, a set, and the views that the set crosses, as text and as a picture: the stored story beside what it should give.
+# A script of the bench, a set, and the views that the set crosses, as text and as a picture: the stored story beside what it should give. Then the bench's
+# scripts and their stored answers, and pictures in which nothing may overlap.
 .PHONY: trace
 $(BUILT)/trace: $(wildcard examples/trace/*.?pp) $(HEADERS) $(LIBRARY)
 	$(CXX) $(HOSTFLAGS) -o $@ $(wildcard examples/trace/*.cpp) $(LIBRARY)
@@ -87,6 +88,7 @@ trace: $(BUILT)/trace
 	$< '{1,3}' examples/trace/story.txt $<.svg > $<.txt; status=$$?; cat $<.txt; exit $$status
 	diff examples/trace/expected.txt $<.txt
 	diff examples/trace/expected.svg $<.svg
+	python3 tests/trace/trace_check.py $<
 
 # A host that keeps its book in a file: its offices are processes, which are stopped at every action and killed at any time, and what they publish is judged
 # by Figure 1.
