@@ -9,8 +9,7 @@
 //
 //   script   the lines of the bench
 //   history  what became of each view
-//   queries  the library's three queries
-//   report   the answers, as a table
+//   report   the library's answers, as a table
 //   layout   the places of the picture, so that nothing overlaps
 //   picture  the picture, drawn with svg
 //
@@ -27,7 +26,7 @@
 namespace {
 
 // The memory of a group is too large for the stack.
-trace::Memory memory;
+dvs::GroupMemory<> memory;
 
 int fails(int status, const std::string &words) {
   std::cerr << "trace: " << words << '\n';
@@ -77,7 +76,7 @@ int main(int count, char **arguments) {
 
   const std::string_view path = arguments[2];
   trace::Told told{trace::printable(path.substr(path.rfind('/') + 1), 60), *set, played.refused, *played.history, {}, {}, {}};
-  if (const dvs::Refusal refusal = ask(memory, told); refusal != dvs::Refusal::none)
+  if (const dvs::Refusal refusal = ask(dvs::GroupReader(memory), told); refusal != dvs::Refusal::none)
     return fails(1, "the set " + trace::words(*set) + ": refused " + std::to_string(dvs::number(refusal)) + ", " + dvs::text(refusal));
   std::cout << report(told);
   if (!std::cout.flush()) return fails(1, "the text cannot be written");

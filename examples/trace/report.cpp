@@ -9,9 +9,9 @@ namespace trace {
 
 namespace {
 
-bool among(const Identifiers &views, dvs::Identifier view) { return std::find(views.begin(), views.end(), view) != views.end(); }
+bool among(const dvs::Identifiers &views, dvs::Identifier view) { return std::find(views.begin(), views.end(), view) != views.end(); }
 
-std::string listed(const Identifiers &views) {
+std::string listed(const dvs::Identifiers &views) {
   std::string list;
   for (dvs::Identifier view : views) list += (list.empty() ? "" : ", ") + words(view);
   return list.empty() ? "none" : list;
@@ -48,15 +48,15 @@ Cells row(const Told &told, std::size_t place) {
 
 }  // namespace
 
-dvs::Refusal ask(const Memory &group, Told &told) {
-  const dvs::Result<Identifiers> crossed = crossing(group, told.set), held = holding(group, told.set);
+dvs::Refusal ask(const dvs::GroupReader &group, Told &told) {
+  const auto crossed = group.crossing(told.set), held = group.holding(told.set);
   if (!crossed) return crossed.refusal();
   if (!held) return held.refusal();
   told.crossed = *crossed;
   told.held = *held;
   for (const ViewHistory &one : told.history.views()) {
-    const auto before = newest_before(group, one.view.identifier);
-    if (!before) return before.refusal();
+    const auto before = group.newest_before(one.view.identifier);
+    if (!before.accepted()) return before.refusal();
     told.answers.push_back({among(told.crossed, one.view.identifier), among(told.held, one.view.identifier), *before});
   }
   return dvs::Refusal::none;

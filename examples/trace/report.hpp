@@ -2,9 +2,12 @@
 #pragma once
 
 #include "history.hpp"
-#include "queries.hpp"
 
+#include <dvs.hpp>
+
+#include <optional>
 #include <string>
+#include <vector>
 
 namespace trace {
 
@@ -27,12 +30,12 @@ struct Told {
   dvs::Set set;
   std::vector<Refused> refused;
   History history;
-  Identifiers crossed, held;
+  dvs::Identifiers crossed, held;   // newest first, each once
   std::vector<Answer> answers;   // one for each view of the history
 };
 
 // Asks the library for the answers and fills them in. It refuses a set that is empty or beyond the members, and then there are none.
-dvs::Refusal ask(const Memory &group, Told &told);
+dvs::Refusal ask(const dvs::GroupReader &group, Told &told);
 
 // The script's name and how much happened in it, in one line.
 std::string heading(const Told &told);
