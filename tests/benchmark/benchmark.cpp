@@ -28,6 +28,7 @@ int main(int argc, char** argv) {
   groups(argv[1]);
   lists();
   forms();
+  queries();
   lines(argv[1], {argv[2], argv[3], argv[4]});
   growth();
 }

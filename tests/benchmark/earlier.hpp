@@ -1,5 +1,6 @@
 // An earlier library beside this one, if one is given (-DBEFORE): its functions have their names after before_. It
-// takes the same ranges, so its layout must be the same.
+// has ranges of its own, of the same lengths, and must leave the same bytes in them. Only the head of the queues may
+// differ, after the number of views made: an earlier layout may keep less there. What it did not have is not compared.
 #pragma once
 
 #include <vector>

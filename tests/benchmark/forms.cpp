@@ -83,7 +83,7 @@ class Forming {
     if (by_call(library_) != views_ || by_steps() != views_ || by_call(structs_) != views_ ||
         by_call(unchecked_) != views_)
       fail("a view is not formed");
-    if (kBefore && (by_call(before_) != views_ || !library_.same(before_)))
+    if (kBefore && (by_call(before_) != views_ || !library_.same_below_head(before_)))
       fail("a view is formed otherwise by the earlier library");
     same_refusal(views_, DVS_REFUSED_VIEW_NOT_FRESH);
     same_refusal(views_ + 1, DVS_REFUSED_NO_SUCH_VIEW);
@@ -113,13 +113,7 @@ class Forming {
     std::vector<Run> less = {[&] { return make(library_); }, [&] { return make(by_hand_); },
                              [&] { return make(structs_); }, [&] { return make(unchecked_); }};
     if (kBefore) runs.push_back([&] { return by_call(before_); }), less.push_back([&] { return make(before_); });
-    const size_t sides = runs.size();
-    runs.insert(runs.end(), less.begin(), less.end());
-    std::vector<Times> all = measure(views_, runs);
-    for (size_t side = 0; side < sides; ++side)
-      for (double& round : all[side].rounds) round -= all[side + sides].best();
-    all.resize(sides);
-    return all;
+    return measure_less(views_, runs, less);
   }
 };
 

@@ -1,4 +1,5 @@
-// A group on each side: one start, one step by its numbers, a view formed by one call, a start with a list of steps.
+// A group on each side: one start, one step by its numbers, a view formed by one call, a start with a list of steps,
+// and of structs the queries too.
 //
 //   library    the three lent ranges, refusal 4 checked in every step made by itself;
 //   structs    tests/reference/reference_group.hpp, whose host keeps structs, refusal 4 checked in every step;
@@ -52,6 +53,10 @@ constexpr uint32_t kForming[] = {DVS_STEP_JOIN,     DVS_STEP_PASS, DVS_STEP_ORDE
     uint32_t start(uint32_t members, uint32_t first_set, unsigned room);           \
     uint32_t step(const Step& step, plain::Event& event);                          \
     uint32_t form(uint32_t view, uint32_t& count);                                 \
+    uint32_t crossing(uint32_t set, uint32_t* views, uint32_t places, uint32_t& count);   \
+    uint32_t holding(uint32_t set, uint32_t* views, uint32_t places, uint32_t& count);    \
+    uint32_t newest_before(uint32_t view, bool& there, plain::View& found);        \
+    void take_book(unsigned p, const Name& from);  /* an attempt can be timed again */ \
     void forget_sent(unsigned p);  /* empties outgoing: a send can be timed again */ \
     void go_back(const Name& to);  /* what entries change: they can be timed again */ \
   };
@@ -125,6 +130,13 @@ template <class By> struct RangesBy {
   }
   template <class Other> bool same(const Other& other) const {
     return list == other.list && books == other.books && queues == other.queues;
+  }
+  // The same but for the head of the queues after the number of views made: an earlier layout may have less there.
+  template <class Other> bool same_below_head(const Other& other) const {
+    const size_t from = DVS_QUEUES_ORDER(0);
+    return list == other.list && books == other.books && queues.size() == other.queues.size() &&
+           queues[DVS_QUEUES_MADE] == other.queues[DVS_QUEUES_MADE] &&
+           memcmp(queues.data() + from, other.queues.data() + from, queues.size() - from) == 0;
   }
 };
 using Ranges = RangesBy<Library>;

@@ -85,7 +85,8 @@ class Growing {
   const Ranges& library() const { return library_; }
   const Structured& structs() const { return structs_; }
   const Before& before() const {
-    if (kBefore && !library_.same(before_)) fail("the earlier library leaves other bytes while records are made");
+    if (kBefore && !library_.same_below_head(before_))
+      fail("the earlier library leaves other bytes while records are made");
     return before_;
   }
 

@@ -11,6 +11,7 @@ void packets();
 void groups(const std::string& script);
 void lists();
 void forms();
+void queries();
 void lines(const std::string& script, const std::vector<std::string>& programs);
 void growth();
 

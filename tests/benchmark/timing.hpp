@@ -62,6 +62,17 @@ inline std::vector<Times> measure(uint64_t calls, const std::vector<Run>& sides,
   return all;
 }
 
+// The sides less what another run of each takes, which is counted by its best round.
+inline std::vector<Times> measure_less(uint64_t calls, std::vector<Run> sides, const std::vector<Run>& less) {
+  const size_t count = sides.size();
+  sides.insert(sides.end(), less.begin(), less.end());
+  std::vector<Times> all = measure(calls, sides);
+  for (size_t side = 0; side < count; ++side)
+    for (double& round : all[side].rounds) round -= all[side + count].best();
+  all.resize(count);
+  return all;
+}
+
 // Which times the first side takes of another's: by the best of both, and the median of the rounds' own ratios.
 inline double ratio(const Times& first, const Times& other) { return first.best() / other.best(); }
 
