@@ -212,7 +212,7 @@ class Attempting : public Attempted {
 
 void queries() {
   head("Queries of a group of five with room for 32 views, by views attempted: all of them are found. check: the\n"
-       "library's dvs_group_check alone. structs, unchecked: as above, with a number of marks beside the group.",
+       "library's dvs_group_check alone. structs, unchecked: as above.",
        {"library", "check", "structs", "unchecked"});
   for (unsigned query = 0; query < 3; ++query)
     for (unsigned views : {1u, 8u, DVS_VIEWS}) {
