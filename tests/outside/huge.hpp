@@ -136,8 +136,8 @@ class Huge {
     queries();
   }
 
-  // A buffer for as many identifiers as 32 bits can count, and for one more: of both only the first view's place is written. Bytes that are no whole
-  // identifier are still refused.
+  // A buffer whose length, in bytes or in identifiers, is 0 or one identifier's in 32 bits: it has room for the first view, whose place alone is written.
+  // Bytes that are no whole identifier are still refused.
   void queries() {
     uint8_t *l = at(k_list), *b = at(k_books), *q = at(k_queues), *count = at(k_count);
     size_t list_size = size(k_list), books_size = size(k_books), queues_size = size(k_queues);

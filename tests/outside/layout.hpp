@@ -33,7 +33,7 @@ constexpr size_t kTableSize = kOrderSize + kMembers * kWaitingSize;
 static_assert(kInwardSize == kAtInward1 - kAtInward0 && kAtInward1 + kInwardSize == kBookSize, "the inward lists");
 static_assert(kTableSize == 32841, "the queues of one view");
 
-// Places in the queues' head, and the number of the layout that stands there.
+// Places in the queues' head, and the number of the layout that a start writes there.
 constexpr size_t kQueuesMade = 0, kQueuesMarks = 1, kMarksSize = 4, kQueuesLayout = 5, kQueuesFree = 6;
 constexpr uint8_t kLayout = 1;
 

@@ -67,9 +67,9 @@ class LentGroup {
       ids.resize(ids.size() + plain::kIdentifierSize);
       plain::put(&ids[ids.size() - plain::kIdentifierSize], plain::kIdentifierSize, id);
     }
-    bool fits = ids.size() <= c_.views.size();
-    if (answer == plain::kTooFewPlaces ? !fits : fits && listed() * plain::kIdentifierSize == ids.size() &&
-                                                 std::equal(ids.begin(), ids.end(), c_.views.theirs())) return answer;
+    bool fits = ids.size() <= c_.views.size(), right = fits == (answer == plain::kAccepted);
+    if (right && fits) right = plain::kIdentifierSize * listed() == ids.size() && std::equal(ids.begin(), ids.end(), c_.views.theirs());
+    if (right) return answer;
     not_shown(name);
   }
   [[noreturn]] void not_shown(const char* name) {

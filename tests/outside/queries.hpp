@@ -23,7 +23,7 @@ class Queries {
 
   bool sound() const { return Group(list_, books_, queues_).check() == kAccepted; }
 
-  // Those of them that the set is asked for. `Wanted` is given the set and the view's set.
+  // Lists the identifiers of those that are wanted. `wanted` is given the set and the view's set.
   template <class Wanted> Refusal list(uint32_t set, Range views, Range count, Wanted wanted) const {
     if (views.size % kIdentifierSize != 0 || count.size != kLengthSize || !sound()) return kRecordsUnsound;
     if (!set_fits(set, books_.at[kAtMembers])) return kSetUnfit;

@@ -44,6 +44,13 @@ ADMITTED = "if (delivery.size != kDeliverySize || check() == kRecordsUnsound) re
 STOPPED = "Refusal stopped = kAccepted;"
 TOOK = "if (stopped == kAccepted) ++delivered, at += front;"
 GAVE = "    put(delivery.at + kDelivered, 4, delivered), delivery.at[kStopped] = static_cast<uint8_t>(stopped);\n    return kAccepted;"
+PAST = "marks() >> made() != 0"
+MARKED = "    if (r == kAccepted) put(queues_.at + kQueuesMarks, kMarksSize, marks() | uint64_t{1} << find(m_.carrier.id));"
+FITS = "    if (!set_fits(set, books_.at[kAtMembers])) return kSetUnfit;"
+FOUND = "    std::vector<uint32_t> ids;\n    for (const View& v : attempted())\n      if (wanted(static_cast<uint8_t>(set), v.set)) ids.push_back(v.id);"
+PLACES = "    if (kIdentifierSize * ids.size() > views.size) return kTooFewPlaces;"
+WRITTEN = "    for (size_t i = 0; i < ids.size(); ++i) put(views.at + kIdentifierSize * i, kIdentifierSize, ids[i]);"
+NUMBERED = "    put(count.at, kLengthSize, ids.size());"
 MOVED_UP = "for (unsigned i = 0; i < outgoings; ++i) outgoing[i] = outgoing[i + 1];"
 
 # For each file what stands there, and what is put in its place: at its first occurrence.
@@ -220,6 +227,40 @@ CHANGES = {
         (LISTED, "if (!sound()) return kRecordsUnsound;"),
         (LISTED, "if (!paired(steps, answers)) return kRecordsUnsound;"),
         ("return sound() ? kAccepted : kRecordsUnsound;", "return lengths() ? kAccepted : kRecordsUnsound;"),
+        # the marks past the room alone; with 32 views made a shift by the width
+        gone(PAST + " || "),
+        (PAST, PAST.replace("made()", "room()")),
+        (PAST, PAST.replace("made()", "(made() % 32)")),
+        gone(" || queues_.at[kQueuesLayout] != kLayout"),
+        # no mark; the newest view's; that of a refused attempt
+        gone(MARKED + "\n"),
+        (MARKED, MARKED.replace("find(m_.carrier.id)", "(made() - 1)")),
+        (MARKED, MARKED.replace("r == kAccepted", "r != kNoCarrierView")),
+        gone("    put(queues_.at + kQueuesMarks, kMarksSize, 1);\n"),
+        gone(", queues_.at[kQueuesLayout] = kLayout"),
+    ],
+    "queries.hpp": [
+        gone("if (get(queues_.at + kQueuesMarks, kMarksSize) >> i & 1) "),
+        ("a.id > b.id", "a.id < b.id"),
+        ("unsigned i = 0; i < queues_", "unsigned i = 1; i < queues_"),
+        gone("views.size % kIdentifierSize != 0 || "),
+        gone("count.size != kLengthSize || "),
+        ("count.size != kLengthSize || !sound()", "count.size != kLengthSize"),
+        exchanged(FITS, FOUND + "\n" + PLACES),
+        (FITS, FITS.replace("set_fits(set,", "set_fits(set & 255,")),
+        (PLACES, PLACES.replace(">", ">=")),
+        gone(PLACES + "\n"),
+        exchanged(PLACES, WRITTEN),
+        (PLACES + "\n" + WRITTEN + "\n" + NUMBERED, NUMBERED + "\n" + PLACES + "\n" + WRITTEN),
+        (NUMBERED, NUMBERED.replace("ids.size()", "kIdentifierSize * ids.size()")),
+        ("(own & other) != 0", "(own & other) == own"),
+        ("majority(own, held)", "majority(held, own)"),
+        ("majority(own, held)", "2 * ones(own & held) >= ones(held)"),
+        gone("found.size != kFoundSize || "),
+        ("found.size != kFoundSize || !sound()", "found.size != kFoundSize"),
+        gone("    memset(found.at, 0, found.size);\n"),
+        ("v.id >= id", "v.id > id"),
+        gone("      break;\n"),
     ],
     "driver.hpp": [
         gone("count.size != kLengthSize || "),

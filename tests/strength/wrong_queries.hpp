@@ -8,8 +8,8 @@
 //   dvs_group_crossing: query-wants-one-more       46 if the buffer is exactly long enough
 //   dvs_group_crossing: query-writes-before-46     the identifiers that have a place are written, then 46 is found
 //   dvs_group_crossing: query-counts-before-46     the count is written, then 46 is found
-//   dvs_group_crossing: query-gives-what-fits      a buffer that is too short gets its part of the list and no 46
-//   dvs_group_crossing: query-checks-46-before-7   a set that does not fit, with an empty buffer, gets 46
+//   dvs_group_crossing: query-gives-what-fits      a buffer that is too short receives a part of the list, and no 46 is returned
+//   dvs_group_crossing: query-checks-46-before-7   a set that does not fit, with an empty buffer, is refused with 46
 //   dvs_group_crossing: query-takes-part           bytes after the last whole identifier are ignored
 //   dvs_group_crossing: query-narrows-set          of the set the last byte counts
 //   dvs_group_crossing: query-takes-any-set        a set with members that the group does not have is taken
