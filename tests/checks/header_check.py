@@ -63,7 +63,8 @@ def expected_constants():
     wanted['DVS_MUST_CHECK'] = '__attribute__((warn_unused_result))'
     wanted['DVS_COUNT(views)'] = '((size_t)(views))'  # as C has it, the last of the two
     wanted.update({'DVS_BOOK_' + name: books[name] for name in BOOK_PLACES})
-    wanted.update({'DVS_SIZE_' + name: library[name] for name in RANGES}, DVS_VERSION=version(), DVS_QUEUES_MADE=groups['MADE'], DVS_QUEUES_MARKS=groups['MARKS'], DVS_QUEUES_LAYOUT=groups['LAYOUT'])
+    wanted.update({'DVS_SIZE_' + name: library[name] for name in RANGES}, DVS_VERSION=version())
+    wanted.update({'DVS_QUEUES_' + name: groups[name] for name in ('MADE', 'MARKS', 'LAYOUT')})
     wanted.update(DVS_VIEW_IDENTIFIER=0, DVS_VIEW_SET=sizes['IDENTIFIER'])
     # a run's records: the kind and the number stand first
     wanted.update(DVS_STEP_SIZE=run['STEP'], DVS_STEP_KIND=0, DVS_STEP_FIRST=run['FIRST'], DVS_STEP_SECOND=run['SECOND'],
