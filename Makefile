@@ -139,8 +139,8 @@ SEED := 1
 fuzz: $(BUILT)/outside_test
 	$(BUILT)/outside_test fuzz $(SECONDS) $(SEED)
 
-# The C++ wrapper and the examples, installed and linked by pkg-config, with every compiler here, in C++17 and C++20 and with sanitizers; by CMake,
-# where it is here; and the archive in a shared object.
+# The C++ wrapper and the examples, installed and linked by pkg-config: the wrapper with every compiler here, in C++17 and C++20 and with sanitizers; by
+# CMake, where it is here; and the archive in a shared object.
 .PHONY: wrapper
 wrapper: $(LIBRARY)
 	tests/wrapper/wrapper.sh
