@@ -4,7 +4,7 @@ help:
 	@echo "make run       a group on the bench: a split in which one part goes on. Some seconds, nothing is proved"
 	@echo "make lib       the library for C and C++, target/staticlib/libdvs.a, every proof of it first: 5 to 10 minutes"
 	@echo "make install   it, its headers and documents, to PREFIX"
-	@echo "make test      everything that has to hold: under 15 minutes"
+	@echo "make test      everything that has to hold: some 16 minutes"
 	@echo "README.md has the other targets, CONTRIBUTING.md how a change is made."
 
 # The gate: everything that has to hold. Every proof, every must-fail edit and every program, a line for each; at the same time the tests from outside
