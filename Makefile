@@ -51,7 +51,7 @@ $(BUILT)/dvs-show: tools/dvs-show.cpp $(HEADERS) $(LIBRARY)
 	$(CXX) $(HOSTFLAGS) -o $@ $< $(LIBRARY)
 
 # The library, its headers, dvs-show, what is written for its hosts, and its files for pkg-config and CMake, to PREFIX; DESTDIR goes before it, for those who
-# make a package. The version stands here alone; tests/checks/header_check.py holds the header and the library to it.
+# make a package. The version is here alone; tests/checks/header_check.py holds the header and the library to it.
 .PHONY: install
 PREFIX ?= /usr/local
 VERSION := 0.6.0

@@ -77,8 +77,8 @@ uint64_t dvs_size(uint32_t range, uint32_t views) DVS_MUST_CHECK;
  * turn. Then publish the events, and after them post the messages. After a restart load what was saved last, and join a view before any other call. An
  * older book, or a second start, breaks the promise.
  *
- * The start is the same for every member, and no two members have one number. Messages are believed: whoever can put bytes on the line can break the
- * promise.
+ * The start is the same for every member, and no two members have one number. Messages are believed: anyone who can put bytes on the line can break
+ * the promise.
  *
  * Being in a primary view is no licence. Two groups of members may hand out entries at the same time, so what was only handed out may have to be
  * withdrawn. An entry that is reported safe was in the hands of every member of its view. It is final if every member registers last: after every member

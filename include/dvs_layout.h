@@ -94,7 +94,7 @@
 
 /* ---- places in an event: DVS_EVENT_SIZE bytes. A place that the kind does not use is 0. */
 
-#define DVS_EVENT_KIND 0u   /* 1 byte: the step's kind (DVS_STEP_...), 0 for a step that is no outward event */
+#define DVS_EVENT_KIND 0u   /* 1 byte: the step's kind (DVS_STEP_...), 0 for a step that is not an outward event */
 #define DVS_EVENT_MEMBER 1u /* 1 byte: the member */
 #define DVS_EVENT_VIEW 2u   /* 4 bytes: the client view's identifier */
 #define DVS_EVENT_SET 6u    /* 1 byte: its set, for attempt only */

@@ -44,7 +44,7 @@
 #define DVS_REFUSED_EMPTY_SET 35u            /* a view in the message has an empty set */
 #define DVS_REFUSED_NOT_RISING 36u           /* the identifiers in the message do not rise */
 #define DVS_REFUSED_TOLD_OUT_OF_RANGE 37u    /* the count told is not 1 to 128 */
-#define DVS_REFUSED_BYTES_LEFT_OVER 38u      /* bytes are left over behind the message */
+#define DVS_REFUSED_BYTES_LEFT_OVER 38u      /* bytes are left over after the message */
 #define DVS_REFUSED_BUFFER_TOO_SHORT 39u     /* the buffer is too short for the message */
 #define DVS_REFUSED_LINE_UNREADABLE 40u      /* the bench cannot read the line */
 #define DVS_REFUSED_ANOTHER_VIEW 41u         /* the message was sent in another view */
@@ -100,7 +100,7 @@ static inline const char *dvs_refusal_text(uint32_t refusal) {
     case DVS_REFUSED_EMPTY_SET: return "a view in the message has an empty set";
     case DVS_REFUSED_NOT_RISING: return "the identifiers in the message do not rise";
     case DVS_REFUSED_TOLD_OUT_OF_RANGE: return "the count told is not 1 to 128";
-    case DVS_REFUSED_BYTES_LEFT_OVER: return "bytes are left over behind the message";
+    case DVS_REFUSED_BYTES_LEFT_OVER: return "bytes are left over after the message";
     case DVS_REFUSED_BUFFER_TOO_SHORT: return "the buffer is too short for the message";
     case DVS_REFUSED_LINE_UNREADABLE: return "the bench cannot read the line";
     case DVS_REFUSED_ANOTHER_VIEW: return "the message was sent in another view";

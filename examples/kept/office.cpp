@@ -132,7 +132,7 @@ bool Office::has_all() const {
   return book.in_primary() && brought_ == book.client()->set;
 }
 
-// An office registers last (duty 7). It says what it holds then, for whoever checks that nothing safe was lost.
+// An office registers last (duty 7). It says what it holds then, so that a reader of the history can check that nothing safe was lost.
 void Office::work() {
   if (const auto event = call().register_view()) {
     note(*event);

@@ -28,7 +28,7 @@ def front(kind):
 
 
 def numbers(text):
-    """The numbers of a list such as '4, 6, 32 to 38'. A text that is no such list has none."""
+    """The numbers of a list such as '4, 6, 32 to 38'. A text that is not such a list has none."""
     listed = []
     for item in text.split(','):
         found = re.fullmatch(r'(\d+)(?: to (\d+))?', item.strip())
@@ -107,7 +107,7 @@ def refusals():
         if alone or kind in OWN:
             hold("docs/REFUSALS.md, '%s' by itself" % kind, [4, 6] + numbers(alone), OWN[kind].refusals if kind in OWN else [])
     for name in sorted(others.keys() ^ {call.name for call in REFUSING if call is not STEPS and call not in OWN.values()}):
-        faults.append('docs/REFUSALS.md has no order for %s, or has one for what is no call' % name)
+        faults.append('docs/REFUSALS.md has no order for %s, or has one for what is not a call' % name)
     for name in sorted(others.keys() & CALLS.keys()):
         hold('docs/REFUSALS.md, %s' % name, numbers(re.split('[;:.]', others[name])[0]), CALLS[name].refusals)
     hold('docs/REFUSALS.md, what stops a packet', numbers_after(r'for each message ([^.]*)\.', others.get(PACKET.name, '')), PACKET.parts['none'].refusals)

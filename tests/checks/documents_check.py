@@ -97,11 +97,11 @@ wrong = (ROOT / 'docs' / 'WRONG_ANSWERS.md').read_text()
 answers = edits.every()
 for crate, name in re.findall(r'`(\w+)/(\w+)`', wrong):
     if '%s/%s' % (crate, name) not in answers:
-        faults.append('docs/WRONG_ANSWERS.md names %s/%s, which is no edit' % (crate, name))
+        faults.append('docs/WRONG_ANSWERS.md names %s/%s, which is not an edit' % (crate, name))
 rows = {row[0]: row[1:] for row in re.findall(r'^\| `(dvs_\w+)` \| `([^`]+)` \| `([^`]+)` \|$', wrong, re.M)}
 exported = {path.split('::')[-1] for crate, path in host_functions() if crate == 'dvs'}
 faults.extend('docs/WRONG_ANSWERS.md has no row with two wrong programs of %s' % name for name in sorted(exported - rows.keys()))
-faults.extend('docs/WRONG_ANSWERS.md has a row of %s, which is no exported function' % name for name in sorted(rows.keys() - exported))
+faults.extend('docs/WRONG_ANSWERS.md has a row of %s, which is not an exported function' % name for name in sorted(rows.keys() - exported))
 faults.extend('docs/WRONG_ANSWERS.md names one wrong program of %s twice' % name for name, (one, other) in rows.items() if one == other)
 used = [name for row in rows.values() for name in row]
 faults.extend('docs/WRONG_ANSWERS.md gives %s to two functions' % name for name in sorted(set(used)) if used.count(name) > 1)

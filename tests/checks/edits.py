@@ -60,7 +60,7 @@ class Edit(typing.NamedTuple):
 
 
 def more_of(file):
-    """The edits of a more-edits.txt. A line that is no line of an edit ends the program."""
+    """The edits of a more-edits.txt. A line that is not of an edit ends the program."""
     edits = []
     for number, line in enumerate(file.read_text().split('\n'), 1):
         if re.fullmatch(r'edit: \w+', line):

@@ -1,6 +1,6 @@
 #!/usr/bin/env python3
 """layout_check.py: holds every number of docs/LAYOUT.md to the Rattle sources, its section on a saved book to include/dvs_saved.hpp, and the number of the
-layout to the places that it stands for.
+layout to the places that it numbers.
 
 For each section it has the rows of its tables (offset, size, then the numbers that the row's words and its limit name) and the numbers that the text
 around the tables names. It prints each difference and exits with 1 where there is one."""
@@ -10,7 +10,7 @@ import sys
 
 from sources import ROOT, constants, source
 
-# the layout's number, and a digest of the places that it stands for: a book or a group with other places has another number
+# the layout's number, and a digest of the places that it numbers: a book or a group with other places has another number
 NUMBER, DIGEST = 1, '6c09caa728977943'
 LENT = 'A queue entry', 'An inward list', 'An order', "A member's book", 'The list', 'The queues'
 LAYOUT = (ROOT / 'docs' / 'LAYOUT.md').read_text()

@@ -109,7 +109,7 @@ void too_many_open() {
   go_over(last, {0, 1, 2}, view);
 }
 
-// In a view that they have attempted the members send what they have, each with a last message behind it, and are handed all that comes. Whoever was
+// In a view that they have attempted the members send what they have, each with a last message after it, and are handed all that comes. Whoever was
 // handed the last message of every member has all that each of them had when it attempted the view.
 void exchange(Offices &offices, std::initializer_list<unsigned> members) {
   each(offices, members, [](Office &office) {
