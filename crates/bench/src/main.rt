@@ -1,5 +1,7 @@
 // The bench: lines of standard input answered, as the specification's section 'The bench' has it. What a line does and
 // whether its reply is shown is `bench_session`; here are only reading and writing, many lines to a call of the system.
+#![tactic(auto)]
+
 mod pieces;
 mod words;
 
@@ -88,7 +90,7 @@ fn finish(
 }
 
 // The bench after the lines that were answered, where they end, and whether a write failed.
-#[derive(Drop)]
+#[derive(Clone, Copy)]
 struct Turn {
     bench: Bench,
     at: usize,

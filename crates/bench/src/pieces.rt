@@ -10,7 +10,7 @@ use libc::{STDIN_FILENO, STDOUT_FILENO};
 const KEPT: usize = bench_lines::lines::LONGEST_LINE + 1;
 
 // How many bytes of the buffer count after a read, and whether it failed.
-#[derive(Drop)]
+#[derive(Clone, Copy)]
 pub struct Got {
     pub count: usize,
     pub failed: bool,
@@ -68,7 +68,7 @@ pub fn send(out: &[u8], filled: usize) -> bool
 }
 
 // How many bytes of the buffer are filled, and whether a write before that failed.
-#[derive(Drop)]
+#[derive(Clone, Copy)]
 pub struct Said {
     pub filled: usize,
     pub failed: bool,

@@ -12,21 +12,21 @@ use crate::texts::words;
 pub const LONGEST_LINE: usize = 64;
 
 // What a group line asks: the number of members and the first set.
-#[derive(Drop)]
+#[derive(Clone, Copy)]
 pub struct Start {
     pub members: u8,
     pub set: u8,
 }
 
 // What a step's line asks: its kind and its operands in the order of the line, 0 for a second one that it has not.
-#[derive(Drop)]
+#[derive(Clone, Copy)]
 pub struct Asked {
     pub kind: u8,
     pub first: u32,
     pub second: u64,
 }
 
-#[derive(Drop)]
+#[derive(Clone, Copy)]
 pub enum Line {
     Unreadable,
     Group(Start),

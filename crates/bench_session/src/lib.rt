@@ -1,5 +1,7 @@
 // What one line does to a running bench: its reply, whether a group is running after it, and the three ranges after it.
 // Which replies are shown is `showing`'s.
+#![tactic(auto)]
+
 pub mod showing;
 
 ghost use Rattle.std.specs.Prelude.{true, ◌≡◌};
@@ -12,7 +14,7 @@ use events::Reply;
 use views::refusal::{Refusal, Verdict};
 
 // What a line gets, and whether a group is running after it.
-#[derive(Drop)]
+#[derive(Clone, Copy)]
 pub struct Answered {
     pub reply: Reply,
     pub running: bool,

@@ -9,7 +9,7 @@ use events::Reply;
 use views::refusal::Verdict;
 
 // What the first line decides: replies to accepted lines are shown, or all of them.
-#[derive(Drop)]
+#[derive(Clone, Copy)]
 pub enum Output {
     Undecided,
     Quiet,
@@ -17,14 +17,14 @@ pub enum Output {
 }
 
 // What a bench is between two lines, but for its three ranges.
-#[derive(Drop)]
+#[derive(Clone, Copy)]
 pub struct Bench {
     pub running: bool,
     pub output: Output,
 }
 
 // What a line gets, whether that is shown, and the bench after the line.
-#[derive(Drop)]
+#[derive(Clone, Copy)]
 pub struct Heard {
     pub reply: Reply,
     pub shown: bool,

@@ -1,4 +1,6 @@
 // A member's book in lent bytes: its small record, which is stepped by value, and its queues, which stay in the bytes.
+#![tactic(auto)]
+
 pub mod fresh;
 
 ghost use Rattle.std.specs.Prelude.{◌+◌, ◌≤◌, ◌≡◌, length, take, drop};
@@ -11,14 +13,14 @@ use views::list::Views;
 use views::{Position, View, limits, sizes};
 
 // A view or none. Without a view, what `view` holds means nothing.
-#[derive(Drop)]
+#[derive(Clone, Copy)]
 pub struct Seat {
     pub there: bool,
     pub view: View,
 }
 
 // The small record of a book: what is held, the carrier and the client view with what is noted and counted in them.
-#[derive(Drop)]
+#[derive(Clone, Copy)]
 pub struct Record {
     pub settled: View,
     pub opens: Views,
@@ -38,7 +40,7 @@ pub struct Record {
 }
 
 // The small record without the views held.
-#[derive(Drop)]
+#[derive(Clone, Copy)]
 pub struct Current {
     pub carrier: Seat,
     pub client: Seat,
@@ -54,7 +56,7 @@ pub struct Current {
 }
 
 // The views held.
-#[derive(Drop)]
+#[derive(Clone, Copy)]
 pub struct Held {
     pub settled: View,
     pub opens: Views,

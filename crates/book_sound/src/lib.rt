@@ -1,4 +1,6 @@
 // Whether bytes are a sound book: refusal 4 of the member by itself. Only what is used is looked at, where it lies.
+#![tactic(auto)]
+
 pub mod entries_at;
 mod layout;
 mod record;

@@ -10,7 +10,7 @@ use views::limits;
 use views::refusal::{Refusal, Verdict};
 
 // The two steps, each with the number of members.
-#[derive(Drop)]
+#[derive(Clone, Copy)]
 pub enum Kind {
     Attempt(u8),
     Collect(u8),

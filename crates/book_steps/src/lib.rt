@@ -1,5 +1,7 @@
 // A member's steps in a sound book's bytes. Each loads what it looks at of the small record, decides by value, and
 // writes only where it is accepted; attempt and collect turn the whole record, which is lent. Here is what they share.
+#![tactic(auto)]
+
 pub mod carrier_view;
 pub mod client_view;
 mod lent;
@@ -18,7 +20,7 @@ use views::Member;
 use views::refusal::Verdict;
 
 // A message without views that a step puts at the end of outgoing, or none.
-#[derive(Drop)]
+#[derive(Clone, Copy)]
 pub struct Said {
     pub there: bool,
     pub kind: u8,

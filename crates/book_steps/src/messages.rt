@@ -23,7 +23,7 @@ use views::{Member, View, limits, sizes};
 use wire::Message;
 
 // A queue entry: its sender together with one of the four messages. An info's views are kept beside it.
-#[derive(Drop)]
+#[derive(Clone, Copy)]
 pub struct Entry {
     pub sender: Member,
     pub message: Message,

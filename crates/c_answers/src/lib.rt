@@ -1,6 +1,8 @@
 // Answers as numbers and lent bytes: a verdict's number; the bytes of an event, which the calls of the C interface and
 // the answers of a run share, of a number that a call gives out, of a delivery, and of a view that may be missing; and
 // numbers of 32 bits taken in a byte.
+#![tactic(auto)]
+
 ghost use Rattle.std.specs.Prelude.{length, ◌≡◌};
 ghost use Rattle.views.specs.Refusals.{code_of, number_of, left};
 ghost use Rattle.c_answers.specs.Answers.{narrowed, event_size, event_bytes, length_size, length_bytes};

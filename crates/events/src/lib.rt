@@ -1,4 +1,6 @@
 // What a step says to the outside: its verdict and, where it has one, its outward event.
+#![tactic(auto)]
+
 pub mod kinds;
 
 ghost use Rattle.std.specs.Prelude.{◌≡◌};
@@ -9,7 +11,7 @@ use views::refusal::{Refusal, Verdict};
 use views::{Member, View, ViewId};
 
 // An outward event in numbers: the kind of its step, 0 for none, and 0 for what an event does not have.
-#[derive(Drop)]
+#[derive(Clone, Copy)]
 pub struct Event {
     pub kind: u8,
     pub member: Member,
@@ -19,7 +21,7 @@ pub struct Event {
 }
 
 // What a call gives: the verdict, and the event of an accepted step that has one.
-#[derive(Drop)]
+#[derive(Clone, Copy)]
 pub struct Reply {
     pub verdict: Verdict,
     pub event: Event,

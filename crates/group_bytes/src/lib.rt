@@ -1,5 +1,7 @@
 // A group's records in three lent ranges, the list, the books and the queues: where they stand. docs/LAYOUT.md has the
 // tables.
+#![tactic(auto)]
+
 ghost use Rattle.std.specs.Prelude.{◌*◌, ◌+◌, ◌≤◌, true, ◌≡◌, length};
 ghost use Rattle.views.specs.Sizes.{view_size};
 ghost use Rattle.views.specs.Limits.{max_views, max_members};

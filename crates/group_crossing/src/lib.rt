@@ -1,5 +1,7 @@
 // Which attempted views does a set cross, and of which does it hold a majority? These are the marked views of a group
 // that a test picks, newest first. And the newest marked view before an identifier. Nothing of the group changes.
+#![tactic(auto)]
+
 ghost use Rattle.std.specs.Prelude.{true, cond, ◌≡◌, ◌+◌, ◌*◌, ◌≤◌, ◌<◌, length};
 ghost use Rattle.numbers.specs.Number.{get, put};
 ghost use Rattle.views.specs.Limits.{max_views};
@@ -14,7 +16,7 @@ use views::refusal::{Refusal, Verdict};
 use views::{View, ViewId, sizes};
 
 // What a query gives: the verdict, and the number of views found.
-#[derive(Drop)]
+#[derive(Clone, Copy)]
 pub struct Counted {
     pub verdict: Verdict,
     pub count: usize,

@@ -1,5 +1,7 @@
 // The driver: one call takes the newest view, which nobody has joined, from made to settled by ordinary steps. Either
 // all of them are taken, or the first refusal among them is given and every lent byte is as it was.
+#![tactic(auto)]
+
 mod asks;
 mod drive;
 mod undo;
@@ -16,7 +18,7 @@ use views::ViewId;
 use views::refusal::{Refusal, Verdict};
 
 // What the driver gives: the verdict, and how many steps it took.
-#[derive(Drop)]
+#[derive(Clone, Copy)]
 pub struct Taken {
     pub verdict: Verdict,
     pub steps: u32,

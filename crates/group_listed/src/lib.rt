@@ -1,5 +1,7 @@
 // The whole group with its list as a slice of records, the books and the queues as lent bytes: its start, and one step
 // of any kind. The list is taken by value and put to the group as bytes; what a step or a start does to it is put back.
+#![tactic(auto)]
+
 pub mod list;
 mod slice;
 
@@ -17,7 +19,7 @@ use views::{View, ViewId, limits};
 const BYTES: usize = group_bytes::VIEW * (limits::VIEWS + 1);
 
 // What a step gives, and the view at the place of the list that it may have filled.
-#[derive(Drop)]
+#[derive(Clone, Copy)]
 pub struct Stepped {
     pub reply: Reply,
     pub at: usize,
@@ -25,7 +27,7 @@ pub struct Stepped {
 }
 
 // What a start gives, and the place of the list from which on it begins with a view.
-#[derive(Drop)]
+#[derive(Clone, Copy)]
 pub struct Begun {
     pub verdict: Verdict,
     pub at: usize,

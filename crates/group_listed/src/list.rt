@@ -16,7 +16,7 @@ use views::refusal::{Refusal, Verdict};
 use views::{View, ViewId, limits, list};
 
 // What a create gives, and the place of the list at which it puts a view.
-#[derive(Drop)]
+#[derive(Clone, Copy)]
 pub struct Creation {
     pub verdict: Verdict,
     pub at: usize,

@@ -1,5 +1,7 @@
 // Lists of steps, applied to a group one after another, with an answer to each: after a start, as a run whose contract
 // has demand 3 of the answers, and to a group that exists.
+#![tactic(auto)]
+
 mod turns;
 
 ghost use Rattle.std.specs.Prelude.{◌≡◌};

@@ -1,4 +1,6 @@
 // Whether three ranges are a sound group: refusal 4 of the group. Only what is used is looked at, where it lies.
+#![tactic(auto)]
+
 mod listed;
 mod members;
 mod orders;

@@ -13,7 +13,7 @@ use views::limits;
 use wire::format;
 
 // What the short columns of an order say: whether its heads fit, and how many entries there are up to its last info.
-#[derive(Drop)]
+#[derive(Clone, Copy)]
 struct Seen {
     fit: bool,
     infos: usize,

@@ -1,5 +1,7 @@
 // The member by itself: a host lends its book and calls start, then the member's steps, on any bytes. What is no sound
 // book gets 4 before anything else.
+#![tactic(auto)]
+
 pub mod carrier_view;
 pub mod client_view;
 pub mod messages;
@@ -16,7 +18,7 @@ use views::refusal::{Refusal, Verdict};
 use views::{Member, View, ViewId, limits};
 
 // What pass gives: the verdict, and how many bytes were written.
-#[derive(Drop)]
+#[derive(Clone, Copy)]
 pub struct Passed {
     pub verdict: Verdict,
     pub length: usize,
@@ -24,7 +26,7 @@ pub struct Passed {
 
 // What a packet's delivery gives: the verdict on the call and, where it is accepted, how many messages were delivered
 // and the refusal of the next.
-#[derive(Drop)]
+#[derive(Clone, Copy)]
 pub struct Delivered {
     pub verdict: Verdict,
     pub count: usize,

@@ -1,4 +1,6 @@
 // Unsigned big-endian numbers of 1 to 8 bytes at a place in bytes: one definition for every width.
+#![tactic(auto)]
+
 ghost use Rattle.std.specs.Prelude.{◌≡◌, ◌+◌, ◌^◌, ◌<◌, ◌≤◌, length};
 ghost use Rattle.numbers.specs.Number.{get, put};
 

@@ -1,5 +1,7 @@
 // A member's steps on its small record, by value: what each gives, beside the definitions and the laws that each is the
 // rule.
+#![tactic(auto)]
+
 pub mod carrier_view;
 pub mod client_view;
 pub mod messages;
@@ -13,7 +15,7 @@ use book_bytes::Record;
 use views::refusal::{Refusal, Verdict};
 
 // What a step gives: the record after it, or the refusal with the record as it was.
-#[derive(Drop)]
+#[derive(Clone, Copy)]
 pub struct Stepped {
     pub verdict: Verdict,
     pub book: Record,

@@ -1,4 +1,6 @@
 // Sets of members as bytes, bit 0 for member 0, and the majority test.
+#![tactic(auto)]
+
 ghost use Rattle.std.specs.Prelude.{◌≡◌};
 ghost use Rattle.views.specs.Sets.{has, is_empty, is_beyond, in_common, majority_of, fits};
 

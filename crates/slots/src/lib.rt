@@ -1,5 +1,7 @@
 // Queue entries in lent bytes, worked on in place: by rows here, and by columns in orders and inward lists. The places
 // are given by whoever lays the records out, and each function asks that what it touches lies within the bytes.
+#![tactic(auto)]
+
 pub mod inward;
 pub mod order;
 

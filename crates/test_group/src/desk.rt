@@ -5,7 +5,7 @@ ghost use Rattle.test_group.specs.DeskParts.{longest, fresh_desk, with_lent, wit
 use crate::listed::LONGEST;
 use views::{View, ViewId};
 
-#[derive(Drop)]
+#[derive(Clone, Copy)]
 pub struct Desk {
     pub list: [View; LONGEST],
     pub lent: usize,

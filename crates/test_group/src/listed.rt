@@ -16,14 +16,14 @@ use views::{View, ViewId, limits};
 pub const LONGEST: usize = limits::VIEWS + 1;
 
 // The list after a step, and its reply.
-#[derive(Drop)]
+#[derive(Clone, Copy)]
 pub struct Stepped {
     pub list: [View; LONGEST],
     pub reply: Reply,
 }
 
 // The list after a start or a create, and its verdict.
-#[derive(Drop)]
+#[derive(Clone, Copy)]
 pub struct Ruled {
     pub list: [View; LONGEST],
     pub verdict: Verdict,

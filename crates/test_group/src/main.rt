@@ -1,5 +1,7 @@
 // Runs the whole group over lines of standard input, with a list of as many view records as the script says, and writes
 // an answer to each; tests/reference/group_script.py says what the lines mean. A number too large for its place is cut.
+#![tactic(auto)]
+
 mod desk;
 mod listed;
 mod run;

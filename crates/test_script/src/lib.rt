@@ -1,4 +1,6 @@
 // What the programs that run a script share: lines of standard input taken apart, answers written.
+#![tactic(auto)]
+
 pub mod operand;
 pub mod parse;
 pub mod reply;

@@ -20,7 +20,7 @@ pub const SLIP: usize = 200;
 // How many bytes of a line can be delivered at once: some more than 129 of the shortest messages have.
 pub const PACKET: usize = 1024;
 
-#[derive(Drop)]
+#[derive(Clone, Copy)]
 pub struct Desk {
     pub lent: [usize; BOOKS],
     pub own: [u8; BOOKS],

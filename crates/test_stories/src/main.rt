@@ -1,5 +1,7 @@
 // Runs the member by itself over lines of standard input, and writes an answer to each. There are four books, 0 to 3;
 // tests/reference/member_script.py says what the lines mean. A number that is too large for its place is cut.
+#![tactic(auto)]
+
 mod call;
 mod desk;
 mod show;

@@ -5,7 +5,7 @@ ghost use Rattle.test_stories.specs.WordParts.{with_p, with_r, with_s, word_of, 
 use events::kinds;
 
 // A step of a book that a call carries out has the number of its kind.
-#[derive(Drop)]
+#[derive(Clone, Copy)]
 pub enum Word {
     Unknown,
     Comment,

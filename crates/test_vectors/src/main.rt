@@ -2,6 +2,8 @@
 //   read HEX, front HEX                      the message that the bytes are, or that stands at their front
 //   write ROOM KIND I X ID:SET ..            the message of a kind sent in view I with the number X and these views,
 //                                            into ROOM bytes (at most 200) that each hold ee before
+#![tactic(auto)]
+
 mod parse;
 mod show;
 

@@ -7,20 +7,20 @@ ghost use Rattle.views.specs.ChoiceParts.{choice_of};
 
 use crate::{View, ViewId, limits};
 
-#[derive(Drop)]
+#[derive(Clone, Copy)]
 pub struct Views {
     pub count: usize,
     pub at: [View; limits::VIEWS],
 }
 
-#[derive(Drop)]
+#[derive(Clone, Copy)]
 pub enum Lookup {
     Found(View),
     Missing,
 }
 
 // The next view of two lists, and how many of each list it takes.
-#[derive(Drop)]
+#[derive(Clone, Copy)]
 pub struct Choice {
     pub view: View,
     pub left: usize,

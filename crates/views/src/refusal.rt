@@ -2,7 +2,7 @@
 ghost use Rattle.std.specs.Prelude.{◌≡◌};
 ghost use Rattle.views.specs.Refusals.{number_of, code_of};
 
-#[derive(Drop)]
+#[derive(Clone, Copy)]
 pub enum Refusal {
     // start
     MembersOutOfRange,
@@ -126,7 +126,7 @@ pub fn number(r: Refusal) -> u8
 }
 
 // What every call answers: the result is given, or one refusal.
-#[derive(Drop)]
+#[derive(Clone, Copy)]
 pub enum Verdict {
     Accepted,
     Refused(Refusal),

@@ -1,4 +1,6 @@
 // Messages as bytes: a kind, the identifier of the view sent in, a section of views and a section of numbers.
+#![tactic(auto)]
+
 pub mod format;
 pub mod in_bytes;
 pub mod merging;
@@ -12,7 +14,7 @@ use views::list::Views;
 use views::refusal::Verdict;
 
 // The four messages. An info's views stand beside it.
-#[derive(Drop)]
+#[derive(Clone, Copy)]
 pub enum Message {
     Client(u64),
     Info,
@@ -21,7 +23,7 @@ pub enum Message {
 }
 
 // A message with the identifier of the view sent in, and an info's views: settled first, then open, identifiers rising.
-#[derive(Drop)]
+#[derive(Clone, Copy)]
 pub struct Frame {
     pub view: ViewId,
     pub message: Message,
@@ -29,7 +31,7 @@ pub struct Frame {
 }
 
 // What reading gives: the message and how many bytes it took, or the refusal alone.
-#[derive(Drop)]
+#[derive(Clone, Copy)]
 pub struct Reading {
     pub verdict: Verdict,
     pub taken: usize,
@@ -37,14 +39,14 @@ pub struct Reading {
 }
 
 // The verdict on the message at the front of bytes, and how many bytes it takes, 0 where it is refused.
-#[derive(Drop)]
+#[derive(Clone, Copy)]
 pub struct Front {
     pub verdict: Verdict,
     pub taken: usize,
 }
 
 // What writing gives: how many bytes were written, or the refusal alone.
-#[derive(Drop)]
+#[derive(Clone, Copy)]
 pub struct Written {
     pub verdict: Verdict,
     pub length: usize,

@@ -11,7 +11,7 @@ use views::list::Views;
 use views::{View, ViewId, limits, list, sizes};
 
 // What the walk makes, and how many turns it took.
-#[derive(Drop)]
+#[derive(Clone, Copy)]
 pub struct Merged {
     pub views: Views,
     pub turns: usize,

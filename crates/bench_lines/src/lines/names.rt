@@ -18,7 +18,7 @@ const ENTRY: u64 = 18446744073709551615;
 const OTHER: u64 = 255;
 
 // What a name asks for: the largest number of each operand, 0 for a second operand that it has not.
-#[derive(Drop)]
+#[derive(Clone, Copy)]
 pub struct Form {
     pub kind: u8,
     pub first: u64,

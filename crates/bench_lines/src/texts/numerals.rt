@@ -6,7 +6,7 @@ ghost use Rattle.bench_lines.specs.TextParts.{Put};
 use crate::texts::put;
 
 // What a word says as an operand.
-#[derive(Drop)]
+#[derive(Clone, Copy)]
 pub enum Numeral {
     Unfit,
     Number(u64),

@@ -1,0 +1,17 @@
+use borrow.Author.Tests.{not-true, not-false}
+use Rattle.bench_session.proofs.AnswerLaws.{idle-answers, step-answers}
+use Rattle.bench_session.proofs.go.Goals as goal
+
+pub returns-then-not-running : goal.returns-then-not-running
+returns-then-not-running c =
+    let a = c.args in
+    rw (not-true a.running c.if-not-running.true-raw, c.unread.ensures) (idle-answers (record { list = a.list.now; books = a.all.now; queues = a.queues.now }) a.kind a.first a.second)
+
+pub next-reply-requires : goal.next-reply-requires
+next-reply-requires c k = c.before.before.before.before.before.before.before.requires k (not-false _ c.before.before.before.if1.false)
+
+pub returns : goal.returns
+returns c =
+    let a = c.args in
+    let early = c.before.before.before.before.before.before in
+    rw (not-false a.running early.before.before.before.before.if1.false) (step-answers (record { list = a.list.now; books = a.all.now; queues = a.queues.now }) a.kind a.first a.second _ _ early.next.ensures)

@@ -1,0 +1,11 @@
+use Rattle.bench_session.proofs.AnswerLaws.{answer-heard}
+use Rattle.bench_session.proofs.showing.hear_line.Goals as goal
+
+pub answer_line-a-requires : goal.answer_line-a-requires
+answer_line-a-requires c = c.requires
+
+pub returns : goal.returns
+returns c =
+    let early = c.before.before.before.before.before.before.before.before.before in
+    let a = early.before.before.before.before.before.before.before.before.args in
+    answer-heard a.bench (record { list = a.list.now; books = a.all.now; queues = a.queues.now }) a.line.now _ _ early.answer_line.ensures _ c.shows-shown.ensures _ c.decided_by-decided.ensures

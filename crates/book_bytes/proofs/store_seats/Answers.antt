@@ -1,0 +1,11 @@
+-- `book_bytes::store_seats` meets its contract: the three views are stored one after the other.
+use Rattle.book_bytes.proofs.CodeLaws.{seats-joined}
+use Rattle.book_bytes.proofs.store_seats.Goals as goal
+
+pub returns : goal.returns
+returns c =
+    let client = c.before.before in
+    let carrier = client.before.before.before.before in
+    let settled = carrier.before.before.before.before in
+    let a = settled.before.before.before.before.before.args in
+    seats-joined a.b.now _ _ _ a.h settled.store_view.ensures carrier.store_seat.ensures client.store-seat2.ensures

@@ -1,0 +1,39 @@
+-- `book_steps::carrier_view::attempt` meets its contract: the turn of the record that was loaded, with 43 last, is the rule's.
+use native.Mathlib.Omega.{arith}
+use Rattle.book_steps.proofs.Committed.{sound-size, loaded-side}
+use Rattle.book_steps.proofs.LentLaws.{attempt-asks, attempt-lent}
+use Rattle.book_steps.proofs.AttemptLaws.{emptied-size, attempt-refused, attempt-few, attempt-accepted}
+use Rattle.book_bytes.specs.Places.{inward_at}
+use Rattle.book_steps.proofs.carrier_view.attempt.Goals as goal
+
+pub load-h-requires : goal.load-h-requires
+load-h-requires c = omega (arith, sound-size _ c.before.before.requires)
+
+pub bounds-b-0 : goal.bounds-b-0
+bounds-b-0 c = omega (arith, sound-size _ c.before.before.before.before.requires)
+
+pub lend-s-requires : goal.lend-s-requires
+lend-s-requires c = attempt-asks _ _ (loaded-side _ c.before.before.before.before.requires _ c.load-h.ensures)
+
+pub bounds-b-1 : goal.bounds-b-1
+bounds-b-1 c = omega (arith, sound-size _ c.before.before.before.before.before.before.before.before.requires)
+
+pub empty-requires : goal.empty-requires
+empty-requires c = (omega (arith, sound-size _ c.before.before.before.before.before.before.before.before.before.before.requires), loaded-side _ c.before.before.before.before.before.before.before.before.before.before.requires _ c.load-h.ensures)
+
+pub store-requires : goal.store-requires
+store-requires c =
+    let early = c.before.before.before.before in
+    let start = early.before.before.before.before.before.before.before.before.before.before.before in
+    let loaded = early.before.before.before.before.before.before.before.before in
+    (emptied-size start.args.b.now _ (inward_at loaded.load.result.side) early.empty.ensures (sound-size _ start.requires), attempt-few _ _ loaded.load.ensures _ (attempt-lent _ _ _ early.before.before.before.before.before.before.lend.ensures) early.before.before.before.before.enum_told.given.1)
+
+pub returns-in-Refused : goal.returns-in-Refused
+returns-in-Refused c =
+    let early = c.before.before.before.before in
+    attempt-refused _ _ early.before.before.load.ensures _ (attempt-lent _ _ _ early.lend.ensures) _ _ c.in-Refused.is c.refuse.ensures
+
+pub returns-in-Accepted : goal.returns-in-Accepted
+returns-in-Accepted c =
+    let early = c.before.before.before.before.before.before.before in
+    attempt-accepted _ _ early.before.before.before.before.before.before.before.before.load.ensures _ (attempt-lent _ _ _ early.before.before.before.before.before.before.lend.ensures) early.before.before.before.before.enum_told.given.1 _ early.before.before.attempted.ensures _ _ early.empty.ensures c.store.ensures

@@ -1,0 +1,39 @@
+-- `book_steps::messages::deliver` meets its contract: each message is taken by its own function.
+use mathlib.Core.Path.{refl}
+use Prim.Native.Nat.{◌+◌}
+use native.Mathlib.Omega.{arith}
+use Rattle.book_steps.proofs.Committed.{sound-size, sound-layout}
+use Rattle.book_steps.proofs.TakeLaws.{set-ready, set_long, took-carried, took-registered, took-told}
+use Rattle.book_steps.proofs.messages.deliver.Goals as goal
+
+pub inform-requires : goal.inform-requires
+inform-requires c =
+    let pre = c.requires in
+    let layout = sound-layout _ pre.0 in
+    (omega (arith, layout.size), pre.1, layout.opens, pre.3, pre.4, pre.5, pre.6 c.in-Info.is)
+
+pub note-requires : goal.note-requires
+note-requires c = let pre = c.requires in (omega (arith, sound-size _ pre.0), pre.1, pre.3, omega arith, omega arith)
+
+pub bounds-b-q : goal.bounds-b-q
+bounds-b-q c = let pre = c.requires in omega (arith, sound-size _ pre.0, pre.3)
+
+pub count-requires : goal.count-requires
+count-requires c =
+    let s = c.before.before.before.before.before.before.before.before in
+    set-ready s.args.b.now _ (omega (arith, sound-size _ s.requires.0), s.requires.1) (26 + s.args.e.sender.0) c.in-Told.k (omega arith) refl
+
+pub returns-in-Client : goal.returns-in-Client
+returns-in-Client c = took-carried _ _ _ _ _ _ _ c.in-Client.is c.receive.ensures
+
+pub returns-in-Info : goal.returns-in-Info
+returns-in-Info c = took-carried _ _ _ _ _ _ _ c.in-Info.is c.inform.ensures
+
+pub returns-in-Registered : goal.returns-in-Registered
+returns-in-Registered c = let note = c.note in took-carried _ _ _ _ _ _ _ c.in-Registered.is (took-registered _ _ _ note.ensures.0 _ note.ensures.1)
+
+pub shape_of-b-in-Told : goal.shape_of-b-in-Told
+shape_of-b-in-Told c = let a = c.args in set_long a.b.now _ (26 + a.e.sender.0) c.in-Told.k c.count.ensures.1
+
+pub returns-in-Told : goal.returns-in-Told
+returns-in-Told c = let count = c.count in took-carried _ _ _ _ _ _ _ c.in-Told.is (took-told _ _ _ count.ensures.0 _ _ count.ensures.1)

@@ -1,0 +1,27 @@
+use native.Mathlib.Omega.{arith}
+use Rattle.book_bytes.specs.Places.{outgoing_at}
+use Rattle.book_steps.specs.Parts.{said_bytes}
+use Rattle.book_steps.proofs.say.Goals as goal
+
+pub overflow_cast-n : goal.overflow_cast-n
+overflow_cast-n c = omega (arith, c.slice_known-then-m-1.given outgoing_at)
+
+pub overflow_mul-n : goal.overflow_mul-n
+overflow_mul-n c = omega (arith, c.slice_known-then-m-1.given outgoing_at)
+
+pub overflow_add-n : goal.overflow_add-n
+overflow_add-n c = omega (arith, c.slice_known-then-m-1.given outgoing_at)
+
+pub store_short-requires : goal.store_short-requires
+store_short-requires c = omega (arith, c.requires.1 c.if-m.true)
+
+pub overflow_add-b : goal.overflow_add-b
+overflow_add-b c = omega (arith, c.requires.1 c.if-m.true)
+
+pub returns-then-m : goal.returns-then-m
+unfolding said_bytes
+returns-then-m c = rw (c.if-m.true, c.store_short.ensures)
+
+pub returns-else-m : goal.returns-else-m
+unfolding said_bytes
+returns-else-m c = rw c.if-m.false

@@ -1,0 +1,11 @@
+-- `dvs::carrier_view::dvs_attempt` meets its contract: 4 for an event range of another length, else the member's call.
+use Rattle.dvs.proofs.EventLaws.{shows-unsized, shows-call}
+use Rattle.dvs.proofs.carrier_view.dvs_attempt.Goals as goal
+
+pub returns-then-event-ne-EVENT : goal.returns-then-event-ne-EVENT
+returns-then-event-ne-EVENT c = shows-unsized _ _ _ _ _ c.if-event-ne-EVENT.true c.refused.ensures
+
+pub returns : goal.returns
+returns c =
+    let early = c.before.before.before.before.before.before in
+    shows-call _ _ _ _ _ _ _ _ early.before.before.if1.false early.attempt.ensures c.answer.ensures

@@ -1,0 +1,11 @@
+-- `dvs::client_view::dvs_hand` meets its contract: 4 for an event range of another length, else the member's call.
+use Rattle.dvs.proofs.EventLaws.{shows-unsized, shows-call}
+use Rattle.dvs.proofs.client_view.dvs_hand.Goals as goal
+
+pub returns-then-event-ne-EVENT : goal.returns-then-event-ne-EVENT
+returns-then-event-ne-EVENT c = shows-unsized _ _ _ _ _ c.if-event-ne-EVENT.true c.refused.ensures
+
+pub returns : goal.returns
+returns c =
+    let early = c.before.before.before.before.before.before in
+    shows-call _ _ _ _ _ _ _ _ early.before.before.if1.false early.hand.ensures c.answer.ensures

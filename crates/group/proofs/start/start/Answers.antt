@@ -1,0 +1,33 @@
+use mathlib.Core.Path.{sym, ◌∙◌}
+use Rattle.group.proofs.BeginLaws.{list-room, books-long, members-few, queues-room, start-refused, start-accepted}
+use Rattle.group_bytes.specs.Starts.{start_ranges}
+use Rattle.group.proofs.start.start.Goals as goal
+
+pub lay_list-requires : goal.lay_list-requires
+lay_list-requires c =
+    let a = c.before.before.before.before.before.before.before.before.before.before.args in
+    list-room a.members a.first (record { list = a.list.now; books = a.all.now; queues = a.queues.now }) (sym c.in-Accepted.is ∙ c.startable-v.ensures)
+
+pub lay_books-requires : goal.lay_books-requires
+lay_books-requires c =
+    let a = c.before.before.before.before.before.before.before.before.before.before.before.before.before.before.args in
+    let early = c.before.before.before.before.before in
+    (books-long a.members a.first (record { list = a.list.now; books = a.all.now; queues = a.queues.now }) (sym early.enum_told.given.1 ∙ early.before.before.startable.ensures), members-few a.members a.first (record { list = a.list.now; books = a.all.now; queues = a.queues.now }) (sym early.enum_told.given.1 ∙ early.before.before.startable.ensures))
+
+pub lay_queues-requires : goal.lay_queues-requires
+lay_queues-requires c =
+    let a = c.before.before.before.before.before.before.before.before.before.before.before.before.before.before.before.before.before.before.args in
+    let early = c.before.before.before.before.before.before.before.before.before in
+    queues-room a.members a.first (record { list = a.list.now; books = a.all.now; queues = a.queues.now }) (sym early.enum_told.given.1 ∙ early.before.before.startable.ensures)
+
+pub returns-in-Refused : goal.returns-in-Refused
+returns-in-Refused c =
+    let a = c.before.before.before.before.before.before.before.before.before.before.args in
+    start-refused a.members a.first (record { list = a.list.now; books = a.all.now; queues = a.queues.now }) _ (sym c.in-Refused.is ∙ c.startable-v.ensures)
+
+pub returns-in-Accepted : goal.returns-in-Accepted
+unfolding start_ranges
+returns-in-Accepted c =
+    let a = c.before.before.before.before.before.before.before.before.before.before.before.before.before.before.before.before.before.before.before.before.before.args in
+    let early = c.before.before.before.before.before.before in
+    start-accepted a.members a.first (record { list = a.list.now; books = a.all.now; queues = a.queues.now }) _ (sym early.before.before.before.before.before.before.enum_told.given.1 ∙ early.before.before.before.before.before.before.before.before.startable.ensures) early.before.before.before.before.lay_list.ensures early.lay_books.ensures c.lay_queues.ensures

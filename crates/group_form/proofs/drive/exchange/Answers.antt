@@ -1,0 +1,44 @@
+-- `group_form::drive::exchange` meets its contract: passes, orders, then of each server as many deliveries as there are ones in the set.
+use native.Mathlib.Omega.{arith}
+use lib.Count.{ones-le}
+use Rattle.views.specs.Limits.{max_members}
+use Rattle.rules.specs.Forming.{exchange_steps}
+use Rattle.group_form.proofs.Driving.{drove-stops, drove-then, servers-ones}
+use Rattle.group_form.proofs.drive.exchange.Goals as goal
+
+pub returns-in_default : goal.returns-in_default
+unfolding exchange_steps
+returns-in_default c = drove-stops c.each-passed.ensures c.in_default.is _
+
+pub each-ordered-requires : goal.each-ordered-requires
+each-ordered-requires c k =
+    let one = c.before.before.before in
+    one.before.before.before.before.before.before.before.before.each.ensures.stays (one.before.before.before.before.before.before.before.before.before.before.before.before.before.before.before.requires k)
+
+pub returns-in_default-ordered : goal.returns-in_default-ordered
+unfolding exchange_steps
+returns-in_default-ordered c =
+    let one = c.before.before.before.before.before.before.before.before.before.before.before.before in
+    drove-then one.before.before.before.before.before.before.before.before.each.ensures one.enum_told.given.1
+    (drove-stops c.each-ordered.ensures c.in_default-ordered.is _)
+
+pub overflow_cast-k : goal.overflow_cast-k
+overflow_cast-k c = omega (arith, ones-le max_members _ c.struct_known-1.given.1.0.fits)
+
+pub each-requires : goal.each-requires
+each-requires c k =
+    let two = c.before.before.before.before in
+    let one = two.before.before.before.before.before.before.before.before.before.before.before.before in
+    two.before.before.before.before.before.before.before.before.each2.ensures.stays (one.before.before.before.before.before.before.before.before.each.ensures.stays (one.before.before.before.before.before.before.before.before.before.before.before.before.before.before.before.requires k))
+
+pub returns : goal.returns
+unfolding exchange_steps
+returns c =
+    let k = c.before.before.before.before.before.before.before.before.before.before in
+    let two = k.before in
+    let one = two.before.before.before.before.before.before.before.before.before.before.before.before in
+    let v = one.before.before.before.before.before.before.before.before.before.before.before.before.before.before.before.args.v in
+    rw (servers-ones v k.struct_known.given.1.0.fits)
+    (drove-then one.before.before.before.before.before.before.before.before.each.ensures one.enum_told.given.1
+    (drove-then two.before.before.before.before.before.before.before.before.each2.ensures two.enum-told3.given.1
+    c.each.ensures))

@@ -1,0 +1,35 @@
+-- `group_form::drive::round` meets its contract: one kind of step, an exchange, then the other kind.
+use Rattle.rules.specs.Forming.{round_steps}
+use Rattle.group_form.proofs.Driving.{drove-stops, drove-then}
+use Rattle.group_form.proofs.drive.round.Goals as goal
+
+pub returns-in_default : goal.returns-in_default
+unfolding round_steps
+returns-in_default c = drove-stops c.each-begun.ensures c.in_default.is _
+
+pub exchange-exchanged-requires : goal.exchange-exchanged-requires
+exchange-exchanged-requires c k =
+    let one = c.before.before.before in
+    one.before.before.before.before.before.before.before.before.each.ensures.stays (one.before.before.before.before.before.before.before.before.before.before.before.before.before.before.before.requires k)
+
+pub returns-in_default-exchanged : goal.returns-in_default-exchanged
+unfolding round_steps
+returns-in_default-exchanged c =
+    let one = c.before.before.before.before.before.before.before.before.before.before.before.before in
+    drove-then one.before.before.before.before.before.before.before.before.each.ensures one.enum_told.given.1
+    (drove-stops c.exchange-exchanged.ensures c.in_default-exchanged.is _)
+
+pub each-requires : goal.each-requires
+each-requires c k =
+    let two = c.before.before.before in
+    let one = two.before.before.before.before.before.before.before.before.before.before.before.before in
+    two.before.before.before.before.before.before.before.before.exchange.ensures.stays (one.before.before.before.before.before.before.before.before.each.ensures.stays (one.before.before.before.before.before.before.before.before.before.before.before.before.before.before.before.requires k))
+
+pub returns : goal.returns
+unfolding round_steps
+returns c =
+    let two = c.before.before.before.before.before.before.before.before.before.before in
+    let one = two.before.before.before.before.before.before.before.before.before.before.before.before in
+    drove-then one.before.before.before.before.before.before.before.before.each.ensures one.enum_told.given.1
+    (drove-then two.before.before.before.before.before.before.before.before.exchange.ensures two.enum-told3.given.1
+    c.each.ensures)

@@ -1,0 +1,39 @@
+-- `group_listed::list::sets_fit` meets its contract: every set before i fits, so the answer is that of what is left.
+use mathlib.Core.Path.{refl, sym, ◌∙◌}
+use Prim.Native.Nat.{◌-◌}
+use native.Mathlib.Omega.{arith}
+use borrow.Author.Tests.{not-true, not-false}
+use lib.ListN.{length-map, drop_of_length-le}
+use Rattle.views.specs.Lists.{list_of}
+use Rattle.views.proofs.PlaceLaws.{length-used}
+use Rattle.rules.specs.Member.{all}
+use Rattle.group_listed.proofs.CreateLaws.{not-fit, fit_on}
+use Rattle.group_listed.proofs.list.sets_fit.Goals as goal
+
+pub loop-i-init : goal.loop-i-init
+loop-i-init c =
+    let l = c.args.l in (
+      c.used-n.ensures ∙ sym (length-used l.count l.at (simp length-map at c.well_formed.0.1.1.1.0.1.0.1)),
+      omega (arith, c.used-n.ensures),
+      omega arith,
+      refl,
+    )
+
+pub returns-then-not-fits : goal.returns-then-not-fits
+returns-then-not-fits c =
+    let l = c.loop-i in
+    let a = c.args in
+    sym (l.invariant.3 ∙ not-fit a.l.count a.l.at l.i (omega arith) a.members (sym c.fits2.ensures ∙ not-true _ c.if-not-fits.true-raw))
+
+pub loop-i-preserved : goal.loop-i-preserved
+loop-i-preserved c =
+    let l = c.loop-i in
+    let a = c.args in
+    (l.invariant.0, l.invariant.1, omega arith, l.invariant.3 ∙ fit_on a.l.count a.l.at l.i (omega arith) a.members (sym c.fits2.ensures ∙ not-false _ c.if-not-fits.false-raw))
+
+pub returns : goal.returns
+unfolding all
+returns c =
+    let l = c.loop-i in
+    let list = c.args.l in
+    sym (l.invariant.3 ∙ rw (drop_of_length-le (list_of list) {i = l.i} (omega arith)))

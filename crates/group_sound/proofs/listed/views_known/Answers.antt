@@ -1,0 +1,80 @@
+-- `group_sound::listed::views_known` meets its contract: the views before the i-th stand before place j of the list, so the answer is that of the rest of
+-- both.
+use mathlib.Core.Path.{◌≡◌, sym, ap, ◌∙◌}
+use mathlib.Core.Logic.{⊎_elim}
+use Prim.Native.Nat.{◌+◌, ◌-◌, ◌<◌}
+use native.Mathlib.Omega.{arith}
+use Rattle.views.specs.declared.View.{View}
+use Rattle.views.specs.Lists.{id_of}
+use Rattle.group_sound.proofs.ListedLaws.{one-view, all_known_from, walk_end, walk-past, walk_start, walk-skip, walk-stop, walk-on}
+use Rattle.group_sound.proofs.listed.views_known.Goals as goal
+
+pub load_view-first-requires : goal.load_view-first-requires
+load_view-first-requires c = omega (arith, c.requires.1, c.requires.3)
+
+pub place-j-requires : goal.place-j-requires
+place-j-requires c = (c.requires.0, c.requires.2)
+
+pub loop-i-init : goal.loop-i-init
+loop-i-init c =
+    let e = c.before.before.before.before in
+    (omega arith, walk_start e.args.list.now e.args.made e.args.b.now e.args.from e.args.count e.requires.2 e.requires.3 _ c.load_view-first.ensures _ c.place-j.ensures)
+
+pub returns-then-made-j : goal.returns-then-made-j
+returns-then-made-j c =
+    let e = c.before.before.before.before.before.before.before in
+    let l = c.loop-i in
+    sym (l.invariant.1 ∙ walk-past e.args.list.now e.args.made e.args.b.now e.args.from e.args.count l.j l.i (omega arith) (omega arith))
+
+pub overflow_mul-i : goal.overflow_mul-i
+overflow_mul-i c = omega (arith, c.requires.1)
+
+pub overflow_add-from : goal.overflow_add-from
+overflow_add-from c = omega (arith, c.requires.1)
+
+pub load_view-v-requires : goal.load_view-v-requires
+load_view-v-requires c = omega (arith, c.requires.1)
+
+pub load_view-w-requires : goal.load_view-w-requires
+load_view-w-requires c = omega (arith, c.requires.0)
+
+pub returns-then-v-w-2 : goal.returns-then-v-w-2
+returns-then-v-w-2 c =
+    let early = c.before.before.before.before.before.before in
+    let e = early.before.before.before.before.before.before.before.before.before in
+    let l = early.before.before.before.before.loop in
+    sym (l.invariant.1 ∙ walk-stop e.args.list.now e.args.made e.args.b.now e.args.from e.args.count l.j l.i (omega arith) (omega arith) e.requires.2 _ _ early.before.load-view2.ensures early.load-view3.ensures c.if-v-w.true (λ w. c.if-v-w-2.true (ap id_of w)))
+
+pub returns-then-v-w-3 : goal.returns-then-v-w-3
+returns-then-v-w-3 c =
+    let early = c.before.before.before.before.before.before.before.before.before in
+    let e = early.before.before.before.before.before.before.before.before.before in
+    let l = early.before.before.before.before.loop in
+    sym (l.invariant.1 ∙ walk-stop e.args.list.now e.args.made e.args.b.now e.args.from e.args.count l.j l.i (omega arith) (omega arith) e.requires.2 _ _ early.before.load-view2.ensures early.load-view3.ensures c.if-v-w.true (λ w. c.if-v-w-3.true (ap (λ (x : View). x.set) w)))
+
+pub overflow_add-i : goal.overflow_add-i
+overflow_add-i c = omega (arith, c.loop-i-test.true, c.ranges.count)
+
+pub loop-i-preserved : goal.loop-i-preserved
+loop-i-preserved c =
+    let e = c.before.before.before.before.before.before.before.before.before.before.before.before in
+    let l = c.loop-i in
+    let known = all_known_from e.args.list.now e.args.made e.args.b.now e.args.from e.args.count (l.j + 1) in
+    let room : l.j < e.args.made = c.if-made-j.false in
+    let more : l.i < e.args.count = c.loop-i-test.true in
+    let v = c.load_view-v in
+    let w = c.load_view-w in
+    ⊎_elim
+    (λ x.
+    let next : c.if-v-w.i ≡ l.i + 1 = x.7 in
+    (omega (arith, next, more), l.invariant.1 ∙ walk-on e.args.list.now e.args.made e.args.b.now e.args.from e.args.count l.j l.i room more e.requires.2 _ _ v.ensures w.ensures (one-view _ _ x.3.left x.6.left) ∙ ap known (sym next)))
+    (λ x.
+    let same : c.if-v-w.i ≡ l.i = x.1 in
+    (omega (arith, same, more), l.invariant.1 ∙ walk-skip e.args.list.now e.args.made e.args.b.now e.args.from e.args.count l.j l.i room more e.requires.2 _ _ v.ensures w.ensures x.0.left ∙ ap known (sym same)))
+    c.if-v-w.branch
+
+pub returns : goal.returns
+returns c =
+    let e = c.before.before.before.before.before.before in
+    let l = c.loop-i in
+    sym (l.invariant.1 ∙ walk_end e.args.list.now e.args.made e.args.b.now e.args.from e.args.count l.j l.i (omega arith))

@@ -1,0 +1,17 @@
+-- `member::client_view::safe` meets its contract: 4, 6, then the step.
+use Rattle.member.specs.Calls.{safe_call}
+use Rattle.member.proofs.CallLaws.{call-refused, call-sound, call-done}
+use Rattle.member.proofs.client_view.safe.Goals as goal
+
+pub safe-requires : goal.safe-requires
+safe-requires c = call-sound _ _ c.admit-v.ensures c.in-Accepted.is
+
+pub returns-in-Refused : goal.returns-in-Refused
+unfolding safe_call
+returns-in-Refused c = call-refused _ _ _ _ c.admit-v.ensures _ c.in-Refused.is _ c.refuse.ensures
+
+pub returns-in-Accepted : goal.returns-in-Accepted
+unfolding safe_call
+returns-in-Accepted c =
+    let early = c.before.before.before.before in
+    call-done _ _ _ _ early.before.before.admit.ensures early.enum_told.given.1 _ _ c.safe.ensures

@@ -1,0 +1,82 @@
+-- `member::messages::packet::deliver` meets its contract. The invariant: what is done of the packet, and what is left of the book, lead to where the
+-- whole packet leads.
+use mathlib.Core.Path.{refl, sym, ◌∙◌}
+use Prim.Native.Nat.{◌-◌}
+use native.Mathlib.Omega.{arith}
+use borrow.Author.Rules.{rules}
+use borrow.Author.Tests.{not-false}
+use lib.ListN.{length, drop, length-drop}
+use lib.Seq.{take_all}
+use Rattle.wire.specs.Widths.{AreBytes}
+use Rattle.member.proofs.PacketLaws.{underway-begins, underway-ends, underway-stops, underway-takes, underway-goes, packet-refused}
+use Rattle.member.proofs.messages.packet.deliver.Goals as goal
+
+pub returns-then-not-sound : goal.returns-then-not-sound
+returns-then-not-sound c = let a = c.before.before.before.before.before.args in packet-refused a.bytes.now a.q.0 a.b.now _ c.sound.ensures c.if-not-sound.true-raw
+
+pub loop-at-init : goal.loop-at-init
+loop-at-init c =
+    let a = c.before.before.before.before.before.args in
+    let bytes : AreBytes a.b.now = λ j. omega (arith, c.slice-known.given j) in
+    (underway-begins a.b.now a.bytes.now a.q.0 bytes (sym c.sound.ensures ∙ not-false _ c.if-not-sound.false-raw), refl)
+
+pub deliver_front-f-requires : goal.deliver_front-f-requires
+deliver_front-f-requires c = c.loop-at.invariant.0.sound
+
+pub returns-in_default : goal.returns-in_default
+returns-in_default c =
+    let a = c.before.before.before.before.before.before.before.before.before.before.before.before.before.before.args in
+    let l = c.loop-at in
+    let s = a.bytes.now in
+    let bytes : AreBytes s = λ j. omega (arith, c.shared-slice-known.given j) in
+    let gave = rw (take_all (length s - l.at) (drop l.at s) (omega (arith, length-drop l.at s))) at c.deliver_front-f.ensures in
+    underway-stops a.b.now s a.q.0 l.b l.at l.count bytes l.invariant.0 (omega arith) _ _ gave
+    (sym c.sound.ensures ∙ not-false _ c.if-not-sound.false-raw) _ c.in_default.is
+
+pub overflow_add-at : goal.overflow_add-at
+overflow_add-at c =
+    let a = c.before.before.before.before.before.before.before.before.before.before.before.before.before.before.before.args in
+    let l = c.loop-at in
+    let s = a.bytes.now in
+    let bytes : AreBytes s = λ j. omega (arith, c.shared-slice-known.given j) in
+    let gave = rw (take_all (length s - l.at) (drop l.at s) (omega (arith, length-drop l.at s))) at c.deliver_front-f.ensures in
+    let (low, high) = underway-takes a.b.now s a.q.0 l.b l.at l.count bytes l.invariant.0 (omega arith) _ _ gave c.in-Accepted.is in
+    omega (arith, low, high, l.invariant.0.few)
+
+pub overflow_add-count : goal.overflow_add-count
+overflow_add-count c =
+    let a = c.before.before.before.before.before.before.before.before.before.before.before.before.before.before.before.args in
+    let l = c.loop-at in
+    let s = a.bytes.now in
+    let bytes : AreBytes s = λ j. omega (arith, c.shared-slice-known.given j) in
+    let gave = rw (take_all (length s - l.at) (drop l.at s) (omega (arith, length-drop l.at s))) at c.deliver_front-f.ensures in
+    let (low, high) = underway-takes a.b.now s a.q.0 l.b l.at l.count bytes l.invariant.0 (omega arith) _ _ gave c.in-Accepted.is in
+    omega (arith, low, high, l.invariant.0.few)
+
+pub loop-at-smaller : goal.loop-at-smaller
+loop-at-smaller c =
+    let a = c.before.before.before.before.before.before.before.before.before.before.before.before.before.before.before.args in
+    let l = c.loop-at in
+    let s = a.bytes.now in
+    let bytes : AreBytes s = λ j. omega (arith, c.shared-slice-known.given j) in
+    let gave = rw (take_all (length s - l.at) (drop l.at s) (omega (arith, length-drop l.at s))) at c.deliver_front-f.ensures in
+    let (low, high) = underway-takes a.b.now s a.q.0 l.b l.at l.count bytes l.invariant.0 (omega arith) _ _ gave c.in-Accepted.is in
+    omega (arith, low, high, l.invariant.0.few)
+
+pub loop-at-preserved : goal.loop-at-preserved
+loop-at-preserved c =
+    let a = c.before.before.before.before.before.before.before.before.before.before.before.before.before.before.before.args in
+    let l = c.loop-at in
+    let s = a.bytes.now in
+    let bytes : AreBytes s = λ j. omega (arith, c.shared-slice-known.given j) in
+    let gave = rw (take_all (length s - l.at) (drop l.at s) (omega (arith, length-drop l.at s))) at c.deliver_front-f.ensures in
+    (underway-goes a.b.now s a.q.0 l.b l.at l.count bytes l.invariant.0 (omega arith) _ _ gave c.in-Accepted.is, search rules)
+
+pub shape_of-b : goal.shape_of-b
+shape_of-b c = c.loop-at.invariant.1
+
+pub returns : goal.returns
+returns c =
+    let a = c.before.before.before.before.before.before.before.args in
+    let l = c.loop-at in
+    underway-ends a.b.now a.bytes.now a.q.0 l.b l.at l.count (sym c.sound.ensures ∙ not-false _ c.if-not-sound.false-raw) l.invariant.0 (omega arith)

@@ -1,0 +1,63 @@
+-- `record_steps::carrier_view::attempt` meets its contract: each return is at its place in the row.
+use mathlib.Core.Path.{sym, ◌∙◌}
+use mathlib.Core.List.{[]}
+use borrow.Author.Tests.{not-true, not-false}
+use Rattle.views.specs.Sets.{one}
+use Rattle.record_steps.specs.Turns.{attempt_turn}
+use Rattle.views.proofs.VerdictLaws.{need-met, need-unmet}
+use Rattle.record_steps.proofs.RowLaws.{refused-by, accepted-by, attempt-row}
+use Rattle.record_steps.proofs.carrier_view.attempt.Goals as goal
+
+pub returns-then-not-at : goal.returns-then-not-at
+unfolding attempt_turn
+returns-then-not-at c =
+    let a = c.args in
+    c.refuse.ensures
+    ∙ refused-by _ _ _
+    (attempt-row 0 a.h [] [] [] one a.n
+    ∙ need-unmet _ _ (not-true _ c.if-not-at.true))
+
+pub returns-then-not-above : goal.returns-then-not-above
+unfolding attempt_turn
+returns-then-not-above c =
+    let a = c.args in
+    c.refuse-then-not-above.ensures
+    ∙ refused-by _ _ _
+    (attempt-row 0 a.h [] [] [] one a.n
+    ∙ need-met _ _ (not-false _ c.if-not-at.false)
+    ∙ need-unmet _ _ (sym c.above.ensures ∙ not-true _ c.if-not-above.true-raw))
+
+pub returns-then-not-all_noted : goal.returns-then-not-all_noted
+unfolding attempt_turn
+returns-then-not-all_noted c =
+    let a = c.args in
+    c.refuse-then-not-all_noted.ensures
+    ∙ refused-by _ _ _
+    (attempt-row 0 a.h [] [] [] one a.n
+    ∙ need-met _ _ (not-false _ c.if-not-at.false)
+    ∙ need-met _ _ (sym c.above.ensures ∙ not-false _ c.if-not-above.false-raw)
+    ∙ need-unmet _ _ (sym c.all_noted.ensures ∙ not-true _ c.if-not-all_noted.true-raw))
+
+pub returns-then-not-passes_all : goal.returns-then-not-passes_all
+unfolding attempt_turn
+returns-then-not-passes_all c =
+    let a = c.args in
+    c.refuse-then-not-passes_all.ensures
+    ∙ refused-by _ _ _
+    (attempt-row 0 a.h [] [] [] one a.n
+    ∙ need-met _ _ (not-false _ c.if-not-at.false)
+    ∙ need-met _ _ (sym c.above.ensures ∙ not-false _ c.if-not-above.false-raw)
+    ∙ need-met _ _ (sym c.all_noted.ensures ∙ not-false _ c.if-not-all_noted.false-raw)
+    ∙ need-unmet _ _ (sym c.passes_all.ensures ∙ not-true _ c.if-not-passes_all.true-raw))
+
+pub returns : goal.returns
+unfolding attempt_turn
+returns c =
+    let a = c.args in
+    rw c.attempted.ensures
+    (accepted-by _ _
+    (attempt-row 0 a.h [] [] [] one a.n
+    ∙ need-met _ _ (not-false _ c.if-not-at.false)
+    ∙ need-met _ _ (sym c.above.ensures ∙ not-false _ c.if-not-above.false-raw)
+    ∙ need-met _ _ (sym c.all_noted.ensures ∙ not-false _ c.if-not-all_noted.false-raw)
+    ∙ need-met _ _ (sym c.passes_all.ensures ∙ not-false _ c.if-not-passes_all.false-raw)))

@@ -1,0 +1,33 @@
+-- `record_steps::client_view::hand` meets its contract: each return is at its place in the row.
+use mathlib.Core.Path.{sym, ◌∙◌}
+use mathlib.Core.List.{[]}
+use native.Mathlib.Omega.{arith}
+use borrow.Author.Tests.{not-true, not-false, lt-ltb, le-ltb}
+use lib.ListN.{length}
+use Rattle.record_steps.specs.Turns.{items_of, unheld, hand_verdict}
+use Rattle.views.proofs.VerdictLaws.{need-met, need-unmet}
+use Rattle.record_steps.proofs.RowLaws.{items-length, hand-row}
+use Rattle.record_steps.proofs.client_view.hand.Goals as goal
+
+pub returns-then-not-client : goal.returns-then-not-client
+unfolding hand_verdict
+returns-then-not-client c =
+    sym
+    (hand-row 0 (unheld c.args.h) [] (items_of c.args.own) []
+    ∙ need-unmet _ _ (not-true _ c.if-not-client.true))
+
+pub returns-then-own-h : goal.returns-then-own-h
+unfolding hand_verdict
+returns-then-own-h c =
+    sym
+    (hand-row 0 (unheld c.args.h) [] (items_of c.args.own) []
+    ∙ need-met _ _ (not-false _ c.if-not-client.false)
+    ∙ need-unmet _ _ (le-ltb c.args.h.handed.0 (length (items_of c.args.own)) (omega (arith, items-length c.args.own, c.if-own-h.true))))
+
+pub returns : goal.returns
+unfolding hand_verdict
+returns c =
+    sym
+    (hand-row 0 (unheld c.args.h) [] (items_of c.args.own) []
+    ∙ need-met _ _ (not-false _ c.if-not-client.false)
+    ∙ need-met _ _ (lt-ltb c.args.h.handed.0 (length (items_of c.args.own)) (omega (arith, items-length c.args.own, c.if-own-h.false))))

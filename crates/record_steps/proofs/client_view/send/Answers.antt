@@ -1,0 +1,31 @@
+-- `record_steps::client_view::send` meets its contract: each return is at its place in the row.
+use mathlib.Core.Path.{sym, ◌∙◌}
+use mathlib.Core.List.{[]}
+use borrow.Author.Tests.{not-true, not-false}
+use Rattle.record_steps.specs.Turns.{entries_of, unheld, room_for, send_verdict}
+use Rattle.views.proofs.VerdictLaws.{need-met, need-unmet}
+use Rattle.record_steps.proofs.RowLaws.{send-row}
+use Rattle.record_steps.proofs.client_view.send.Goals as goal
+
+pub returns-then-not-client : goal.returns-then-not-client
+unfolding send_verdict
+returns-then-not-client c =
+    sym
+    (send-row 0 (unheld c.args.h) (entries_of c.args.out) [] [] 0
+    ∙ need-unmet _ _ (not-true _ c.if-not-client.true))
+
+pub returns-then-not-has_room : goal.returns-then-not-has_room
+unfolding send_verdict room_for
+returns-then-not-has_room c =
+    sym
+    (send-row 0 (unheld c.args.h) (entries_of c.args.out) [] [] 0
+    ∙ need-met _ _ (not-false _ c.if-not-client.false)
+    ∙ need-unmet _ _ (sym c.has_room.ensures ∙ not-true _ c.if-not-has_room.true-raw))
+
+pub returns : goal.returns
+unfolding send_verdict room_for
+returns c =
+    sym
+    (send-row 0 (unheld c.args.h) (entries_of c.args.out) [] [] 0
+    ∙ need-met _ _ (not-false _ c.if-not-client.false)
+    ∙ need-met _ _ (sym c.has_room.ensures ∙ not-false _ c.if-not-has_room.false-raw))

@@ -1,0 +1,21 @@
+-- By the second letter.
+use mathlib.Core.Path.{refl}
+use borrow.Author.Tests.{ne_eqb}
+use Rattle.test_stories.specs.WordParts.{with_s}
+use Rattle.test_stories.proofs.word.with_s.Goals as goal
+
+pub returns-in-116 : goal.returns-in-116
+unfolding with_s
+returns-in-116 c = rw c.in-116.is refl
+
+pub returns-in-101 : goal.returns-in-101
+unfolding with_s
+returns-in-101 c = rw c.in-101.is refl
+
+pub returns-in-97 : goal.returns-in-97
+unfolding with_s
+returns-in-97 c = rw c.in-97.is refl
+
+pub returns-in_default : goal.returns-in_default
+unfolding with_s
+returns-in_default c = rw (ne_eqb c.args.second 116 c.in_default.rest.0.0.1, ne_eqb c.args.second 101 c.in_default.rest.0.1, ne_eqb c.args.second 97 c.in_default.rest.1) refl

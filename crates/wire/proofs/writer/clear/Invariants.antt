@@ -1,0 +1,12 @@
+-- `writer::clear` meets its contract: after i turns the first i bytes are 0.
+use mathlib.Core.Path.{◌≡◌}
+use mathlib.Core.List.{◌++◌}
+use Prim.Native.Nat.{◌-◌, ◌≤◌}
+use lib.ListN.{length, replicate, drop}
+use Rattle.wire.proofs.writer.clear.Given as goal
+
+abbrev pub invariant-loop-i : goal.invariant-loop-i
+invariant-loop-i l = (l.i ≤ length l.initial.b) × (length l.b ≡ length l.initial.b) × (l.b ≡ replicate l.i 0 ++ drop l.i l.initial.b)
+
+abbrev pub decreases-loop-i : goal.decreases-loop-i
+decreases-loop-i l = length l.initial.b - l.i
