@@ -13,11 +13,11 @@ returns-in-Unreadable c =
 pub returns-in-Group : goal.returns-in-Group
 returns-in-Group c =
     let a = c.args in
-    let early = c.before.before.before.before.before.before in
-    read-answers a.running (record { list = a.list.now; books = a.all.now; queues = a.queues.now }) _ _ (sym early.before.before.before.before.before.before.before.read.ensures ∙ early.before.before.before.before.before.asked.given.1) _ _ early.begin.ensures
+    let early = c in
+    read-answers a.running (record { list = a.list.now; books = a.all.now; queues = a.queues.now }) _ _ (sym early.read-asked.ensures ∙ early.in-Group.is) _ _ early.begin.ensures
 
 pub returns-in-Step : goal.returns-in-Step
 returns-in-Step c =
     let a = c.args in
-    let early = c.before.before.before.before.before.before in
-    read-answers a.running (record { list = a.list.now; books = a.all.now; queues = a.queues.now }) _ _ (sym early.before.before.before.before.before.before.before.read.ensures ∙ early.before.before.before.before.before.asked2.given.1) _ _ early.go.ensures
+    let early = c in
+    read-answers a.running (record { list = a.list.now; books = a.all.now; queues = a.queues.now }) _ _ (sym early.read-asked.ensures ∙ early.in-Step.is) _ _ early.go.ensures

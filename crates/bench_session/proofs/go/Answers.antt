@@ -13,5 +13,5 @@ next-reply-requires c k = c.before.before.before.before.before.before.before.req
 pub returns : goal.returns
 returns c =
     let a = c.args in
-    let early = c.before.before.before.before.before.before in
-    rw (not-false a.running early.before.before.before.before.if1.false) (step-answers (record { list = a.list.now; books = a.all.now; queues = a.queues.now }) a.kind a.first a.second _ _ early.next.ensures)
+    let early = c in
+    rw (not-false a.running early.if-not-running.false-raw) (step-answers (record { list = a.list.now; books = a.all.now; queues = a.queues.now }) a.kind a.first a.second _ _ early.next-reply.ensures)

@@ -4,6 +4,6 @@ use Rattle.book_bytes.proofs.load.Goals as goal
 
 pub returns : goal.returns
 returns c =
-    let rest = c.before.before.before.before.before.before.before.before.before in
-    let held = rest.before in
-    record-loaded held.before.before.args.b.now _ _ held.load_held.ensures rest.load_current.ensures
+    let rest = c in
+    let held = rest in
+    record-loaded held.args.b.now _ _ held.load_held-held.ensures rest.load_current-h.ensures

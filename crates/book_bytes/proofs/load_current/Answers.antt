@@ -4,7 +4,7 @@ use Rattle.book_bytes.proofs.load_current.Goals as goal
 
 pub returns : goal.returns
 returns c =
-    let tolds = c.before.before.before.before.before.before.before.before in
-    let client = tolds.before in
-    let carrier = client.before in
-    current-loaded carrier.before.before.args.b.now _ _ _ carrier.load_seat.ensures client.load-seat2.ensures tolds.load_tolds.ensures
+    let tolds = c in
+    let client = tolds in
+    let carrier = client in
+    current-loaded carrier.args.b.now _ _ _ carrier.load_seat-carrier.ensures client.load_seat-client.ensures tolds.load_tolds-tolds.ensures

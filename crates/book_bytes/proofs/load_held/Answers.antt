@@ -20,5 +20,5 @@ load_views-opens-requires c = ⊎_elim (λ w. omega arith) (λ w. omega arith) c
 
 pub returns : goal.returns
 returns c =
-    let count = c.before.before in
-    held-loaded count.before.before.before.args.b.now count.if1.n _ _ (used count) c.load_view-settled.ensures c.load_views-opens.ensures
+    let count = c in
+    held-loaded count.args.b.now count.if-count-lt-OPEN.n _ _ (used count) c.load_view-settled.ensures c.load_views-opens.ensures

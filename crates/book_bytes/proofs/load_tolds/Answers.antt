@@ -3,4 +3,4 @@ use Rattle.book_bytes.proofs.CodeLaws.{tolds-loaded}
 use Rattle.book_bytes.proofs.load_tolds.Goals as goal
 
 pub returns : goal.returns
-returns c = let start = c.before.before.before.before.before.before.before.before in tolds-loaded start.args.b.now start.requires
+returns c = let start = c in tolds-loaded start.args.b.now start.requires

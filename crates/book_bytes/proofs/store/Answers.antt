@@ -4,9 +4,9 @@ use Rattle.book_bytes.proofs.store.Goals as goal
 
 pub returns : goal.returns
 returns c =
-    let opens = c.before.before in
-    let notes = opens.before.before.before.before.before in
-    let counts = notes.before.before.before.before in
-    let seats = counts.before.before.before.before in
-    let a = seats.before.before.before.args in
+    let opens = c in
+    let notes = opens in
+    let counts = notes in
+    let seats = counts in
+    let a = seats.args in
     parts-joined a.b.now _ _ _ _ a.h seats.store_seats.ensures counts.store_counts.ensures notes.store_notes.ensures opens.store_opens.ensures

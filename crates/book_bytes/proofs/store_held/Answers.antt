@@ -4,7 +4,7 @@ use Rattle.book_bytes.proofs.store_held.Goals as goal
 
 pub returns : goal.returns
 returns c =
-    let opens = c.before.before in
-    let settled = opens.before.before.before.before in
-    let a = settled.before.before.before.before.before.args in
+    let opens = c in
+    let settled = opens in
+    let a = settled.args in
     held-joined a.b.now _ _ a.h settled.store_view.ensures opens.store_opens.ensures

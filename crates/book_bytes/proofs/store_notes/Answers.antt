@@ -35,9 +35,6 @@ loop-i-preserved c =
       rw l.invariant.4 (tolds-turn first a.h.tolds tolds_at l.i (omega arith) (omega arith)),
     )
 
-pub shape_of-b : goal.shape_of-b
-shape_of-b c = simp length-set (simp length-set at c.loop-i.invariant.3)
-
 pub returns : goal.returns
 unfolding store_notes
 returns c = let l = c.loop-i in let all : l.i ≡ max_members = omega arith in rw (l.invariant.4, all)

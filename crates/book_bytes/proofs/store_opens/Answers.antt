@@ -9,12 +9,9 @@ use Rattle.book_bytes.proofs.store_opens.Goals as goal
 pub store_views-requires : goal.store_views-requires
 store_views-requires c = simp length-set (omega arith)
 
-pub shape_of-b : goal.shape_of-b
-shape_of-b c = simp length-set at c.store_views.auto.0
-
 pub returns : goal.returns
 returns c =
-    let start = c.before.before.before.before.before in
+    let start = c in
     let a = start.args in
     let z : length a.list.at ≡ 32 = simp length-map at start.well_formed.1.0.1.1.1.0.1.0.1 in
     opens-joined a.b.now _ a.list (length-take-le a.list.count a.list.at (omega arith)) (omega arith) c.store_views.ensures

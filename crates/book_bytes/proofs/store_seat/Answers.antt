@@ -7,8 +7,5 @@ use Rattle.book_bytes.proofs.store_seat.Goals as goal
 pub store_view-requires : goal.store_view-requires
 store_view-requires c = simp length-set (omega arith)
 
-pub shape_of-b : goal.shape_of-b
-shape_of-b c = simp length-set at c.store_view.auto.0
-
 pub returns : goal.returns
 returns c = c.store_view.ensures ∙ rw c.mark.ensures

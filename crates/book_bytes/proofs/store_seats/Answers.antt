@@ -4,8 +4,8 @@ use Rattle.book_bytes.proofs.store_seats.Goals as goal
 
 pub returns : goal.returns
 returns c =
-    let client = c.before.before in
-    let carrier = client.before.before.before.before in
-    let settled = carrier.before.before.before.before in
-    let a = settled.before.before.before.before.before.args in
-    seats-joined a.b.now _ _ _ a.h settled.store_view.ensures carrier.store_seat.ensures client.store-seat2.ensures
+    let client = c in
+    let carrier = client in
+    let settled = carrier in
+    let a = settled.args in
+    seats-joined a.b.now _ _ _ a.h settled.store_view.ensures carrier.store_seat.ensures client.store_seat-2.ensures

@@ -43,5 +43,5 @@ overflow_sub-side c = let l = layout-says c.args.b.now c.requires.0 in omega (ar
 pub returns : goal.returns
 unfolding queues_sound
 returns c =
-    let early = c.before.before.before.before in
-    c.inward_sound-2.ensures ∙ sym (three _ _ _ ∙ rw (sym early.before.entries_sound.ensures ∙ not-false _ early.if1.false, sym c.inward_sound.ensures ∙ not-false _ c.if-not-inward_sound.false-raw))
+    let early = c in
+    c.inward_sound-2.ensures ∙ sym (three _ _ _ ∙ rw (sym early.entries_sound.ensures ∙ not-false _ early.if-not-entries_sound.false-raw, sym c.inward_sound.ensures ∙ not-false _ c.if-not-inward_sound.false-raw))

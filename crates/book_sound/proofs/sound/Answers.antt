@@ -42,16 +42,16 @@ record_sound-requires c = let l = layout-says c.args.b.now (sym c.layout_fits.en
 
 pub returns-then-not-record_sound : goal.returns-then-not-record_sound
 returns-then-not-record_sound c =
-    let early = c.before.before.before.before.before.before in
-    sym (record-stops early.before.before.before.args.b.now (sym early.before.layout_fits.ensures ∙ not-false _ early.if1.false) (sym c.record_sound.ensures ∙ not-true _ c.if-not-record_sound.true-raw))
+    let early = c in
+    sym (record-stops early.args.b.now (sym early.layout_fits.ensures ∙ not-false _ early.if-not-layout_fits.false-raw) (sym c.record_sound.ensures ∙ not-true _ c.if-not-record_sound.true-raw))
 
 pub queues_sound-requires : goal.queues_sound-requires
 queues_sound-requires c =
-    let early = c.before.before.before.before.before.before in
-    let fits = sym early.before.layout_fits.ensures ∙ not-false _ early.if1.false in
-    (fits, record-members early.before.before.before.args.b.now fits (sym c.record_sound.ensures ∙ not-false _ c.if-not-record_sound.false-raw))
+    let early = c in
+    let fits = sym early.layout_fits.ensures ∙ not-false _ early.if-not-layout_fits.false-raw in
+    (fits, record-members early.args.b.now fits (sym c.record_sound.ensures ∙ not-false _ c.if-not-record_sound.false-raw))
 
 pub returns : goal.returns
 returns c =
-    let early = c.before.before.before.before.before.before.before in
-    c.queues_sound.ensures ∙ sym (record-passes early.before.before.before.args.b.now (sym early.before.layout_fits.ensures ∙ not-false _ early.if1.false) (sym c.record_sound.ensures ∙ not-false _ c.if-not-record_sound.false-raw))
+    let early = c in
+    c.queues_sound.ensures ∙ sym (record-passes early.args.b.now (sym early.layout_fits.ensures ∙ not-false _ early.if-not-layout_fits.false-raw) (sym c.record_sound.ensures ∙ not-false _ c.if-not-record_sound.false-raw))

@@ -8,13 +8,10 @@ pub store_view-requires : goal.store_view-requires
 store_view-requires c = simp length-set (omega arith)
 
 pub bounds-out-7 : goal.bounds-out-7
-bounds-out-7 c = omega (arith, simp length-set at c.store_view.auto.0)
+bounds-out-7 c = omega (arith, simp length-set at c.store_view.auto.b)
 
 pub put_number-requires : goal.put_number-requires
-put_number-requires c = simp length-set (omega (arith, simp length-set at c.store_view.auto.0))
-
-pub shape_of-out : goal.shape_of-out
-shape_of-out c = omega (arith, simp length-set at c.put_number.auto.0, simp length-set at c.store_view.auto.0)
+put_number-requires c = simp length-set (omega (arith, simp length-set at c.store_view.auto.b))
 
 pub returns : goal.returns
 returns c = event-stored c.args.e c.args.out.now _ _ (omega arith) c.store_view.ensures c.put_number.ensures

@@ -21,7 +21,7 @@ overflow_cast-result c = omega (arith, c.ranges.n)
 
 pub returns-then-get_number-id : goal.returns-then-get_number-id
 returns-then-get_number-id c =
-    let e = c.before.before.before.before.before.before.before.before.before in
+    let e = c in
     let l = c.loop-i in
     place-found-at e.args.list.now e.args.n e.requires.1 e.args.id.0 (l.i - 1) (omega arith) (sym c.get_number.ensures.0 ∙ c.if-get_number-id.true)
 

@@ -8,18 +8,18 @@ use Rattle.group_crossing.proofs.QueryLaws.{put-length, room-turn, room_next, st
 use Rattle.group_crossing.proofs.lay.Goals as goal
 
 pub loop-i-init : goal.loop-i-init
-loop-i-init c = let s = c.before.before in (omega arith, refl, omega (arith, s.requires.2), refl)
+loop-i-init c = let s = c in (omega arith, refl, omega (arith, s.requires.2), refl)
 
 pub put-at-requires : goal.put-at-requires
 put-at-requires c =
-    let s = c.before.before.before.before.before in
+    let s = c in
     let l = c.loop-i in
     let t = pick_at s.args.list.now s.args.marks s.args.hold s.args.set in
     (omega (arith, s.requires.0, l.invariant.0), omega (arith, s.requires.1, l.invariant.0), room-turn s.args.list.now t l.i l.at _ (omega arith) l.invariant.2)
 
 pub loop-i-preserved : goal.loop-i-preserved
 loop-i-preserved c =
-    let s = c.before.before.before.before.before.before.before.before in
+    let s = c in
     let l = c.loop-i in
     let t = pick_at s.args.list.now s.args.marks s.args.hold s.args.set in
     let x = c.put-at.ensures in
@@ -30,12 +30,9 @@ loop-i-preserved c =
       rw (x.0, x.1) (store-turn s.args.list.now t l.i l.at _ _ (omega arith) l.invariant.3),
     )
 
-pub shape_of-out : goal.shape_of-out
-shape_of-out c = c.loop-i.invariant.1
-
 pub returns : goal.returns
 returns c =
-    let s = c.before.before.before.before in
+    let s = c in
     let l = c.loop-i in
     let t = pick_at s.args.list.now s.args.marks s.args.hold s.args.set in
     sym (store-end s.args.list.now t l.i l.at _ (omega arith)) ∙ l.invariant.3

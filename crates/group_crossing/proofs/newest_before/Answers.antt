@@ -10,33 +10,33 @@ use Rattle.group_crossing.proofs.newest_before.Goals as goal
 
 pub bounds-queues-0 : goal.bounds-queues-0
 bounds-queues-0 c =
-    let s = c.before.before.before.before in
+    let s = c in
     let r = ranges s.args.list.now s.args.books.now s.args.queues.now in
     omega (arith, (ranged r s.requires).queues)
 
 pub overflow_cast-n : goal.overflow_cast-n
 overflow_cast-n c =
-    let s = c.before.before.before.before in
+    let s = c in
     let r = ranges s.args.list.now s.args.books.now s.args.queues.now in
     let f = ranged r s.requires in
     omega (arith, f.made.1, f.room.1)
 
 pub get_number-marks-requires : goal.get_number-marks-requires
 get_number-marks-requires c =
-    let s = c.before.before.before.before in
+    let s = c in
     let r = ranges s.args.list.now s.args.books.now s.args.queues.now in
     (omega (arith, (ranged r s.requires).queues), omega arith)
 
 pub newest-requires : goal.newest-requires
 newest-requires c =
-    let s = c.before.before.before.before.before in
+    let s = c in
     let r = ranges s.args.list.now s.args.books.now s.args.queues.now in
     let f = ranged r s.requires in
     (omega (arith, f.made.1), omega (arith, f.made.1, f.room.1))
 
 pub returns : goal.returns
 returns c =
-    let s = c.before.before.before.before.before.before in
+    let s = c in
     let r = ranges s.args.list.now s.args.books.now s.args.queues.now in
     c.newest.ensures
     ∙ ap (λ (m : ℕ). last_below s.args.list.now (earlier_at s.args.list.now m s.args.id.0) (made_of r)) c.get_number-marks.ensures.0

@@ -5,14 +5,14 @@ use Rattle.group_crossing.proofs.put.Goals as goal
 
 pub put_number-requires : goal.put_number-requires
 put_number-requires c =
-    let s = c.before.before.before.before.before.before in
+    let s = c in
     let e = sym c.picks.ensures ∙ c.if-picks.true in
     let room = rw e at s.requires.2 in
     omega (arith, room)
 
 pub overflow_add-result : goal.overflow_add-result
 overflow_add-result c =
-    let s = c.before.before.before.before.before.before.before.before.before in
+    let s = c in
     let e = sym c.picks.ensures ∙ c.if-picks.true in
     let room = rw e at s.requires.2 in
     omega (arith, room)

@@ -23,7 +23,7 @@ load_view-v-requires c = listed-inside (ranges c.before.before.before.before.bef
 
 pub all_or_none-x-requires : goal.all_or_none-x-requires
 all_or_none-x-requires c =
-    let o = c.before.before.before.before.before.before.before.before.before in
+    let o = c in
     let r : Ranges = ranges o.args.list.now o.args.all.now o.args.queues.now in
     let read = c.load_view-v.ensures in
     (newest-stands r o.requires.0 _ read, omega (arith, some-made r o.requires.0), subst (Fresh r) (sym (newest-is r o.requires.0 _ read)) o.requires.1)

@@ -11,8 +11,8 @@ slice_bounds-bytes-end c = part_end _ _ _ c.long-e.ensures c.spread-bytes.ensure
 -- src/calls.rt:100:24
 pub slice_bounds-view_in-end : goal.slice_bounds-view_in-end
 slice_bounds-view_in-end c =
-    let early = c.before.before.before.before.before in
-    part-more early.before.before.before.before.before.before.before.before.before.before.before.args.l _ _ early.before.before.before.before.before.long.ensures early.before.before.before.before.before.before.spread.ensures early.before.step.new.0 (drop (early.before.before.before.before.before.long.result - 0) early.before.before.before.before.before.before.spread.result) early.bytes2.given
+    let early = c in
+    part-more early.before.before.before.before.before.before.before.before.before.before.before.args.l _ _ early.long.ensures early.spread.ensures early.step.new.0 (drop (early.long.result - 0) early.spread.result) early.bytes2.given
 
 -- src/calls.rt:86:1
 pub returns : goal.returns

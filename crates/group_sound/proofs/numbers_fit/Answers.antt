@@ -23,27 +23,27 @@ returns-then-n-gt-MEMBERS c =
 
 pub returns-then-made-lt1 : goal.returns-then-made-lt1
 returns-then-made-lt1 c =
-    let c1 = c.before in
-    let a = c1.before.before.before.args in
+    let c1 = c in
+    let a = c1.args in
     sym (numbers-are a.layout a.n a.made a.room a.marks
-    ∙ rw (eq-eqb _ _ c1.before.before.if1.false, le-leb _ _ c1.before.if2.false, le-leb _ _ c1.if3.false, lt-leb _ _ c.if-made-lt1.true))
+    ∙ rw (eq-eqb _ _ c1.if-layout-ne-LAYOUT.false, le-leb _ _ c1.if-n-lt1.false, le-leb _ _ c1.if-n-gt-MEMBERS.false, lt-leb _ _ c.if-made-lt1.true))
 
 pub returns-then-room-made : goal.returns-then-room-made
 returns-then-room-made c =
-    let c1 = c.before in
-    let c2 = c1.before.before in
-    let a = c2.before.before.args in
+    let c1 = c in
+    let c2 = c1 in
+    let a = c2.args in
     sym (numbers-are a.layout a.n a.made a.room a.marks
-    ∙ rw (eq-eqb _ _ c2.before.if1.false, le-leb _ _ c2.if2.false, le-leb _ _ c1.before.if3.false, le-leb _ _ c1.if4.false, lt-leb _ _ c.if-room-made.true))
+    ∙ rw (eq-eqb _ _ c2.if-layout-ne-LAYOUT.false, le-leb _ _ c2.if-n-lt1.false, le-leb _ _ c1.if-n-gt-MEMBERS.false, le-leb _ _ c1.if-made-lt1.false, lt-leb _ _ c.if-room-made.true))
 
 pub overflow_shr-result : goal.overflow_shr-result
-overflow_shr-result c = let s = c.before.before.before.before.before in omega (arith, s.requires, c.if-room-made.false)
+overflow_shr-result c = let s = c in omega (arith, s.requires, c.if-room-made.false)
 
 pub returns : goal.returns
 returns c =
-    let c1 = c.before in
-    let c2 = c1.before.before in
-    let a = c2.before.before.args in
+    let c1 = c in
+    let c2 = c1 in
+    let a = c2.args in
     ap not (beyond-shift a.marks a.made)
     ∙ sym (numbers-are a.layout a.n a.made a.room a.marks
-    ∙ rw (eq-eqb _ _ c2.before.if1.false, le-leb _ _ c2.if2.false, le-leb _ _ c1.before.if3.false, le-leb _ _ c1.if4.false, le-leb _ _ c.if-room-made.false))
+    ∙ rw (eq-eqb _ _ c2.if-layout-ne-LAYOUT.false, le-leb _ _ c2.if-n-lt1.false, le-leb _ _ c1.if-n-gt-MEMBERS.false, le-leb _ _ c1.if-made-lt1.false, le-leb _ _ c.if-room-made.false))

@@ -16,7 +16,7 @@ returns-then-not-sound c = sym (stopped _ 0 (sym c.sound.ensures ∙ not-true _ 
 
 pub members_sound-requires : goal.members_sound-requires
 members_sound-requires c =
-    let e = c.before.before.before.before.before in
+    let e = c in
     (e.requires.0, e.requires.1, e.requires.2, e.requires.3, list-rises e.args.n (views_in e.args.list.now 0 e.args.made) (sym c.sound.ensures ∙ not-false _ c.if-not-sound.false-raw))
 
 pub returns-then-not-members_sound : goal.returns-then-not-members_sound
@@ -25,7 +25,7 @@ returns-then-not-members_sound c = sym (stopped _ 1 (sym c.members_sound.ensures
 
 pub tables_sound-requires : goal.tables_sound-requires
 tables_sound-requires c =
-    let e = c.before.before.before.before.before.before.before in
+    let e = c in
     (e.requires.0, e.requires.2, e.requires.3, sym c.sound.ensures ∙ not-false _ c.if-not-sound.false-raw)
 
 pub returns : goal.returns

@@ -33,52 +33,52 @@ bounds-queues-0 c = let a = c.args in let r = lent a.list.now a.books.now a.queu
 
 pub get_number-marks-requires : goal.get_number-marks-requires
 get_number-marks-requires c =
-    let t = c.before.before in
-    let a = t.before.before.before.before.before.args in
+    let t = c in
+    let a = t.args in
     let r = lent a.list.now a.books.now a.queues.now in
-    (omega (arith, queues-long r (sym t.before.sizes_fit.ensures ∙ not-false _ t.if1.false)), omega arith)
+    (omega (arith, queues-long r (sym t.sizes_fit.ensures ∙ not-false _ t.if-not-sizes_fit.false-raw)), omega arith)
 
 pub bounds-queues-5 : goal.bounds-queues-5
 bounds-queues-5 c =
-    let t = c.before.before.before.before in
-    let a = t.before.before.before.before.before.args in
+    let t = c in
+    let a = t.args in
     let r = lent a.list.now a.books.now a.queues.now in
-    omega (arith, queues-long r (sym t.before.sizes_fit.ensures ∙ not-false _ t.if1.false))
+    omega (arith, queues-long r (sym t.sizes_fit.ensures ∙ not-false _ t.if-not-sizes_fit.false-raw))
 
 pub numbers_fit-requires : goal.numbers_fit-requires
 numbers_fit-requires c =
-    let t = c.before.before.before.before in
-    let a = t.before.before.before.before.before.args in
+    let t = c in
+    let a = t.args in
     let r = lent a.list.now a.books.now a.queues.now in
-    room-few r (sym t.before.sizes_fit.ensures ∙ not-false _ t.if1.false)
+    room-few r (sym t.sizes_fit.ensures ∙ not-false _ t.if-not-sizes_fit.false-raw)
 
 pub returns-then-not-numbers_fit : goal.returns-then-not-numbers_fit
 unfolding parts_sound
 returns-then-not-numbers_fit c =
-    let g = c.before.before.before in
-    let a = g.before.before.before.before.before.before.before.before.args in
+    let g = c in
+    let a = g.args in
     let r = lent a.list.now a.books.now a.queues.now in
-    let said = numbers-said r _ _ g.get_number.ensures.0 c.numbers_fit.ensures in
+    let said = numbers-said r _ _ g.get_number-marks.ensures.0 c.numbers_fit.ensures in
     sym (ranges-parts r ∙ stopped _ 1 (sym said ∙ not-true _ c.if-not-numbers_fit.true-raw))
 
 pub records_sound-requires : goal.records_sound-requires
 records_sound-requires c =
-    let g = c.before.before.before in
-    let t = g.before.before.before in
-    let a = t.before.before.before.before.before.args in
+    let g = c in
+    let t = g in
+    let a = t.args in
     let r = lent a.list.now a.books.now a.queues.now in
-    let z = sym t.before.sizes_fit.ensures ∙ not-false _ t.if1.false in
-    let m = sym (numbers-said r _ _ g.get_number.ensures.0 c.numbers_fit.ensures) ∙ not-false _ c.if-not-numbers_fit.false-raw in
+    let z = sym t.sizes_fit.ensures ∙ not-false _ t.if-not-sizes_fit.false-raw in
+    let m = sym (numbers-said r _ _ g.get_number-marks.ensures.0 c.numbers_fit.ensures) ∙ not-false _ c.if-not-numbers_fit.false-raw in
     (list-holds r z m, books-long r z, queues-hold r z m, members-few r z m)
 
 pub returns : goal.returns
 unfolding parts_sound
 returns c =
-    let c2 = c.before.before in
-    let g = c2.before.before in
-    let t = g.before.before.before in
-    let a = t.before.before.before.before.before.args in
+    let c2 = c in
+    let g = c2 in
+    let t = g in
+    let a = t.args in
     let r = lent a.list.now a.books.now a.queues.now in
-    let z = sym t.before.sizes_fit.ensures ∙ not-false _ t.if1.false in
-    let m = sym (numbers-said r _ _ g.get_number.ensures.0 c2.numbers_fit.ensures) ∙ not-false _ c.if-not-numbers_fit.false-raw in
+    let z = sym t.sizes_fit.ensures ∙ not-false _ t.if-not-sizes_fit.false-raw in
+    let m = sym (numbers-said r _ _ g.get_number-marks.ensures.0 c2.numbers_fit.ensures) ∙ not-false _ c.if-not-numbers_fit.false-raw in
     c.records_sound.ensures ∙ sym (ranges-parts r ∙ three _ _ _ ∙ rw (z, m))

@@ -11,5 +11,5 @@ returns-in-Refused c = start-refused _ _ _ _ _ c.startable-v.ensures _ _ c.in-Re
 
 pub returns-in-Accepted : goal.returns-in-Accepted
 returns-in-Accepted c =
-    let early = c.before.before.before.before.before in
-    start-accepted _ _ _ _ _ early.before.before.startable.ensures _ _ early.enum_told.given.1 c.no_event.ensures c.book.ensures
+    let early = c in
+    start-accepted _ _ _ _ _ early.startable-v.ensures _ _ early.in-Accepted.is c.no_event.ensures c.book.ensures

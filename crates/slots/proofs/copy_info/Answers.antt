@@ -1,5 +1,4 @@
 -- `slots::copy_info` meets its contract: sender, kind and count are stored, then the views are copied behind them.
-use mathlib.Core.Path.{◌∙◌}
 use mathlib.Core.Logic.{inr}
 use native.Mathlib.Omega.{arith}
 use lib.ListN.{length-set}
@@ -17,14 +16,11 @@ pub move_bytes-requires : goal.move_bytes-requires
 move_bytes-requires c = (inr (omega arith), simp length-set (omega arith), simp length-set (omega arith))
 
 pub move_bytes-requires-2 : goal.move_bytes-requires-2
-move_bytes-requires-2 c = let size = simp length-set at c.move_bytes.auto.0 in (inr (omega arith), omega (arith, size), omega (arith, size))
-
-pub shape_of-b : goal.shape_of-b
-shape_of-b c = c.move_bytes-2.auto.0 ∙ simp length-set at c.move_bytes.auto.0
+move_bytes-requires-2 c = let size = simp length-set at c.move_bytes.auto.b in (inr (omega arith), omega (arith, size), omega (arith, size))
 
 pub returns : goal.returns
 returns c =
-    let start = c.before.before.before.before.before.before.before.before.before in
+    let start = c in
     let a = start.args in
     let bytes : AreBytes a.b.now = λ j. omega (arith, c.slice_known-1.given j) in
     info-copied a.b.now a.at a.q.0 a.settled a.opens a.n bytes (omega arith) start.requires.0 start.requires.1 start.requires.2 start.requires.3 _ _

@@ -12,7 +12,7 @@ loop-i-init c = let a = c.args in (omega arith, refl, paste-zero a.b.now a.to (d
 
 pub loop-i-preserved : goal.loop-i-preserved
 loop-i-preserved c =
-    let start = c.before.before.before in
+    let start = c in
     let a = start.args in
     let at = c.loop-i in (
       omega arith,

@@ -10,9 +10,6 @@ bounds-b-at-2 c = simp length-set (omega arith)
 pub put_number-requires : goal.put_number-requires
 put_number-requires c = simp length-set (omega arith)
 
-pub shape_of-b : goal.shape_of-b
-shape_of-b c = simp length-set at c.put_number.auto.0
-
 pub returns : goal.returns
 unfolding store_short
 returns c = c.put_number.ensures

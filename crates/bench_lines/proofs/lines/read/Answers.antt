@@ -15,13 +15,13 @@ slice_bounds-form_of-end c = sym (length-take-le c.find.result c.before.before.b
 
 pub returns-then-form-eq-UNKNOWN : goal.returns-then-form-eq-UNKNOWN
 returns-then-form-eq-UNKNOWN c =
-    let early = c.before.before.before.before in
-    sym (line-unknown early.before.before.before.args.line.now _ _ early.before.if1.false early.find.ensures c.form_of-form.ensures c.if-form-eq-UNKNOWN.true)
+    let early = c in
+    sym (line-unknown early.before.before.before.args.line.now _ _ early.if1.false early.find.ensures c.form_of-form.ensures c.if-form-eq-UNKNOWN.true)
 
 pub returns-then-end-line : goal.returns-then-end-line
 returns-then-end-line c =
-    let early = c.before.before.before.before.before in
-    sym (line-bare early.before.before.before.args.line.now _ _ early.before.if1.false early.find.ensures c.form_of-form.ensures c.if-form-eq-UNKNOWN.false c.if-end-line.true)
+    let early = c in
+    sym (line-bare early.before.before.before.args.line.now _ _ early.if1.false early.find.ensures c.form_of-form.ensures c.if-form-eq-UNKNOWN.false c.if-end-line.true)
 
 pub overflow_add-from : goal.overflow_add-from
 overflow_add-from c = omega (arith, find-le 32 c.before.before.before.before.before.before.before.before.args.line.now 0)
@@ -37,5 +37,5 @@ read-requires c = rw c.form_of-form.ensures (form-fits _)
 
 pub returns : goal.returns
 returns c =
-    let early = c.before.before.before.before.before in
-    sym (line-whole early.before.before.before.before.before.args.line.now _ _ _ early.before.before.before.if1.false early.before.before.find.ensures early.form_of.ensures c.if-form-eq-UNKNOWN.false c.if-end-line.false c.read.ensures)
+    let early = c in
+    sym (line-whole early.before.before.before.before.before.args.line.now _ _ _ early.if1.false early.find.ensures early.form_of-form.ensures c.if-form-eq-UNKNOWN.false c.if-end-line.false c.read.ensures)

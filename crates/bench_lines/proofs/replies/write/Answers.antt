@@ -13,5 +13,5 @@ slice_bounds-put_front-end c = sym (length-take-le c.put_reply-n.result c.put_re
 
 pub returns : goal.returns
 returns c =
-    let early = c.before.before.before.before.before.before in
-    wrote-same _ _ early.before.before.before.args.out.now _ _ (put-take _ _ _ _ early.put_reply.ensures) c.put_front.ensures
+    let early = c in
+    wrote-same _ _ early.args.out.now _ _ (put-take _ _ _ _ early.put_reply-n.ensures) c.put_front.ensures

@@ -8,6 +8,6 @@ hear_line-requires c k e = sound-now _ (c.before.before.before.before.before.bef
 
 pub returns : goal.returns
 returns c =
-    let early = c.before.before.before.before.before.before in
-    let o = early.before.before.before.before.before.before.before.before in
+    let early = c in
+    let o = early in
     hears-next o.args.bench (record { list = o.args.list.now; books = o.args.all.now; queues = o.args.queues.now }) o.args.line.now _ _ o.requires early.hear_line.ensures

@@ -8,5 +8,5 @@ store-requires c = (omega arith, rw c.record-h.ensures (omega arith))
 
 pub returns : goal.returns
 returns c =
-    let early = c.before.before.before.before in
-    begun _ _ _ _ _ _ _ _ early.before.before.before.before.before.before.before.clear.ensures early.before.before.before.put_numbers.ensures early.record.ensures c.store.ensures
+    let early = c in
+    begun _ _ _ _ _ _ _ _ early.clear.ensures early.put_numbers.ensures early.record-h.ensures c.store.ensures

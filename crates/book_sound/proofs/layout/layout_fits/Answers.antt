@@ -14,8 +14,8 @@ returns-then-not-marks_fit c = sym (layout-are c.args.b.now ∙ rw (eq-eqb _ _ c
 
 pub returns-then-not-counts_fit : goal.returns-then-not-counts_fit
 returns-then-not-counts_fit c =
-    let early = c.before.before.before.before in
-    sym (layout-are early.before.before.args.b.now ∙ rw (eq-eqb _ _ early.if1.false, sym c.marks_fit.ensures ∙ not-false _ c.if-not-marks_fit.false-raw, sym c.counts_fit.ensures ∙ not-true _ c.if-not-counts_fit.true-raw))
+    let early = c in
+    sym (layout-are early.args.b.now ∙ rw (eq-eqb _ _ early.if-b-ne-SIZE.false, sym c.marks_fit.ensures ∙ not-false _ c.if-not-marks_fit.false-raw, sym c.counts_fit.ensures ∙ not-true _ c.if-not-counts_fit.true-raw))
 
 pub overflow_cast-b : goal.overflow_cast-b
 overflow_cast-b c = omega (arith, c.shared_slice_known-2-1.given outgoing_at)
@@ -25,5 +25,5 @@ slots_fit-requires c = omega (arith, outgoing-few c.args.b.now (sym c.counts_fit
 
 pub returns : goal.returns
 returns c =
-    let early = c.before.before.before.before in
-    c.slots_fit.ensures ∙ sym (layout-are early.before.before.before.before.args.b.now ∙ rw (eq-eqb _ _ early.before.before.if1.false, sym early.before.marks_fit.ensures ∙ not-false _ early.if2.false, sym c.counts_fit.ensures ∙ not-false _ c.if-not-counts_fit.false-raw))
+    let early = c in
+    c.slots_fit.ensures ∙ sym (layout-are early.args.b.now ∙ rw (eq-eqb _ _ early.if-b-ne-SIZE.false, sym early.marks_fit.ensures ∙ not-false _ early.if-not-marks_fit.false-raw, sym c.counts_fit.ensures ∙ not-false _ c.if-not-counts_fit.false-raw))

@@ -15,12 +15,12 @@ pub returns-then-limit-b-2 : goal.returns-then-limit-b-2
 unfolding record_in
 returns-then-limit-b-2 c =
     let a = c.args in
-    let early = c.before.before.before.before in
-    sym (positions-are (record_in a.b.now) a.own _ _ early.before.load_seat.ensures early.limit_if.ensures ∙ rw (le-leb _ _ c.if-limit-b.false, lt-leb _ _ c.if-limit-b-2.true))
+    let early = c in
+    sym (positions-are (record_in a.b.now) a.own _ _ early.load_seat-client.ensures early.limit_if-limit.ensures ∙ rw (le-leb _ _ c.if-limit-b.false, lt-leb _ _ c.if-limit-b-2.true))
 
 pub returns : goal.returns
 unfolding record_in
 returns c =
     let a = c.args in
-    let early = c.before.before.before.before.before in
-    sym (positions-are (record_in a.b.now) a.own _ _ early.before.load_seat.ensures early.limit_if.ensures ∙ rw (le-leb _ _ c.if-limit-b.false, le-leb _ _ c.if-limit-b-2.false))
+    let early = c in
+    sym (positions-are (record_in a.b.now) a.own _ _ early.load_seat-client.ensures early.limit_if-limit.ensures ∙ rw (le-leb _ _ c.if-limit-b.false, le-leb _ _ c.if-limit-b-2.false))

@@ -27,19 +27,19 @@ pub returns-then-not-taken_fits : goal.returns-then-not-taken_fits
 unfolding record_in
 returns-then-not-taken_fits c =
     let a = c.args in
-    let early = c.before.before.before.before in
-    sym (record-are a.n (record_in a.b.now) a.own a.new ∙ rw (le-leb _ _ early.before.before.if1.false, le-leb _ _ early.before.if2.false, sym (c.tolds_fit.ensures ∙ ap (λ (t : List ℕ). every a.n (λ (q : ℕ). leb (get_or t q 0) max_ordered)) early.load_tolds.ensures) ∙ not-false _ c.if-not-tolds_fit.false-raw, sym c.taken_fits.ensures ∙ not-true _ c.if-not-taken_fits.true-raw))
+    let early = c in
+    sym (record-are a.n (record_in a.b.now) a.own a.new ∙ rw (le-leb _ _ early.if-n-lt1.false, le-leb _ _ early.if-n-gt-MEMBERS.false, sym (c.tolds_fit.ensures ∙ ap (λ (t : List ℕ). every a.n (λ (q : ℕ). leb (get_or t q 0) max_ordered)) early.load_tolds-tolds.ensures) ∙ not-false _ c.if-not-tolds_fit.false-raw, sym c.taken_fits.ensures ∙ not-true _ c.if-not-taken_fits.true-raw))
 
 pub returns-then-not-positions_fit : goal.returns-then-not-positions_fit
 unfolding record_in
 returns-then-not-positions_fit c =
     let a = c.args in
-    let early = c.before.before.before.before in
-    sym (record-are a.n (record_in a.b.now) a.own a.new ∙ rw (le-leb _ _ early.before.before.before.before.if1.false, le-leb _ _ early.before.before.before.if2.false, sym (early.before.tolds_fit.ensures ∙ ap (λ (t : List ℕ). every a.n (λ (q : ℕ). leb (get_or t q 0) max_ordered)) early.before.before.load_tolds.ensures) ∙ not-false _ early.if3.false, sym c.taken_fits.ensures ∙ not-false _ c.if-not-taken_fits.false-raw, sym c.positions_fit.ensures ∙ not-true _ c.if-not-positions_fit.true-raw))
+    let early = c in
+    sym (record-are a.n (record_in a.b.now) a.own a.new ∙ rw (le-leb _ _ early.if-n-lt1.false, le-leb _ _ early.if-n-gt-MEMBERS.false, sym (early.tolds_fit.ensures ∙ ap (λ (t : List ℕ). every a.n (λ (q : ℕ). leb (get_or t q 0) max_ordered)) early.load_tolds-tolds.ensures) ∙ not-false _ early.if-not-tolds_fit.false-raw, sym c.taken_fits.ensures ∙ not-false _ c.if-not-taken_fits.false-raw, sym c.positions_fit.ensures ∙ not-true _ c.if-not-positions_fit.true-raw))
 
 pub returns : goal.returns
 unfolding record_in
 returns c =
     let a = c.args in
-    let early = c.before.before.before.before in
-    c.views_sound.ensures ∙ sym (record-are a.n (record_in a.b.now) a.own a.new ∙ rw (le-leb _ _ early.before.before.before.before.before.if1.false, le-leb _ _ early.before.before.before.before.if2.false, sym (early.before.before.tolds_fit.ensures ∙ ap (λ (t : List ℕ). every a.n (λ (q : ℕ). leb (get_or t q 0) max_ordered)) early.before.before.before.load_tolds.ensures) ∙ not-false _ early.before.if3.false, sym early.taken_fits.ensures ∙ not-false _ c.if-not-taken_fits.false-raw, sym c.positions_fit.ensures ∙ not-false _ c.if-not-positions_fit.false-raw))
+    let early = c in
+    c.views_sound.ensures ∙ sym (record-are a.n (record_in a.b.now) a.own a.new ∙ rw (le-leb _ _ early.if-n-lt1.false, le-leb _ _ early.if-n-gt-MEMBERS.false, sym (early.tolds_fit.ensures ∙ ap (λ (t : List ℕ). every a.n (λ (q : ℕ). leb (get_or t q 0) max_ordered)) early.load_tolds-tolds.ensures) ∙ not-false _ early.if-not-tolds_fit.false-raw, sym early.taken_fits.ensures ∙ not-false _ c.if-not-taken_fits.false-raw, sym c.positions_fit.ensures ∙ not-false _ c.if-not-positions_fit.false-raw))

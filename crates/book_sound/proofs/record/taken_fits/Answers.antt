@@ -14,12 +14,12 @@ pub returns-then-same_view : goal.returns-then-same_view
 unfolding record_in
 returns-then-same_view c =
     let a = c.args in
-    let early = c.before.before.before.before in
-    taken-within (record_in a.b.now) a.own a.new _ _ early.before.before.before.load_seat.ensures early.before.before.load-seat2.ensures _ early.limit_if.ensures _ _ _ c.if-limit_if-taken.false c.same_view.ensures (rw c.if-same_view.true) c.limit_if-then-same_view.ensures
+    let early = c in
+    taken-within (record_in a.b.now) a.own a.new _ _ early.load_seat-carrier.ensures early.load_seat-client.ensures _ early.limit_if.ensures _ _ _ c.if-limit_if-taken.false c.same_view.ensures (rw c.if-same_view.true) c.limit_if-then-same_view.ensures
 
 pub returns : goal.returns
 unfolding record_in
 returns c =
     let a = c.args in
-    let early = c.before.before.before.before in
-    taken-within (record_in a.b.now) a.own a.new _ _ early.before.before.before.load_seat.ensures early.before.before.load-seat2.ensures _ early.limit_if.ensures _ _ _ c.if-limit_if-taken.false c.same_view.ensures (rw c.if-same_view.false) c.limit_if-2.ensures
+    let early = c in
+    taken-within (record_in a.b.now) a.own a.new _ _ early.load_seat-carrier.ensures early.load_seat-client.ensures _ early.limit_if.ensures _ _ _ c.if-limit_if-taken.false c.same_view.ensures (rw c.if-same_view.false) c.limit_if-2.ensures

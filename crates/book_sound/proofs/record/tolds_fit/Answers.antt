@@ -24,6 +24,6 @@ loop-q-preserved c =
 
 pub returns : goal.returns
 returns c =
-    let s = c.before.before in
+    let s = c in
     let z : length s.args.tolds ≡ 8 = s.well_formed.1.0.1.0.1 in
     sym (tolds-end s.args.n s.args.tolds c.loop-q.q (omega arith) c.loop-q.invariant)

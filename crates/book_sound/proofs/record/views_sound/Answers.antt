@@ -12,23 +12,23 @@ returns-then-not-set_fits c =
 pub returns-then-not-all_fit : goal.returns-then-not-all_fit
 returns-then-not-all_fit c =
     let a = c.args in
-    let early = c.before.before.before.before.before in
-    sym (views-in a.b.now a.n early.before.before.requires.1 _ early.load_view.ensures ∙ rw (sym c.set_fits.ensures ∙ not-false _ c.if-not-set_fits.false-raw, sym c.all_fit.ensures ∙ not-true _ c.if-not-all_fit.true-raw))
+    let early = c in
+    sym (views-in a.b.now a.n early.requires.1 _ early.load_view-settled.ensures ∙ rw (sym c.set_fits.ensures ∙ not-false _ c.if-not-set_fits.false-raw, sym c.all_fit.ensures ∙ not-true _ c.if-not-all_fit.true-raw))
 
 pub returns-then-not-seat_fits : goal.returns-then-not-seat_fits
 returns-then-not-seat_fits c =
     let a = c.args in
-    let early = c.before.before.before.before in
-    sym (views-in a.b.now a.n early.before.before.before.before.before.requires.1 _ early.before.before.before.load_view.ensures ∙ rw (sym early.before.set_fits.ensures ∙ not-false _ early.if1.false, sym c.all_fit.ensures ∙ not-false _ c.if-not-all_fit.false-raw, sym c.seat_fits.ensures ∙ not-true _ c.if-not-seat_fits.true-raw))
+    let early = c in
+    sym (views-in a.b.now a.n early.requires.1 _ early.load_view-settled.ensures ∙ rw (sym early.set_fits.ensures ∙ not-false _ early.if-not-set_fits.false-raw, sym c.all_fit.ensures ∙ not-false _ c.if-not-all_fit.false-raw, sym c.seat_fits.ensures ∙ not-true _ c.if-not-seat_fits.true-raw))
 
 pub returns-then-not-seat_fits-2 : goal.returns-then-not-seat_fits-2
 returns-then-not-seat_fits-2 c =
     let a = c.args in
-    let early = c.before.before.before.before in
-    sym (views-in a.b.now a.n early.before.before.before.before.before.before.before.requires.1 _ early.before.before.before.before.before.load_view.ensures ∙ rw (sym early.before.before.before.set_fits.ensures ∙ not-false _ early.before.before.if1.false, sym early.before.all_fit.ensures ∙ not-false _ early.if2.false, sym c.seat_fits.ensures ∙ not-false _ c.if-not-seat_fits.false-raw, sym c.seat_fits-2.ensures ∙ not-true _ c.if-not-seat_fits-2.true-raw))
+    let early = c in
+    sym (views-in a.b.now a.n early.requires.1 _ early.load_view-settled.ensures ∙ rw (sym early.set_fits.ensures ∙ not-false _ early.if-not-set_fits.false-raw, sym early.all_fit.ensures ∙ not-false _ early.if-not-all_fit.false-raw, sym c.seat_fits.ensures ∙ not-false _ c.if-not-seat_fits.false-raw, sym c.seat_fits-2.ensures ∙ not-true _ c.if-not-seat_fits-2.true-raw))
 
 pub returns : goal.returns
 returns c =
     let a = c.args in
-    let early = c.before.before.before.before in
-    c.rise_above.ensures ∙ sym (views-in a.b.now a.n early.before.before.before.before.before.before.before.before.requires.1 _ early.before.before.before.before.before.before.load_view.ensures ∙ rw (sym early.before.before.before.before.set_fits.ensures ∙ not-false _ early.before.before.before.if1.false, sym early.before.before.all_fit.ensures ∙ not-false _ early.before.if2.false, sym early.seat_fits.ensures ∙ not-false _ c.if-not-seat_fits.false-raw, sym c.seat_fits-2.ensures ∙ not-false _ c.if-not-seat_fits-2.false-raw))
+    let early = c in
+    c.rise_above.ensures ∙ sym (views-in a.b.now a.n early.requires.1 _ early.load_view-settled.ensures ∙ rw (sym early.set_fits.ensures ∙ not-false _ early.if-not-set_fits.false-raw, sym early.all_fit.ensures ∙ not-false _ early.if-not-all_fit.false-raw, sym early.seat_fits.ensures ∙ not-false _ c.if-not-seat_fits.false-raw, sym c.seat_fits-2.ensures ∙ not-false _ c.if-not-seat_fits-2.false-raw))

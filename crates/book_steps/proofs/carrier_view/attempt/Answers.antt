@@ -23,17 +23,17 @@ empty-requires c = (omega (arith, sound-size _ c.before.before.before.before.bef
 
 pub store-requires : goal.store-requires
 store-requires c =
-    let early = c.before.before.before.before in
-    let start = early.before.before.before.before.before.before.before.before.before.before.before in
-    let loaded = early.before.before.before.before.before.before.before.before in
-    (emptied-size start.args.b.now _ (inward_at loaded.load.result.side) early.empty.ensures (sound-size _ start.requires), attempt-few _ _ loaded.load.ensures _ (attempt-lent _ _ _ early.before.before.before.before.before.before.lend.ensures) early.before.before.before.before.enum_told.given.1)
+    let early = c in
+    let start = early in
+    let loaded = early in
+    (emptied-size start.args.b.now _ (inward_at loaded.load-h.result.side) early.empty.ensures (sound-size _ start.requires), attempt-few _ _ loaded.load-h.ensures _ (attempt-lent _ _ _ early.lend-s.ensures) early.in-Accepted.is)
 
 pub returns-in-Refused : goal.returns-in-Refused
 returns-in-Refused c =
-    let early = c.before.before.before.before in
-    attempt-refused _ _ early.before.before.load.ensures _ (attempt-lent _ _ _ early.lend.ensures) _ _ c.in-Refused.is c.refuse.ensures
+    let early = c in
+    attempt-refused _ _ early.load-h.ensures _ (attempt-lent _ _ _ early.lend-s.ensures) _ _ c.in-Refused.is c.refuse.ensures
 
 pub returns-in-Accepted : goal.returns-in-Accepted
 returns-in-Accepted c =
-    let early = c.before.before.before.before.before.before.before in
-    attempt-accepted _ _ early.before.before.before.before.before.before.before.before.load.ensures _ (attempt-lent _ _ _ early.before.before.before.before.before.before.lend.ensures) early.before.before.before.before.enum_told.given.1 _ early.before.before.attempted.ensures _ _ early.empty.ensures c.store.ensures
+    let early = c in
+    attempt-accepted _ _ early.load-h.ensures _ (attempt-lent _ _ _ early.lend-s.ensures) early.in-Accepted.is _ early.attempted-e.ensures _ _ early.empty.ensures c.store.ensures

@@ -19,5 +19,5 @@ keep-requires c = (omega (arith, sound-size _ c.before.before.before.before.befo
 
 pub returns : goal.returns
 returns c =
-    let early = c.before.before.before.before in
-    collect-done _ _ early.before.before.before.load.ensures _ (collect-lent _ _ _ early.before.lend.ensures) _ early.no_event.ensures _ _ c.keep.ensures
+    let early = c in
+    collect-done _ _ early.load-h.ensures _ (collect-lent _ _ _ early.lend-s.ensures) _ early.no_event-e.ensures _ _ c.keep.ensures

@@ -4,6 +4,6 @@ use Rattle.book_steps.proofs.carrier_view.enter.Goals as goal
 
 pub returns : goal.returns
 returns c =
-    let early = c.before.before.before.before.before.before in
-    let start = early.before.before.before in
+    let early = c in
+    let start = early in
     enter-done start.args.b.now _ _ start.args.v start.requires early.store_seat.ensures c.clear.ensures

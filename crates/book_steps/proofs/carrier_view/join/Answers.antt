@@ -16,7 +16,7 @@ announce-requires c =
     (omega (arith, layout.size), layout.side, layout.opens)
 
 pub enter-requires : goal.enter-requires
-enter-requires c = omega (arith, c.announce.auto.0, sound-size _ c.before.before.before.before.before.before.before.before.before.before.before.before.requires)
+enter-requires c = omega (arith, c.announce.auto.b, sound-size _ c.before.before.before.before.before.before.before.before.before.before.before.before.requires)
 
 pub returns-in-Refused : goal.returns-in-Refused
 returns-in-Refused c = join-refused _ _ _ c.load_seat-carrier.ensures _ c.join_verdict.ensures _ _ c.in-Refused.is c.refuse.ensures

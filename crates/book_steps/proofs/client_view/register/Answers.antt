@@ -17,7 +17,7 @@ pub say-requires : goal.say-requires
 say-requires c = (omega (arith, sound-size _ c.before.before.before.before.before.before.before.before.before.before.before.requires), register-fits _ _ c.load_current-h.ensures _ c.register-verdict.ensures _ c.spoken-m.ensures c.in-Accepted.is)
 
 pub bounds-b-19 : goal.bounds-b-19
-bounds-b-19 c = omega (arith, sound-size _ c.before.before.before.before.before.before.before.before.before.before.before.before.before.before.requires, c.say.auto.0)
+bounds-b-19 c = omega (arith, sound-size _ c.before.before.before.before.before.before.before.before.before.before.before.before.before.before.requires, c.say.auto.b)
 
 pub returns-in-Refused : goal.returns-in-Refused
 returns-in-Refused c = register-refused _ _ c.load_current-h.ensures _ c.register-verdict.ensures _ _ c.in-Refused.is c.refuse.ensures

@@ -14,7 +14,7 @@ pub say-requires : goal.say-requires
 say-requires c = (omega (arith, sound-size _ c.before.before.before.before.before.before.before.before.before.before.requires), tell-fits _ _ c.load_current-h.ensures _ c.tell-verdict.ensures _ c.spoken-m.ensures c.in-Accepted.is)
 
 pub bounds-b-21 : goal.bounds-b-21
-bounds-b-21 c = omega (arith, sound-size _ c.before.before.before.before.before.before.before.before.before.before.before.before.before.requires, c.say.auto.0)
+bounds-b-21 c = omega (arith, sound-size _ c.before.before.before.before.before.before.before.before.before.before.before.before.before.requires, c.say.auto.b)
 
 pub returns-in-Refused : goal.returns-in-Refused
 returns-in-Refused c = tell-refused _ _ c.load_current-h.ensures _ c.tell-verdict.ensures _ _ c.in-Refused.is c.refuse.ensures

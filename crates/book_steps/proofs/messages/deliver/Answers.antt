@@ -3,7 +3,7 @@ use mathlib.Core.Path.{refl}
 use Prim.Native.Nat.{◌+◌}
 use native.Mathlib.Omega.{arith}
 use Rattle.book_steps.proofs.Committed.{sound-size, sound-layout}
-use Rattle.book_steps.proofs.TakeLaws.{set-ready, set_long, took-carried, took-registered, took-told}
+use Rattle.book_steps.proofs.TakeLaws.{set-ready, took-carried, took-registered, took-told}
 use Rattle.book_steps.proofs.messages.deliver.Goals as goal
 
 pub inform-requires : goal.inform-requires
@@ -20,7 +20,7 @@ bounds-b-q c = let pre = c.requires in omega (arith, sound-size _ pre.0, pre.3)
 
 pub count-requires : goal.count-requires
 count-requires c =
-    let s = c.before.before.before.before.before.before.before.before in
+    let s = c in
     set-ready s.args.b.now _ (omega (arith, sound-size _ s.requires.0), s.requires.1) (26 + s.args.e.sender.0) c.in-Told.k (omega arith) refl
 
 pub returns-in-Client : goal.returns-in-Client
@@ -31,9 +31,6 @@ returns-in-Info c = took-carried _ _ _ _ _ _ _ c.in-Info.is c.inform.ensures
 
 pub returns-in-Registered : goal.returns-in-Registered
 returns-in-Registered c = let note = c.note in took-carried _ _ _ _ _ _ _ c.in-Registered.is (took-registered _ _ _ note.ensures.0 _ note.ensures.1)
-
-pub shape_of-b-in-Told : goal.shape_of-b-in-Told
-shape_of-b-in-Told c = let a = c.args in set_long a.b.now _ (26 + a.e.sender.0) c.in-Told.k c.count.ensures.1
 
 pub returns-in-Told : goal.returns-in-Told
 returns-in-Told c = let count = c.count in took-carried _ _ _ _ _ _ _ c.in-Told.is (took-told _ _ _ count.ensures.0 _ _ count.ensures.1)

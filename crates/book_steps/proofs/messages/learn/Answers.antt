@@ -10,7 +10,7 @@ use Rattle.book_steps.proofs.messages.learn.Goals as goal
 
 pub returns-then-opens-gt-OPEN : goal.returns-then-opens-gt-OPEN
 returns-then-opens-gt-OPEN c =
-    let s = c.before.before.before.before.before.before.before.before.before.before.before in
+    let s = c in
     let e = held-merged _ _ _ _ _ _ _ s.requires.2 c.settled_by-settled.ensures c.merge-merged.ensures in
     over-info s.args.q.0 _ _ _ _ e _ c.if-opens-gt-OPEN.true c.refuse.ensures
 
@@ -22,7 +22,7 @@ note-requires c =
 
 pub returns : goal.returns
 returns c =
-    let s = c.before.before.before.before.before.before.before.before.before.before.before.before.before.before.before.before.before.before in
+    let s = c in
     let e = held-merged _ _ _ _ _ _ _ s.requires.2 c.settled_by-settled.ensures c.merge-merged.ensures in
     let note = c.note in
     took-info s.args.q.0 _ _ _ _ e _ c.if-opens-gt-OPEN.false note.ensures.0 _ (note.ensures.1 ∙ ap (λ (z : List ℕ). one_more (noted infos_at s.args.q.0 z)) c.store_held.ensures)

@@ -3,14 +3,11 @@ use mathlib.Core.Path.{refl, ap, ◌∙◌}
 use Prim.Native.Nat.{ℕ}
 use lib.ListN.{set}
 use Rattle.book_steps.specs.Acts.{one_more, noted}
-use Rattle.book_steps.proofs.TakeLaws.{set-ready, set_long}
+use Rattle.book_steps.proofs.TakeLaws.{set-ready}
 use Rattle.book_steps.proofs.messages.note.Goals as goal
 
 pub count-requires : goal.count-requires
-count-requires c = let s = c.before.before.before.before in set-ready s.args.b.now _ (s.requires.0, s.requires.1) s.args.at c.with_member.result s.requires.3 refl
-
-pub shape_of-b : goal.shape_of-b
-shape_of-b c = let a = c.args in set_long a.b.now _ a.at c.with_member.result c.count.ensures.1
+count-requires c = let s = c in set-ready s.args.b.now _ (s.requires.0, s.requires.1) s.args.at c.with_member.result s.requires.3 refl
 
 pub returns : goal.returns
 unfolding noted

@@ -14,7 +14,7 @@ gaining-c-requires c = let sound = c.before.before.requires.0 in (omega (arith, 
 
 pub gain-requires : goal.gain-requires
 gain-requires c =
-    let start = c.before.before.before.before in
+    let start = c in
     let pre = start.requires in
     let room = gain-room _ pre.0 pre.2 pre.1 in
     rw c.gaining-c.ensures (room, omega (arith, sound-size _ pre.0, gaining-fits start.args.b.now (sound-layout _ pre.0).side))

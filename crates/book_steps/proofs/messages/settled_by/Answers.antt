@@ -8,10 +8,10 @@ returns-then-x-own c = settled-own _ _ _ c.load_view-own.ensures c.if-x-own.true
 
 pub returns-in-Found : goal.returns-in-Found
 returns-in-Found c =
-    let s = c.before.before.before.before.before.before.before.before.before.before in
+    let s = c in
     settled-found _ _ _ c.load_view-own.ensures s.requires.1 c.if-x-own.false _ (sym c.find.ensures ∙ c.in-Found.is)
 
 pub returns-in-Missing : goal.returns-in-Missing
 returns-in-Missing c =
-    let s = c.before.before.before.before.before.before.before.before.before in
+    let s = c in
     settled-new _ _ _ c.load_view-own.ensures s.requires.1 c.if-x-own.false (sym c.find.ensures ∙ c.in-Missing.is)

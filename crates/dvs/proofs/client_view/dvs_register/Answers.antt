@@ -7,5 +7,5 @@ returns-then-event-ne-EVENT c = shows-unsized _ _ _ _ _ c.if-event-ne-EVENT.true
 
 pub returns : goal.returns
 returns c =
-    let early = c.before.before.before.before.before.before in
-    shows-call _ _ _ _ _ _ _ _ early.before.before.if1.false early.register.ensures c.answer.ensures
+    let early = c in
+    shows-call _ _ _ _ _ _ _ _ early.if-event-ne-EVENT.false early.register-r.ensures c.answer.ensures

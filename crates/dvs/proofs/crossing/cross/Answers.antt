@@ -10,10 +10,10 @@ returns-then-count-ne-LENGTH c =
 
 pub returns : goal.returns
 returns c =
-    let c6 = c.before.before.before.before.before.before in
-    let c8 = c6.before.before in
-    let c9 = c8.before in
-    let c15 = c9.before.before.before.before.before.before in
+    let c6 = c in
+    let c8 = c6 in
+    let c9 = c8 in
+    let c15 = c9 in
     let a = c15.args in
     crosses-call (ranges a.list.now a.books.now a.queues.now) a.hold a.set _ _ _ _ _ _ _
-    c9.if1.false c8.narrow.ensures c6.query.ensures c.measure.ensures
+    c9.if-count-ne-LENGTH.false c8.narrow.ensures c6.query-r.ensures c.measure.ensures

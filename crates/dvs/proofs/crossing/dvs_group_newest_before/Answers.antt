@@ -12,9 +12,9 @@ returns-then-found-ne-FOUND c =
 
 pub returns-then-not-sound : goal.returns-then-not-sound
 returns-then-not-sound c =
-    let t = c.before.before.before in
-    let a = t.before.before.before.before.before.args in
-    seeks-unsound (ranges a.list.now a.books.now a.queues.now) a.view _ t.if1.false _
+    let t = c in
+    let a = t.args in
+    seeks-unsound (ranges a.list.now a.books.now a.queues.now) a.view _ t.if-found-ne-FOUND.false _
     (sym c.sound.ensures ∙ not-true _ c.if-not-sound.true-raw) c.refused-then-not-sound.ensures
 
 pub newest_before-f-requires : goal.newest_before-f-requires
@@ -22,8 +22,8 @@ newest_before-f-requires c = sym c.sound.ensures ∙ not-false _ c.if-not-sound.
 
 pub returns : goal.returns
 returns c =
-    let n = c.before.before.before.before in
-    let t = n.before.before.before in
-    let a = t.before.before.before.before.before.args in
-    seeks-call (ranges a.list.now a.books.now a.queues.now) a.view _ t.if1.false _ _
-    (sym n.before.before.sound.ensures ∙ not-false _ n.before.if2.false) n.newest_before.ensures c.put_found.ensures
+    let n = c in
+    let t = n in
+    let a = t.args in
+    seeks-call (ranges a.list.now a.books.now a.queues.now) a.view _ t.if-found-ne-FOUND.false _ _
+    (sym n.sound.ensures ∙ not-false _ n.if-not-sound.false-raw) n.newest_before-f.ensures c.put_found.ensures

@@ -4,5 +4,5 @@ use Rattle.dvs.proofs.library.group_size.Goals as goal
 
 pub returns : goal.returns
 returns c =
-    let early = c.before.before.before.before in
-    group-sizes _ _ _ _ _ _ _ _ _ early.before.pick.ensures early.pick2.ensures c.pick-step.ensures c.pick-tables.ensures c.pick-books.ensures c.pick.ensures
+    let early = c in
+    group-sizes _ _ _ _ _ _ _ _ _ early.pick-found.ensures early.pick-answer.ensures c.pick-step.ensures c.pick-tables.ensures c.pick-books.ensures c.pick.ensures

@@ -12,13 +12,13 @@ returns-then-length-ne-LENGTH c = writes-unmeasured _ _ _ c.if-message-ne-RECORD
 
 pub returns-then-not-known : goal.returns-then-not-known
 returns-then-not-known c =
-    let early = c.before.before.before.before in
-    writes-unknown _ _ _ early.before.if1.false early.if2.false _ (sym c.known.ensures ∙ not-true _ c.if-not-known.true-raw) c.refused-then-not-known.ensures
+    let early = c in
+    writes-unknown _ _ _ early.if-message-ne-RECORD.false early.if-length-ne-LENGTH.false _ (sym c.known.ensures ∙ not-true _ c.if-not-known.true-raw) c.refused-then-not-known.ensures
 
 pub write-r-requires : goal.write-r-requires
 write-r-requires c = (c.if-message-ne-RECORD.false, sym c.known.ensures ∙ not-false _ c.if-not-known.false-raw)
 
 pub returns : goal.returns
 returns c =
-    let early = c.before.before.before.before.before.before in
-    writes-call _ _ _ early.before.before.before.before.before.before.if1.false early.before.before.before.before.before.if2.false _ _ _ _ (sym early.before.before.before.known.ensures ∙ not-false _ early.before.before.if3.false) early.write.ensures c.measure.ensures
+    let early = c in
+    writes-call _ _ _ early.if-message-ne-RECORD.false early.if-length-ne-LENGTH.false _ _ _ _ (sym early.known.ensures ∙ not-false _ early.if-not-known.false-raw) early.write-r.ensures c.measure.ensures

@@ -1,5 +1,5 @@
 -- `group::start::lay_books` meets its contract: after p turns the members below p have their books.
-use mathlib.Core.Path.{◌≡◌, refl, sym, ap, ◌∙◌}
+use mathlib.Core.Path.{◌≡◌, refl, ap, ◌∙◌}
 use Prim.Native.Nat.{ℕ, ◌+◌, ◌-◌, ◌*◌}
 use native.Mathlib.Omega.{arith}
 use native.Mathlib.Numerals.{add-one}
@@ -31,9 +31,6 @@ loop-p-preserved c =
       l.invariant.2,
       rw (add-one l.p) (lay-turn a.members a.first l.p _ l.all _ (book_size * l.p + book_size - book_size * l.p) (omega arith) l.invariant.2 (l.invariant.1 ∙ l.invariant.2) (omega arith) l.invariant.3 c.book.ensures),
     )
-
-pub shape_of-all : goal.shape_of-all
-shape_of-all c = let l = c.loop-p in l.invariant.1 ∙ l.invariant.2 ∙ sym c.requires.0
 
 pub returns : goal.returns
 returns c =

@@ -7,5 +7,5 @@ use Rattle.group.proofs.start.lay_list.Goals as goal
 
 pub returns : goal.returns
 returns c =
-    let early = c.before.before.before.before.before.before in
-    c.store_view.ensures ∙ ap (λ (z : List ℕ). store_view z 0 (first_view early.before.before.before.args.first)) early.clear.ensures
+    let early = c in
+    c.store_view.ensures ∙ ap (λ (z : List ℕ). store_view z 0 (first_view early.args.first)) early.clear.ensures

@@ -24,23 +24,17 @@ laid-length n z d e h = length-set {A = ℕ} d layout_at layout_number ∙ marke
 
 pub put_number-requires : goal.put_number-requires
 put_number-requires c =
-    let s = c.before.before.before.before.before.before in
+    let s = c in
     let n = length s.args.queues.now in
     rw c.clear.ensures (omega (arith, s.requires, length-set {A = ℕ} (replicate n 0) 0 1, length-replicate {A = ℕ} n 0))
 
 pub bounds-queues-5 : goal.bounds-queues-5
 bounds-queues-5 c =
-    let c6 = c.before.before.before.before.before.before in
-    let s = c6.before.before.before in
+    let c6 = c in
+    let s = c6 in
     omega (arith, s.requires, marked-length (length s.args.queues.now) _ _ c6.clear.ensures c.put_number.ensures)
-
-pub shape_of-queues : goal.shape_of-queues
-shape_of-queues c =
-    let c6 = c.before.before.before.before.before.before in
-    let s = c6.before.before.before in
-    laid-length (length s.args.queues.now) _ _ c6.clear.ensures c.put_number.ensures
 
 pub returns : goal.returns
 returns c =
-    let c6 = c.before.before.before.before.before.before in
+    let c6 = c in
     ap (λ (z : List ℕ). set z layout_at layout_number) (c.put_number.ensures ∙ ap marked c6.clear.ensures)

@@ -11,14 +11,14 @@ lay_list-requires c =
 pub lay_books-requires : goal.lay_books-requires
 lay_books-requires c =
     let a = c.before.before.before.before.before.before.before.before.before.before.before.before.before.before.args in
-    let early = c.before.before.before.before.before in
-    (books-long a.members a.first (record { list = a.list.now; books = a.all.now; queues = a.queues.now }) (sym early.enum_told.given.1 ∙ early.before.before.startable.ensures), members-few a.members a.first (record { list = a.list.now; books = a.all.now; queues = a.queues.now }) (sym early.enum_told.given.1 ∙ early.before.before.startable.ensures))
+    let early = c in
+    (books-long a.members a.first (record { list = a.list.now; books = a.all.now; queues = a.queues.now }) (sym early.in-Accepted.is ∙ early.startable-v.ensures), members-few a.members a.first (record { list = a.list.now; books = a.all.now; queues = a.queues.now }) (sym early.in-Accepted.is ∙ early.startable-v.ensures))
 
 pub lay_queues-requires : goal.lay_queues-requires
 lay_queues-requires c =
     let a = c.before.before.before.before.before.before.before.before.before.before.before.before.before.before.before.before.before.before.args in
-    let early = c.before.before.before.before.before.before.before.before.before in
-    queues-room a.members a.first (record { list = a.list.now; books = a.all.now; queues = a.queues.now }) (sym early.enum_told.given.1 ∙ early.before.before.startable.ensures)
+    let early = c in
+    queues-room a.members a.first (record { list = a.list.now; books = a.all.now; queues = a.queues.now }) (sym early.in-Accepted.is ∙ early.startable-v.ensures)
 
 pub returns-in-Refused : goal.returns-in-Refused
 returns-in-Refused c =
@@ -29,5 +29,5 @@ pub returns-in-Accepted : goal.returns-in-Accepted
 unfolding start_ranges
 returns-in-Accepted c =
     let a = c.before.before.before.before.before.before.before.before.before.before.before.before.before.before.before.before.before.before.before.before.before.args in
-    let early = c.before.before.before.before.before.before in
-    start-accepted a.members a.first (record { list = a.list.now; books = a.all.now; queues = a.queues.now }) _ (sym early.before.before.before.before.before.before.enum_told.given.1 ∙ early.before.before.before.before.before.before.before.before.startable.ensures) early.before.before.before.before.lay_list.ensures early.lay_books.ensures c.lay_queues.ensures
+    let early = c in
+    start-accepted a.members a.first (record { list = a.list.now; books = a.all.now; queues = a.queues.now }) _ (sym early.in-Accepted.is ∙ early.startable-v.ensures) early.lay_list.ensures early.lay_books.ensures c.lay_queues.ensures

@@ -7,7 +7,7 @@ use Rattle.group_form.proofs.AskLaws.{passed}
 use Rattle.group_form.proofs.asks.passes_held.Given as goal
 
 abbrev pub invariant-loop-p : goal.invariant-loop-p
-invariant-loop-p l = Below (λ l.p. not (has l.v.set l.p) || passed l.all l.v l.p) l.p
+invariant-loop-p l = Below (λ p. not (has l.v.set p) || passed l.all l.v p) l.p
 
 abbrev pub decreases-loop-p : goal.decreases-loop-p
 decreases-loop-p l = l.n - l.p

@@ -21,8 +21,8 @@ pub returns-in_default : goal.returns-in_default
 returns-in_default c =
     let a = c.args in
     let l = c.loop-p in
-    let test = c.before.before.before.before.before.before.before.before.before.before.before.before in
-    let within = sym test.before.contains.ensures ∙ test.if1.true in
+    let test = c in
+    let within = sym test.contains.ensures ∙ test.if-contains.true in
     let done = c.repeat-x.ensures in
     eaches-stop (ranges a.list.now a.all.now a.queues.now) a.kind a.k a.v (ranges l.list l.all l.queues) l.p
     l.invariant.0 (omega arith) within _ _ done c.in_default.is
@@ -39,15 +39,6 @@ loop-p-preserved c =
     (eaches-go r a.kind a.k a.v d l.p l.invariant.0 (omega arith) (inside ∙ w.0.taken) _ _ w.4.ensures w.12.given.1, search rules, search rules, search rules, λ k. w.4.ensures.stays (l.invariant.4 k)))
     (λ w. rw (w.1, w.2, w.3) (eaches-pass r a.kind a.k a.v d l.p l.invariant.0 (omega arith) (inside ∙ w.0.left), l.invariant.1, l.invariant.2, l.invariant.3, l.invariant.4))
     c.if-contains.branch
-
-pub shape_of-list : goal.shape_of-list
-shape_of-list c = c.loop-p.invariant.1
-
-pub shape_of-all : goal.shape_of-all
-shape_of-all c = c.loop-p.invariant.2
-
-pub shape_of-queues : goal.shape_of-queues
-shape_of-queues c = c.loop-p.invariant.3
 
 pub returns : goal.returns
 returns c =

@@ -18,8 +18,8 @@ each-ordered-requires c k =
 pub returns-in_default-ordered : goal.returns-in_default-ordered
 unfolding exchange_steps
 returns-in_default-ordered c =
-    let one = c.before.before.before.before.before.before.before.before.before.before.before.before in
-    drove-then one.before.before.before.before.before.before.before.before.each.ensures one.enum_told.given.1
+    let one = c in
+    drove-then one.each-passed.ensures one.in-Accepted.is
     (drove-stops c.each-ordered.ensures c.in_default-ordered.is _)
 
 pub overflow_cast-k : goal.overflow_cast-k
@@ -34,11 +34,11 @@ each-requires c k =
 pub returns : goal.returns
 unfolding exchange_steps
 returns c =
-    let k = c.before.before.before.before.before.before.before.before.before.before in
-    let two = k.before in
-    let one = two.before.before.before.before.before.before.before.before.before.before.before.before in
-    let v = one.before.before.before.before.before.before.before.before.before.before.before.before.before.before.before.args.v in
-    rw (servers-ones v k.struct_known.given.1.0.fits)
-    (drove-then one.before.before.before.before.before.before.before.before.each.ensures one.enum_told.given.1
-    (drove-then two.before.before.before.before.before.before.before.before.each2.ensures two.enum-told3.given.1
+    let k = c in
+    let two = k in
+    let one = two in
+    let v = one.args.v in
+    rw (servers-ones v k.struct_known-1.given.1.0.fits)
+    (drove-then one.each-passed.ensures one.in-Accepted.is
+    (drove-then two.each-ordered.ensures two.in-Accepted-ordered.is
     c.each.ensures))

@@ -22,9 +22,9 @@ pub returns-in_default : goal.returns-in_default
 returns-in_default c =
     let a = c.args in
     let l = c.loop-i in
-    let x = c.before.before.before.before.before.before.before.before in
-    let went = x.next.ensures in
-    let given : Given (asked a.kind a.p.0 a.id.0) = record { first = omega (arith, x.before.before.struct_known.given.0.fits); second = omega (arith, x.before.struct-known2.given.0.fits) } in
+    let x = c in
+    let went = x.next-x.ensures in
+    let given : Given (asked a.kind a.p.0 a.id.0) = record { first = omega (arith, x.struct_known-1.given.0.fits); second = omega (arith, x.struct_known-in-loop-i-1.given.0.fits) } in
     repeats-stop (ranges a.list.now a.all.now a.queues.now) (asked a.kind a.p.0 a.id.0) a.k (ranges l.list l.all l.queues) l.i
     l.invariant.0 _ _ (omega arith) given went c.in_default.is
 
@@ -32,9 +32,9 @@ pub loop-i-preserved : goal.loop-i-preserved
 loop-i-preserved c =
     let a = c.args in
     let l = c.loop-i in
-    let x = c.before.before.before.before.before.before.before.before in
-    let went = x.next.ensures in
-    let given : Given (asked a.kind a.p.0 a.id.0) = record { first = omega (arith, x.before.before.struct_known.given.0.fits); second = omega (arith, x.before.struct-known2.given.0.fits) } in (
+    let x = c in
+    let went = x.next-x.ensures in
+    let given : Given (asked a.kind a.p.0 a.id.0) = record { first = omega (arith, x.struct_known-1.given.0.fits); second = omega (arith, x.struct_known-in-loop-i-1.given.0.fits) } in (
       repeats-go (ranges a.list.now a.all.now a.queues.now) (asked a.kind a.p.0 a.id.0) a.k (ranges l.list l.all l.queues) l.i
           l.invariant.0 _ _ (omega arith) given went c.in-Accepted.is,
       search rules,
@@ -42,15 +42,6 @@ loop-i-preserved c =
       search rules,
       (λ k. went-stays _ _ _ _ given went (l.invariant.4 k)),
     )
-
-pub shape_of-list : goal.shape_of-list
-shape_of-list c = c.loop-i.invariant.1
-
-pub shape_of-all : goal.shape_of-all
-shape_of-all c = c.loop-i.invariant.2
-
-pub shape_of-queues : goal.shape_of-queues
-shape_of-queues c = c.loop-i.invariant.3
 
 pub returns : goal.returns
 returns c =

@@ -15,8 +15,8 @@ exchange-exchanged-requires c k =
 pub returns-in_default-exchanged : goal.returns-in_default-exchanged
 unfolding round_steps
 returns-in_default-exchanged c =
-    let one = c.before.before.before.before.before.before.before.before.before.before.before.before in
-    drove-then one.before.before.before.before.before.before.before.before.each.ensures one.enum_told.given.1
+    let one = c in
+    drove-then one.each-begun.ensures one.in-Accepted.is
     (drove-stops c.exchange-exchanged.ensures c.in_default-exchanged.is _)
 
 pub each-requires : goal.each-requires
@@ -28,8 +28,8 @@ each-requires c k =
 pub returns : goal.returns
 unfolding round_steps
 returns c =
-    let two = c.before.before.before.before.before.before.before.before.before.before in
-    let one = two.before.before.before.before.before.before.before.before.before.before.before.before in
-    drove-then one.before.before.before.before.before.before.before.before.each.ensures one.enum_told.given.1
-    (drove-then two.before.before.before.before.before.before.before.before.exchange.ensures two.enum-told3.given.1
+    let two = c in
+    let one = two in
+    drove-then one.each-begun.ensures one.in-Accepted.is
+    (drove-then two.exchange-exchanged.ensures two.in-Accepted-exchanged.is
     c.each.ensures)

@@ -15,6 +15,6 @@ round-requires c k =
 pub returns : goal.returns
 unfolding form_steps
 returns c =
-    let one = c.before.before.before.before.before.before.before.before.before.before in
-    drove-then one.before.before.before.before.before.before.before.before.round.ensures one.enum_told.given.1
+    let one = c in
+    drove-then one.round-attempted.ensures one.in-Accepted.is
     c.round.ensures

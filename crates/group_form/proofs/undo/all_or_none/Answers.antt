@@ -14,39 +14,39 @@ use Rattle.group_form.proofs.undo.all_or_none.Goals as goal
 
 pub none_above-requires : goal.none_above-requires
 none_above-requires c =
-    let o = c.before.before.before.before in
+    let o = c in
     sound-books (ranges o.args.list.now o.args.all.now o.args.queues.now) o.requires.0.sound
 
 pub untouched-requires : goal.untouched-requires
 untouched-requires c =
-    let o = c.before.before.before.before.before.before.before.before in
+    let o = c in
     let r : Ranges = ranges o.args.list.now o.args.all.now o.args.queues.now in
     let b = sound-books r o.requires.0.sound in
     (b.0, b.1, stands-low o.requires.0, stands-inside o.requires.0)
 
 pub steps-requires : goal.steps-requires
 steps-requires c =
-    let early = c.before.before.before.before.before.before.before.before.before in
-    let o = early.before.before.before.before in
+    let early = c in
+    let o = early in
     let r : Ranges = ranges o.args.list.now o.args.all.now o.args.queues.now in
     let bytes : RangesBytes r = record {
       list = λ j. omega (arith, early.before.before.before.slice-known.given j);
-      books = λ j. omega (arith, early.before.before.slice-known2.given j);
-      queues = λ j. omega (arith, early.before.slice-known3.given j);
+      books = λ j. omega (arith, early.slice-known2.given j);
+      queues = λ j. omega (arith, early.slice-known3.given j);
     } in
     λ _. stays-sound r bytes o.requires.0.sound (sym c.none_above.ensures ∙ not-false _ c.if1.false)
 
 pub returns : goal.returns
 returns c =
-    let at = c.before.before.before.before.before.before.before in
-    let early = at.before.before.before.before.before.before.before.before.before in
-    let o = early.before.before.before.before in
+    let at = c in
+    let early = at in
+    let o = early in
     let r : Ranges = ranges o.args.list.now o.args.all.now o.args.queues.now in
     let bytes : RangesBytes r = record {
       list = λ j. omega (arith, early.before.before.before.slice-known.given j);
-      books = λ j. omega (arith, early.before.before.slice-known2.given j);
-      queues = λ j. omega (arith, early.before.slice-known3.given j);
+      books = λ j. omega (arith, early.slice-known2.given j);
+      queues = λ j. omega (arith, early.slice-known3.given j);
     } in
-    let below : none_above r.books ≡ true = sym at.before.before.before.before.before.before.before.before.none_above.ensures ∙ not-false _ at.before.before.before.before.before.before.before.if1.false in
-    let calm = sym at.before.before.before.before.untouched.ensures ∙ not-false _ at.before.before.before.if2.false in
+    let below : none_above r.books ≡ true = sym at.none_above.ensures ∙ not-false _ at.if1.false in
+    let calm = sym at.untouched.ensures ∙ not-false _ at.if-not-untouched.false-raw in
     all-taken o.requires.0 c.steps.ensures (none-refused r bytes o.args.v o.args.i o.requires.0 o.requires.1 below o.requires.2 calm)

@@ -22,7 +22,7 @@ returns-then-not-above c =
 
 pub returns-then-room-used : goal.returns-then-room-used
 returns-then-room-used c =
-    let s = c.before.before.before.before.before.before in
+    let s = c in
     let a = s.args in
     let z : length a.l.at ≡ 32 = simp length-map at s.well_formed.0.1.1.1.0.1.0.1 in
     let n : length (list_of a.l) ≡ min a.l.count max_views = length-used a.l.count a.l.at z in
@@ -30,7 +30,7 @@ returns-then-room-used c =
 
 pub returns : goal.returns
 returns c =
-    let s = c.before.before.before.before.before.before in
+    let s = c in
     let a = s.args in
     let z : length a.l.at ≡ 32 = simp length-map at s.well_formed.0.1.1.1.0.1.0.1 in
     let n : length (list_of a.l) ≡ min a.l.count max_views = length-used a.l.count a.l.at z in

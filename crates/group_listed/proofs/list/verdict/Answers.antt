@@ -12,8 +12,8 @@ returns-then-not-sound c =
 
 pub returns : goal.returns
 returns c =
-    let e = c.before.before in
-    let s = e.before.before in
+    let e = c in
+    let s = e in
     let a = s.args in
     let z : length a.l.at ≡ 32 = simp length-map at s.well_formed.0.1.1.1.0.1.0.1 in
-    c.asked.ensures ∙ by-sound a.members a.made a.l a.id.0 a.set z (sym e.before.sound.ensures ∙ not-false _ e.if1.false) c.first-views.result c.first-views.ensures
+    c.asked.ensures ∙ by-sound a.members a.made a.l a.id.0 a.set z (sym e.sound.ensures ∙ not-false _ e.if-not-sound.false-raw) c.first-views.result c.first-views.ensures

@@ -10,7 +10,7 @@ use Rattle.group_run.proofs.turns.each.Goals as goal
 
 pub loop-i-init : goal.loop-i-init
 loop-i-init c =
-    let o = c.before.before.before.before.before in
+    let o = c in
     (under-begins o.args.known (ranges o.args.list.now o.args.all.now o.args.queues.now) o.args.steps.now o.args.answers.now o.requires.0 o.requires.1, refl, refl, refl)
 
 pub one-requires : goal.one-requires
@@ -18,24 +18,12 @@ one-requires c = let u = c.loop-i.invariant.0 in ((λ k. sound-now _ (u.stays k)
 
 pub loop-i-preserved : goal.loop-i-preserved
 loop-i-preserved c =
-    let o = c.before.before.before.before.before.before.before.before.before.before.before.before.before.before.before.before.before.before.before.before in
+    let o = c in
     let l = c.loop-i in
     (under-turns o.args.known (ranges o.args.list.now o.args.all.now o.args.queues.now) o.args.steps.now (ranges l.list l.all l.queues) l.answers l.i l.invariant.0 _ _ (omega arith) c.one.ensures, search rules, search rules, search rules)
 
-pub shape_of-list : goal.shape_of-list
-shape_of-list c = c.loop-i.invariant.1
-
-pub shape_of-all : goal.shape_of-all
-shape_of-all c = c.loop-i.invariant.2
-
-pub shape_of-queues : goal.shape_of-queues
-shape_of-queues c = c.loop-i.invariant.3
-
-pub shape_of-answers : goal.shape_of-answers
-shape_of-answers c = let u = c.loop-i.invariant.0 in omega (arith, u.room, c.requires.1)
-
 pub returns : goal.returns
 returns c =
-    let o = c.before.before.before.before.before.before.before in
+    let o = c in
     let l = c.loop-i in
     under-ends o.args.known (ranges o.args.list.now o.args.all.now o.args.queues.now) o.args.steps.now (ranges l.list l.all l.queues) l.answers l.i l.invariant.0 (omega arith)

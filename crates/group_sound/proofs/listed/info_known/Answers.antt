@@ -12,16 +12,16 @@ overflow_cast-b c = omega (arith, c.shared_slice_known-then-b-at-eq-INFO-1.given
 
 pub views_known-requires : goal.views_known-requires
 views_known-requires c =
-    let e = c.before.before.before.before.before in
+    let e = c in
     let t = info-count e.args.b.now e.args.at 0 e.requires.3 c.if-b-at-eq-INFO.true in
     (e.requires.0, omega (arith, t.1, e.requires.1), e.requires.2, omega (arith, t.0))
 
 pub returns-then-b-at-eq-INFO : goal.returns-then-b-at-eq-INFO
 returns-then-b-at-eq-INFO c =
-    let e = c.before.before.before.before.before.before in
+    let e = c in
     c.views_known.ensures ∙ slot-info e.args.b.now e.args.at e.requires.3 (views_in e.args.list.now 0 e.args.made) c.if-b-at-eq-INFO.true
 
 pub returns : goal.returns
 returns c =
-    let e = c.before.before.before.before in
+    let e = c in
     sym (slot-other e.args.b.now e.args.at e.requires.3 (views_in e.args.list.now 0 e.args.made) c.if-b-at-eq-INFO.false)

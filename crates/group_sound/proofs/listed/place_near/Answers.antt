@@ -7,5 +7,5 @@ use Rattle.group_sound.proofs.listed.place_near.Goals as goal
 
 pub returns-then-id-w : goal.returns-then-id-w
 returns-then-id-w c =
-    let e = c.before.before.before.before in
+    let e = c in
     e.requires.2 ∙ ap (λ (g : ℕ). place_of g (views_in e.args.list.now 0 e.args.made)) (sym c.if-id-w.true)

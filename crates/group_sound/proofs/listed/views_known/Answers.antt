@@ -17,12 +17,12 @@ place-j-requires c = (c.requires.0, c.requires.2)
 
 pub loop-i-init : goal.loop-i-init
 loop-i-init c =
-    let e = c.before.before.before.before in
+    let e = c in
     (omega arith, walk_start e.args.list.now e.args.made e.args.b.now e.args.from e.args.count e.requires.2 e.requires.3 _ c.load_view-first.ensures _ c.place-j.ensures)
 
 pub returns-then-made-j : goal.returns-then-made-j
 returns-then-made-j c =
-    let e = c.before.before.before.before.before.before.before in
+    let e = c in
     let l = c.loop-i in
     sym (l.invariant.1 ∙ walk-past e.args.list.now e.args.made e.args.b.now e.args.from e.args.count l.j l.i (omega arith) (omega arith))
 
@@ -40,24 +40,24 @@ load_view-w-requires c = omega (arith, c.requires.0)
 
 pub returns-then-v-w-2 : goal.returns-then-v-w-2
 returns-then-v-w-2 c =
-    let early = c.before.before.before.before.before.before in
-    let e = early.before.before.before.before.before.before.before.before.before in
-    let l = early.before.before.before.before.loop in
-    sym (l.invariant.1 ∙ walk-stop e.args.list.now e.args.made e.args.b.now e.args.from e.args.count l.j l.i (omega arith) (omega arith) e.requires.2 _ _ early.before.load-view2.ensures early.load-view3.ensures c.if-v-w.true (λ w. c.if-v-w-2.true (ap id_of w)))
+    let early = c in
+    let e = early in
+    let l = early.loop-i in
+    sym (l.invariant.1 ∙ walk-stop e.args.list.now e.args.made e.args.b.now e.args.from e.args.count l.j l.i (omega arith) (omega arith) e.requires.2 _ _ early.load_view-v.ensures early.load_view-w.ensures c.if-v-w.true (λ w. c.if-v-w-2.true (ap id_of w)))
 
 pub returns-then-v-w-3 : goal.returns-then-v-w-3
 returns-then-v-w-3 c =
-    let early = c.before.before.before.before.before.before.before.before.before in
-    let e = early.before.before.before.before.before.before.before.before.before in
-    let l = early.before.before.before.before.loop in
-    sym (l.invariant.1 ∙ walk-stop e.args.list.now e.args.made e.args.b.now e.args.from e.args.count l.j l.i (omega arith) (omega arith) e.requires.2 _ _ early.before.load-view2.ensures early.load-view3.ensures c.if-v-w.true (λ w. c.if-v-w-3.true (ap (λ (x : View). x.set) w)))
+    let early = c in
+    let e = early in
+    let l = early.loop-i in
+    sym (l.invariant.1 ∙ walk-stop e.args.list.now e.args.made e.args.b.now e.args.from e.args.count l.j l.i (omega arith) (omega arith) e.requires.2 _ _ early.load_view-v.ensures early.load_view-w.ensures c.if-v-w.true (λ w. c.if-v-w-3.true (ap (λ (x : View). x.set) w)))
 
 pub overflow_add-i : goal.overflow_add-i
 overflow_add-i c = omega (arith, c.loop-i-test.true, c.ranges.count)
 
 pub loop-i-preserved : goal.loop-i-preserved
 loop-i-preserved c =
-    let e = c.before.before.before.before.before.before.before.before.before.before.before.before in
+    let e = c in
     let l = c.loop-i in
     let known = all_known_from e.args.list.now e.args.made e.args.b.now e.args.from e.args.count (l.j + 1) in
     let room : l.j < e.args.made = c.if-made-j.false in
@@ -75,6 +75,6 @@ loop-i-preserved c =
 
 pub returns : goal.returns
 returns c =
-    let e = c.before.before.before.before.before.before in
+    let e = c in
     let l = c.loop-i in
     sym (l.invariant.1 ∙ walk_end e.args.list.now e.args.made e.args.b.now e.args.from e.args.count l.j l.i (omega arith))

@@ -15,14 +15,14 @@ use Rattle.group_sound.proofs.members.book_known.Goals as goal
 
 pub load_view-settled-requires : goal.load_view-settled-requires
 load_view-settled-requires c =
-    let o = c.before.before.before in
+    let o = c in
     let b = o.args.b.now in
     let l = layout-says b (fits-layout b o.requires.1) in
     omega (arith, l.size)
 
 pub returns-then-not-is_at : goal.returns-then-not-is_at
 returns-then-not-is_at c =
-    let o = c.before.before.before.before.before.before.before in
+    let o = c in
     let views = views_in o.args.list.now 0 o.args.made in
     let b = o.args.b.now in
     let known = book-in views o.args.queues.now b (layout-says b (fits-layout b o.requires.1)).opens (opens-rise b o.requires.1) in
@@ -30,14 +30,14 @@ returns-then-not-is_at c =
 
 pub opens_known-requires : goal.opens_known-requires
 opens_known-requires c =
-    let o = c.before.before.before.before.before.before.before in
+    let o = c in
     let b = o.args.b.now in
     let l = layout-says b (fits-layout b o.requires.1) in
     (o.requires.0, omega (arith, l.size), o.requires.3, l.opens)
 
 pub returns-then-not-opens_known : goal.returns-then-not-opens_known
 returns-then-not-opens_known c =
-    let o = c.before.before.before.before.before.before.before.before.before in
+    let o = c in
     let views = views_in o.args.list.now 0 o.args.made in
     let b = o.args.b.now in
     let known = book-in views o.args.queues.now b (layout-says b (fits-layout b o.requires.1)).opens (opens-rise b o.requires.1) in
@@ -45,14 +45,14 @@ returns-then-not-opens_known c =
 
 pub seats_known-requires : goal.seats_known-requires
 seats_known-requires c =
-    let o = c.before.before.before.before.before.before.before.before.before in
+    let o = c in
     let b = o.args.b.now in
     let l = layout-says b (fits-layout b o.requires.1) in
     (o.requires.0, omega (arith, l.size), o.requires.2, o.requires.3, c.place-i.ensures)
 
 pub returns-then-not-seats_known : goal.returns-then-not-seats_known
 returns-then-not-seats_known c =
-    let o = c.before.before.before.before.before.before.before.before.before.before.before in
+    let o = c in
     let views = views_in o.args.list.now 0 o.args.made in
     let b = o.args.b.now in
     let known = book-in views o.args.queues.now b (layout-says b (fits-layout b o.requires.1)).opens (opens-rise b o.requires.1) in
@@ -60,7 +60,7 @@ returns-then-not-seats_known c =
 
 pub bounds-b-191 : goal.bounds-b-191
 bounds-b-191 c =
-    let o = c.before.before.before.before.before.before.before.before.before.before.before.before in
+    let o = c in
     let b = o.args.b.now in
     let l = layout-says b (fits-layout b o.requires.1) in
     omega (arith, l.size)
@@ -70,14 +70,14 @@ overflow_cast-b c = omega (arith, c.shared_slice_known-4-1.given outgoing_at)
 
 pub infos_known-requires : goal.infos_known-requires
 infos_known-requires c =
-    let o = c.before.before.before.before.before.before.before.before.before.before.before.before in
+    let o = c in
     let b = o.args.b.now in
     let l = layout-says b (fits-layout b o.requires.1) in
     (o.requires.0, omega (arith, l.size, l.outgoing), o.requires.3, l.slots)
 
 pub returns : goal.returns
 returns c =
-    let o = c.before.before.before.before.before.before.before.before.before.before.before.before.before in
+    let o = c in
     let views = views_in o.args.list.now 0 o.args.made in
     let b = o.args.b.now in
     let known = book-in views o.args.queues.now b (layout-says b (fits-layout b o.requires.1)).opens (opens-rise b o.requires.1) in

@@ -28,12 +28,12 @@ returns-then-b-p c = sym (stopped _ 2 (ne_eqb _ _ c.if-b-p.true))
 
 pub book_known-requires : goal.book_known-requires
 book_known-requires c =
-    let early = c.before.before.before.before.before in
-    let e = early.before.before.before.before.before in
-    (e.requires.0, sym early.before.sound.ensures ∙ not-false _ early.if1.false, e.requires.1, e.requires.2)
+    let early = c in
+    let e = early in
+    (e.requires.0, sym early.sound.ensures ∙ not-false _ early.if-not-sound.false-raw, e.requires.1, e.requires.2)
 
 pub returns : goal.returns
 unfolding member_sound
 returns c =
-    let early = c.before.before.before.before.before.before in
-    c.book_known.ensures ∙ sym (four _ _ _ _ ∙ rw (sym early.before.sound.ensures ∙ not-false _ early.if1.false, eq-eqb _ _ c.if-b-n.false, eq-eqb _ _ c.if-b-p.false))
+    let early = c in
+    c.book_known.ensures ∙ sym (four _ _ _ _ ∙ rw (sym early.sound.ensures ∙ not-false _ early.if-not-sound.false-raw, eq-eqb _ _ c.if-b-n.false, eq-eqb _ _ c.if-b-p.false))

@@ -25,7 +25,7 @@ slice_bounds-member_sound-end c = omega (arith, c.requires.1, c.requires.3)
 
 pub member_sound-requires : goal.member_sound-requires
 member_sound-requires c =
-    let early = c.before.before.before.before.before.before in
+    let early = c in
     (early.requires.0, early.requires.2, early.requires.4)
 
 pub returns-then-not-member_sound : goal.returns-then-not-member_sound
@@ -37,8 +37,8 @@ overflow_add-p c = omega (arith, c.requires.3)
 pub loop-p-preserved : goal.loop-p-preserved
 loop-p-preserved c =
     let a = c.args in
-    let early = c.before.before.before.before in
-    below_more (λ (p : ℕ). member_sound (views_in a.list.now 0 a.made) a.queues.now a.n p (book_bytes a.books.now p)) early.loop.p early.loop.invariant (part-answer (views_in a.list.now 0 a.made) a.queues.now a.books.now a.n early.loop.p ∙ sym c.member_sound.ensures ∙ not-false _ c.if-not-member_sound.false-raw)
+    let early = c in
+    below_more (λ (p : ℕ). member_sound (views_in a.list.now 0 a.made) a.queues.now a.n p (book_bytes a.books.now p)) early.loop-p.p early.loop-p.invariant (part-answer (views_in a.list.now 0 a.made) a.queues.now a.books.now a.n early.loop-p.p ∙ sym c.member_sound.ensures ∙ not-false _ c.if-not-member_sound.false-raw)
 
 pub returns : goal.returns
 returns c = sym (below_end c.args.n (λ (p : ℕ). member_sound (views_in c.args.list.now 0 c.args.made) c.args.queues.now c.args.n p (book_bytes c.args.books.now p)) c.loop-p.p (omega arith) c.loop-p.invariant)

@@ -32,7 +32,7 @@ returns-then-not-is_at c =
 
 pub bounds-queues-j : goal.bounds-queues-j
 bounds-queues-j c =
-    let o = c.before.before.before.before.before.before.before.before.before.before.before.before in
+    let o = c in
     let views = views_in o.args.list.now 0 o.args.made in
     let here = listed_in views _ (sym c.is_at.ensures ∙ not-false _ c.if-not-is_at.false-raw) in
     omega (arith, place_in _ views here, length-views_in o.args.list.now 0 o.args.made, c.place_near-j.ensures, o.requires.2)

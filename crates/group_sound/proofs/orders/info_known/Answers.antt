@@ -30,7 +30,7 @@ returns-then-not-views_allowed c =
 
 pub views_known-requires : goal.views_known-requires
 views_known-requires c =
-    let e = c.before.before.before.before.before.before.before.before in
+    let e = c in
     let t = info-within _ (sym c.views_allowed.ensures ∙ not-false _ c.if-not-views_allowed.false-raw) in
     (e.requires.0, omega (arith, t.1, e.requires.1, e.requires.2), e.requires.3, omega (arith, t.0))
 

@@ -16,7 +16,7 @@ loop-i-init c =
 
 pub info_known-requires : goal.info_known-requires
 info_known-requires c =
-    let e = c.before.before.before.before in
+    let e = c in
     (e.requires.0, e.requires.1, omega (arith, e.requires.2), e.requires.3)
 
 pub returns-then-not-info_known : goal.returns-then-not-info_known

@@ -12,14 +12,14 @@ use Rattle.group_sound.proofs.orders.order_sound.Goals as goal
 
 pub returns-then-count-gt-ORDERED : goal.returns-then-count-gt-ORDERED
 returns-then-count-gt-ORDERED c =
-    let e = c.before.before.before.before in
+    let e = c in
     let a = e.args in
     let views = views_in a.list.now 0 a.made in
     rw (order-asked a.q.now a.c views a.n (list-fits a.n views e.requires.2), lt-leb _ _ c.if-count-gt-ORDERED.true)
 
 pub returns-then-not-h : goal.returns-then-not-h
 returns-then-not-h c =
-    let e = c.before.before.before.before.before.before.before in
+    let e = c in
     let a = e.args in
     let views = views_in a.list.now 0 a.made in
     let unfit = sym c.heads-h.ensures.0 ∙ not-true _ c.if-not-h.true in
@@ -27,7 +27,7 @@ returns-then-not-h c =
 
 pub infos_known-requires : goal.infos_known-requires
 infos_known-requires c =
-    let e = c.before.before.before.before.before.before.before in
+    let e = c in
     let a = e.args in
     let views = views_in a.list.now 0 a.made in
     let few = infos-few a.q.now a.c (get_or a.q.now a.c 0) in
@@ -35,7 +35,7 @@ infos_known-requires c =
 
 pub returns : goal.returns
 returns c =
-    let e = c.before.before.before.before.before.before.before.before in
+    let e = c in
     let a = e.args in
     let views = views_in a.list.now 0 a.made in
     let fit = sym c.heads-h.ensures.0 ∙ not-false _ c.if-not-h.false in

@@ -8,19 +8,19 @@ use Rattle.group_sound.proofs.tables.entry_known.Goals as goal
 
 pub returns-then-n-q : goal.returns-then-n-q
 returns-then-n-q c =
-    let e = c.before.before.before.before in
+    let e = c in
     let views = views_in e.args.list.now 0 e.args.made in
     sym (foreign-known e.args.q.now e.args.at views e.args.n (list-fits e.args.n views e.requires.2) c.if-n-q.true)
 
 pub returns-then-kind-eq-CLIENT : goal.returns-then-kind-eq-CLIENT
 returns-then-kind-eq-CLIENT c =
-    let e = c.before.before.before.before.before.before in
+    let e = c in
     let views = views_in e.args.list.now 0 e.args.made in
     sym (client-known e.args.q.now e.args.at views e.args.n (list-fits e.args.n views e.requires.2) c.if-n-q.false c.if-kind-eq-CLIENT.true)
 
 pub returns-then-kind-eq-TOLD : goal.returns-then-kind-eq-TOLD
 returns-then-kind-eq-TOLD c =
-    let e = c.before.before.before.before.before.before.before.before in
+    let e = c in
     let views = views_in e.args.list.now 0 e.args.made in
     c.told_fits.ensures
     ∙ sym (told-known e.args.q.now e.args.at views e.args.n (list-fits e.args.n views e.requires.2)
@@ -28,12 +28,12 @@ returns-then-kind-eq-TOLD c =
 
 pub slot_known-requires : goal.slot_known-requires
 slot_known-requires c =
-    let e = c.before.before.before.before.before.before.before in
+    let e = c in
     (e.requires.0, e.requires.1, list-rises e.args.n (views_in e.args.list.now 0 e.args.made) e.requires.2)
 
 pub returns : goal.returns
 returns c =
-    let e = c.before.before.before.before.before.before.before.before in
+    let e = c in
     let views = views_in e.args.list.now 0 e.args.made in
     c.slot_known.ensures
     ∙ sym (other-known e.args.q.now e.args.at views e.args.n (list-fits e.args.n views e.requires.2)

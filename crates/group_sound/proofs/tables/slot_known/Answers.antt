@@ -8,7 +8,7 @@ returns-then-not-slot_fits c = rw (sym c.slot_fits.ensures ∙ not-true _ c.if-n
 
 pub info_known-requires : goal.info_known-requires
 info_known-requires c =
-    let e = c.before.before.before.before in
+    let e = c in
     (e.requires.0, e.requires.1, e.requires.2, sym c.slot_fits.ensures ∙ not-false _ c.if-not-slot_fits.false-raw)
 
 pub returns : goal.returns

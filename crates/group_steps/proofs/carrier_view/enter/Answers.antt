@@ -9,11 +9,11 @@ use Rattle.group_steps.proofs.carrier_view.enter.Goals as goal
 
 pub join-requires : goal.join-requires
 join-requires c =
-    let s = c.before.before.before.before.before in
+    let s = c in
     desk-sound s.args.all.now s.args.p.0 s.requires.0 s.requires.1 (book_size * s.args.p.0 + book_size - book_size * s.args.p.0) (omega arith)
 
 pub returns : goal.returns
 returns c =
-    let s = c.before.before.before.before.before.before.before.before in
+    let s = c in
     enter-done s.args.all.now s.args.p.0 s.requires.1 _ _ c.load_view-v.ensures (book_size * s.args.p.0 + book_size - book_size * s.args.p.0) (omega arith) _ _ _
     c.join.ensures refl

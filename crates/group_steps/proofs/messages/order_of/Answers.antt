@@ -9,6 +9,6 @@ use Rattle.group_steps.proofs.messages.order_of.Goals as goal
 
 pub order_at-requires : goal.order_at-requires
 order_at-requires c =
-    let s = c.before.before.before.before in
+    let s = c in
     let n = get_or s.args.queues.now made_at 0 in
     omega (arith, c.place-i.ensures, place-most s.args.g.0 (views_in s.args.list.now 0 n), length-views_in s.args.list.now 0 n)

@@ -11,7 +11,7 @@ use Rattle.group_steps.proofs.messages.take_at.Goals as goal
 
 pub deliver-requires : goal.deliver-requires
 deliver-requires c =
-    let s = c.before.before.before.before.before.before.before in
+    let s = c in
     let a = s.args in
     let part = part-asks a.all.now a.p.0 s.requires.1 (book_size * a.p.0 + book_size - book_size * a.p.0) (omega arith) s.requires.0 _ s.requires.5 s.requires.6 s.requires.7 in
     let entry = entry-asks a.queues.now a.c a.k s.requires.4 _ c.load_message-message.ensures _ c.carried-n.ensures
@@ -20,7 +20,7 @@ deliver-requires c =
 
 pub returns : goal.returns
 returns c =
-    let s = c.before.before.before.before.before.before.before.before.before.before in
+    let s = c in
     let a = s.args in
     let byte = c.shared_slice_known-2-1.given (order_count a.c a.k) in
     let is = entry-is a.queues.now a.c a.k s.requires.4 _ c.load_message-message.ensures _ c.carried-n.ensures

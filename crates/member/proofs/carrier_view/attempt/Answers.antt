@@ -15,5 +15,5 @@ returns-in-Refused c = call-refused _ _ _ _ c.admit-v.ensures _ c.in-Refused.is 
 pub returns-in-Accepted : goal.returns-in-Accepted
 unfolding attempt_call attempt_alone few_open
 returns-in-Accepted c =
-    let early = c.before.before.before.before in
-    call-done _ _ _ _ early.before.before.admit.ensures early.enum_told.given.1 _ _ c.attempt.ensures
+    let early = c in
+    call-done _ _ _ _ early.admit-v.ensures early.in-Accepted.is _ _ c.attempt.ensures

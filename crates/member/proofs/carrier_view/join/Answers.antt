@@ -14,5 +14,5 @@ returns-in-Refused c = call-refused _ _ _ _ c.admit-verdict.ensures _ c.in-Refus
 pub returns-in-Accepted : goal.returns-in-Accepted
 unfolding join_call join_alone
 returns-in-Accepted c =
-    let early = c.before.before.before.before in
-    call-done _ _ _ _ early.before.before.admit.ensures early.enum_told.given.1 _ _ c.join_view.ensures
+    let early = c in
+    call-done _ _ _ _ early.admit-verdict.ensures early.in-Accepted.is _ _ c.join_view.ensures

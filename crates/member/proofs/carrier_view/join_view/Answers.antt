@@ -15,5 +15,5 @@ returns-then-not-set_fits c =
 pub returns : goal.returns
 returns c =
     let a = c.args in
-    let early = c.before.before.before.before in
-    join-fits a.b.now a.v _ early.before.set_fits.ensures early.if1.false _ _ c.join.ensures
+    let early = c in
+    join-fits a.b.now a.v _ early.set_fits.ensures early.if-not-set_fits.false-raw _ _ c.join.ensures

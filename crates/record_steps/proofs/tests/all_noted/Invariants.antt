@@ -7,7 +7,7 @@ use Rattle.rules.specs.Member.{every}
 use Rattle.record_steps.proofs.tests.all_noted.Given as goal
 
 abbrev pub invariant-loop-q : goal.invariant-loop-q
-invariant-loop-q l = (l.q ≤ l.n) × (every l.q (λ l.q. not (has l.members l.q) || has l.noted l.q) ≡ true)
+invariant-loop-q l = (l.q ≤ l.n) × (every l.q (λ q. not (has l.members q) || has l.noted q) ≡ true)
 
 abbrev pub decreases-loop-q : goal.decreases-loop-q
 decreases-loop-q l = l.n - l.q

@@ -9,7 +9,7 @@ use Rattle.rules.specs.Member.{every}
 use Rattle.record_steps.proofs.tests.all_told.Given as goal
 
 abbrev pub invariant-loop-q : goal.invariant-loop-q
-invariant-loop-q l = (l.q ≤ l.n) × (every l.q (λ l.q. not (has l.members l.q) || ltb l.count.0 (get_or l.tolds l.q 0)) ≡ true)
+invariant-loop-q l = (l.q ≤ l.n) × (every l.q (λ q. not (has l.members q) || ltb l.count.0 (get_or l.tolds q 0)) ≡ true)
 
 abbrev pub decreases-loop-q : goal.decreases-loop-q
 decreases-loop-q l = l.n - l.q

@@ -8,10 +8,7 @@ pub put_number-requires : goal.put_number-requires
 put_number-requires c = simp length-set (omega arith)
 
 pub bounds-b-c-3 : goal.bounds-b-c-3
-bounds-b-c-3 c = omega (arith, simp length-set at c.put_number.auto.0)
-
-pub shape_of-b : goal.shape_of-b
-shape_of-b c = simp length-set (omega (arith, simp length-set at c.put_number.auto.0))
+bounds-b-c-3 c = omega (arith, simp length-set at c.put_number.auto.b)
 
 pub returns : goal.returns
 unfolding gained

@@ -12,12 +12,9 @@ bounds-q-c-2 c = simp length-set (omega arith)
 pub move_bytes-requires : goal.move_bytes-requires
 move_bytes-requires c = (inl (omega arith), simp length-set (omega arith), simp length-set (omega arith))
 
-pub shape_of-q-then-kind-eq-CLIENT : goal.shape_of-q-then-kind-eq-CLIENT
-shape_of-q-then-kind-eq-CLIENT c = simp length-set at c.move_bytes.auto.0
-
 pub returns-then-kind-eq-CLIENT : goal.returns-then-kind-eq-CLIENT
 returns-then-kind-eq-CLIENT c =
-    let start = c.before.before.before.before.before.before.before.before in
+    let start = c in
     let a = start.args in
     let bytes : AreBytes a.q.now = λ j. omega (arith, c.slice_known-1.given j) in
     client-ordered a.q.now a.c a.k a.at bytes start.requires.0 start.requires.1 start.requires.2
@@ -31,7 +28,7 @@ bounds-q-c-then-kind-eq-TOLD c = simp length-set (omega arith)
 
 pub returns-then-kind-eq-TOLD : goal.returns-then-kind-eq-TOLD
 returns-then-kind-eq-TOLD c =
-    let start = c.before.before.before.before.before.before in
+    let start = c in
     let a = start.args in
     let bytes : AreBytes a.q.now = λ j. omega (arith, c.slice_known-1.given j) in
     told-ordered a.q.now a.c a.k a.at bytes start.requires.0 start.requires.1 start.requires.2
@@ -45,7 +42,7 @@ bounds-q-c-then-kind-eq-INFO c = simp length-set (omega arith)
 
 pub overflow_cast-n : goal.overflow_cast-n
 overflow_cast-n c =
-    let start = c.before.before.before.before.before.before.before.before in
+    let start = c in
     let a = start.args in
     let bytes : AreBytes a.q.now = λ j. omega (arith, c.slice_known-1.given j) in
     let few = few-begun a.q.now a.c a.k a.at bytes start.requires.0 start.requires.1 start.requires.2 start.requires.3
@@ -54,7 +51,7 @@ overflow_cast-n c =
 
 pub overflow_mul-n : goal.overflow_mul-n
 overflow_mul-n c =
-    let start = c.before.before.before.before.before.before.before.before in
+    let start = c in
     let a = start.args in
     let bytes : AreBytes a.q.now = λ j. omega (arith, c.slice_known-1.given j) in
     let few = few-begun a.q.now a.c a.k a.at bytes start.requires.0 start.requires.1 start.requires.2 start.requires.3
@@ -63,19 +60,16 @@ overflow_mul-n c =
 
 pub move_bytes-requires-then-kind-eq-INFO : goal.move_bytes-requires-then-kind-eq-INFO
 move_bytes-requires-then-kind-eq-INFO c =
-    let start = c.before.before.before.before.before.before.before.before in
+    let start = c in
     let a = start.args in
     let bytes : AreBytes a.q.now = λ j. omega (arith, c.slice_known-1.given j) in
     let few = few-begun a.q.now a.c a.k a.at bytes start.requires.0 start.requires.1 start.requires.2 start.requires.3
     c.if-kind-eq-INFO.true in
     (inl (omega (arith, few)), simp length-set (omega (arith, few)), simp length-set (omega (arith, few)))
 
-pub shape_of-q-then-kind-eq-INFO : goal.shape_of-q-then-kind-eq-INFO
-shape_of-q-then-kind-eq-INFO c = simp length-set at c.move_bytes-then-kind-eq-INFO.auto.0
-
 pub returns-then-kind-eq-INFO : goal.returns-then-kind-eq-INFO
 returns-then-kind-eq-INFO c =
-    let start = c.before.before.before.before.before.before.before.before.before.before.before in
+    let start = c in
     let a = start.args in
     let bytes : AreBytes a.q.now = λ j. omega (arith, c.slice_known-1.given j) in
     info-ordered a.q.now a.c a.k a.at bytes start.requires.0 start.requires.1 start.requires.2
@@ -83,7 +77,7 @@ returns-then-kind-eq-INFO c =
 
 pub returns-else-kind-eq-INFO : goal.returns-else-kind-eq-INFO
 returns-else-kind-eq-INFO c =
-    let start = c.before.before.before.before.before.before in
+    let start = c in
     let a = start.args in
     let bytes : AreBytes a.q.now = λ j. omega (arith, c.slice_known-1.given j) in
     registered-ordered a.q.now a.c a.k a.at bytes start.requires.0 start.requires.1 start.requires.2

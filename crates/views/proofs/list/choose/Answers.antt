@@ -12,28 +12,28 @@ returns-then-not-has_y c =
 
 pub returns-then-y-x : goal.returns-then-y-x
 returns-then-y-x c =
-    let t = c.before.before.before in
-    let a = t.before.before.args in
-    rw (not-false a.has_x t.before.if1.false, not-false a.has_y t.if2.false, lt-ltb _ _ c.if-y-x.true)
+    let t = c in
+    let a = t.args in
+    rw (not-false a.has_x t.if-not-has_x.false-raw, not-false a.has_y t.if-not-has_y.false-raw, lt-ltb _ _ c.if-y-x.true)
 
 pub returns-then-x-y : goal.returns-then-x-y
 returns-then-x-y c =
-    let t = c.before.before.before.before.before.before in
-    let a = t.before.before.args in
+    let t = c in
+    let a = t.args in
     rw (
-      not-false a.has_x t.before.if1.false,
-      not-false a.has_y t.if2.false,
+      not-false a.has_x t.if-not-has_x.false-raw,
+      not-false a.has_y t.if-not-has_y.false-raw,
       le-ltb _ _ c.if-y-x.false,
       eq-eqb _ _ c.if-x-y.true,
     )
 
 pub returns : goal.returns
 returns c =
-    let t = c.before.before.before.before.before.before in
-    let a = t.before.before.args in
+    let t = c in
+    let a = t.args in
     rw (
-      not-false a.has_x t.before.if1.false,
-      not-false a.has_y t.if2.false,
+      not-false a.has_x t.if-not-has_x.false-raw,
+      not-false a.has_y t.if-not-has_y.false-raw,
       le-ltb _ _ c.if-y-x.false,
       ne_eqb _ _ c.if-x-y.false,
     )

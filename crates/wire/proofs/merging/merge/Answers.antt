@@ -54,29 +54,29 @@ overflow_add-turns c =
 
 pub overflow_add-i-in-loop-i : goal.overflow_add-i-in-loop-i
 overflow_add-i-in-loop-i c =
-    let t = c.before.before.before.before.before in
+    let t = c in
     let h = next t in
-    omega (arith, h.0, length-views_in t.before.before.before.before.before.before.before.args.b.now t.before.before.before.before.before.before.before.args.from t.before.before.before.before.before.before.before.args.n)
+    omega (arith, h.0, length-views_in t.args.b.now t.args.from t.args.n)
 
 pub overflow_add-j : goal.overflow_add-j
 overflow_add-j c =
-    let t = c.before.before.before.before.before.before in
+    let t = c in
     let h = next t in
-    omega (arith, h.1, t.before.before.before.before.before.before.before.requires.3, length-views_in t.before.before.before.before.before.before.before.args.c.now t.before.before.before.before.before.before.before.args.on t.before.before.before.before.before.before.before.args.m)
+    omega (arith, h.1, t.requires.3, length-views_in t.args.c.now t.args.on t.args.m)
 
 pub loop-i-smaller : goal.loop-i-smaller
 loop-i-smaller c = let h = next c.before.before.before.before.before.before in omega (arith, h.0, h.1, h.2)
 
 pub loop-i-preserved : goal.loop-i-preserved
 loop-i-preserved c =
-    let t = c.before.before.before.before.before.before in
-    let a = t.before.before.before.before.before.before.before.args in
-    let l = t.before.before.before.before.loop in
+    let t = c in
+    let a = t.args in
+    let l = t.loop-i in
     let h = next t in
     let g = a.floor.0 in
-    let v = t.choose.result.view in
+    let v = t.choose-next.result.view in
     let whole = above_of g (union_of (views_in a.b.now a.from a.n) (views_in a.c.now a.on a.m)) in
-    let rest = union_of (drop (l.i + t.choose.result.left) (views_in a.b.now a.from a.n)) (drop (l.j + t.choose.result.right) (views_in a.c.now a.on a.m)) in
+    let rest = union_of (drop (l.i + t.choose-next.result.left) (views_in a.b.now a.from a.n)) (drop (l.j + t.choose-next.result.right) (views_in a.c.now a.on a.m)) in
     let turns : l.turns + 1 + length rest ≡ length (union_of (views_in a.b.now a.from a.n) (views_in a.c.now a.on a.m)) = omega (arith, l.invariant.3, ap length h.3) in
     let f = filling_skip whole _ (above_of g (v ∷ rest)) l.at l.k (ap (above_of g) h.3) l.invariant.4 in
     ⊎_elim

@@ -8,13 +8,10 @@ pub put_number-requires : goal.put_number-requires
 put_number-requires c = simp length-set (omega arith)
 
 pub put_number-requires-2 : goal.put_number-requires-2
-put_number-requires-2 c = omega (arith, simp length-set at c.put_number.auto.0)
+put_number-requires-2 c = omega (arith, simp length-set at c.put_number.auto.b)
 
 pub put_number-requires-3 : goal.put_number-requires-3
-put_number-requires-3 c = omega (arith, c.put_number-2.auto.0, simp length-set at c.put_number.auto.0)
-
-pub shape_of-out : goal.shape_of-out
-shape_of-out c = omega (arith, c.put_number-3.auto.0, c.put_number-2.auto.0, simp length-set at c.put_number.auto.0)
+put_number-requires-3 c = omega (arith, c.put_number-2.auto.b, simp length-set at c.put_number.auto.b)
 
 pub returns : goal.returns
 returns c = head-stored _ _ _ _ _ _ _ _ (omega arith) c.put_number.ensures c.put_number-2.ensures c.put_number-3.ensures

@@ -19,9 +19,6 @@ copy-requires c =
     let one : c.numbers_in-many.result ≡ 1 = omega (arith, c.numbers_in-many.ensures, numbers-one a.m, c.if-many-eq0.false) in
     (simp length-set (omega arith), omega arith)
 
-pub shape_of-out : goal.shape_of-out
-shape_of-out c = simp length-set at c.copy.auto.0
-
 pub returns : goal.returns
 returns c =
     let a = c.args in

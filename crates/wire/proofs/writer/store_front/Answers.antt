@@ -7,9 +7,6 @@ use Rattle.wire.proofs.writer.store_front.Goals as goal
 pub put_number-requires : goal.put_number-requires
 put_number-requires c = simp length-set (omega arith)
 
-pub shape_of-b : goal.shape_of-b
-shape_of-b c = simp length-set (omega (arith, simp length-set at c.put_number.auto.0))
-
 pub returns : goal.returns
 returns c =
     let a = c.args in

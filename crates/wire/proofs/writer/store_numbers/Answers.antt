@@ -14,9 +14,6 @@ put_number-requires c =
     let one : c.numbers_in-count.result ≡ 1 = omega (arith, c.numbers_in-count.ensures, numbers-one c.args.m, c.if-count-eq0.false) in
     simp length-set (omega arith)
 
-pub shape_of-b : goal.shape_of-b
-shape_of-b c = simp length-set at c.put_number.auto.0
-
 pub returns : goal.returns
 returns c =
     let one : c.numbers_in-count.result ≡ 1 = omega (arith, c.numbers_in-count.ensures, numbers-one c.args.m, c.if-count-eq0.false) in

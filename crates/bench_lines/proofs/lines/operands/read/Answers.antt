@@ -35,11 +35,11 @@ slice_bounds-read_numeral-start c = omega (arith, find-le 32 c.before.before.bef
 
 pub make-requires-2 : goal.make-requires-2
 make-requires-2 c =
-    let early = c.before.before.before.before.before.before.before.before.before in
+    let early = c in
     fits-two early.args.form _ _ _ _ early.requires c.read_numeral-first.ensures c.read_numeral-second.ensures
 
 pub returns : goal.returns
 returns c =
     let a = c.before.before.before.before.before.before.before.before.before.before.args in
-    let early = c.before.before.before.before.before in
-    c.make-2.ensures ∙ sym (operands-two a.form a.rest.now _ _ _ early.before.before.if1.false early.before.find.ensures early.if2.false c.read_numeral-first.ensures c.read_numeral-second.ensures)
+    let early = c in
+    c.make-2.ensures ∙ sym (operands-two a.form a.rest.now _ _ _ early.if1.false early.find.ensures early.if2.false c.read_numeral-first.ensures c.read_numeral-second.ensures)

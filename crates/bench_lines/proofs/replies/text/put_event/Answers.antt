@@ -32,5 +32,5 @@ returns-then-e-eq-SAFE c =
 pub returns : goal.returns
 returns c =
     let a = c.args in
-    let early = c.before.before.before.before.before in
-    put_same _ _ a.text.now _ 0 _ (sym (event-none a.e early.before.before.before.before.before.before.before.before.if1.false early.before.before.before.before.before.before.if2.false early.before.before.before.before.if3.false early.before.before.if4.false early.if5.false)) c.put.ensures
+    let early = c in
+    put_same _ _ a.text.now _ 0 _ (sym (event-none a.e early.if-e-eq-ATTEMPT.false early.if-e-eq-REGISTER.false early.if-e-eq-SEND.false early.if-e-eq-HAND.false early.if-e-eq-SAFE.false)) c.put.ensures

@@ -6,8 +6,8 @@ use Rattle.bench_lines.proofs.replies.text.put_reply.Goals as goal
 pub returns-in-Refused : goal.returns-in-Refused
 returns-in-Refused c =
     let a = c.args in
-    let early = c.before.before.before.before.before.before in
-    put_same _ _ a.text.now _ 0 _ (reply-refused a.r _ early.number.result early.before.before.verdict.given.1 early.number.ensures) c.put_spoken.ensures
+    let early = c in
+    put_same _ _ a.text.now _ 0 _ (reply-refused a.r _ early.number.result early.in-Refused.is early.number.ensures) c.put_spoken.ensures
 
 pub returns-in-Accepted : goal.returns-in-Accepted
 returns-in-Accepted c =

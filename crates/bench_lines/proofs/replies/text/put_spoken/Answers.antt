@@ -27,9 +27,6 @@ loop-i-preserved c =
       t.1,
     )
 
-pub shape_of-text : goal.shape_of-text
-shape_of-text c = simp length-set (omega arith)
-
 pub returns : goal.returns
 returns c =
     let l = c.loop-i in

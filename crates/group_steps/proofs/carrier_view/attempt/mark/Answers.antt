@@ -14,8 +14,8 @@ use Rattle.group_steps.proofs.carrier_view.attempt.mark.Goals as goal
 
 pub overflow_shl-i : goal.overflow_shl-i
 overflow_shl-i c =
-    let c3 = c.before.before.before in
-    let c7 = c3.before.before.before.before in
+    let c3 = c in
+    let c7 = c3 in
     let s = c7 in
     let l = views_in s.args.list.now 0 (get_or s.args.queues.now 0 0) in
     let g = s.args.id.0 in
@@ -24,12 +24,12 @@ overflow_shl-i c =
 pub returns : goal.returns
 unfolding marked with_member
 returns c =
-    let c4 = c.before.before.before.before in
-    let c6 = c4.before.before in
-    let s = c6.before.before.before.before in
+    let c4 = c in
+    let c6 = c4 in
+    let s = c6 in
     let made = get_or s.args.queues.now 0 0 in
     let l = views_in s.args.list.now 0 made in
     let g = s.args.id.0 in
     let few : c6.place.result ≤ max_views
     = omega (arith, c6.place.ensures, place-most g l, length-views_in s.args.list.now 0 made, s.requires.1) in
-    c.put_number.ensures ∙ rw (mark-fits c6.place.result few, c4.get_number.ensures.0, c6.place.ensures)
+    c.put_number.ensures ∙ rw (mark-fits c6.place.result few, c4.get_number-marks.ensures.0, c6.place.ensures)

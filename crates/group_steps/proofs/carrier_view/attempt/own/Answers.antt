@@ -13,13 +13,13 @@ returns-then-all-p c =
 
 pub attempt-requires : goal.attempt-requires
 attempt-requires c =
-    let c6 = c.before.before.before.before.before.before in
+    let c6 = c in
     desk-sound c6.args.all.now c6.args.p.0 c6.requires c.if-all-p.false
     (book_size * c6.args.p.0 + book_size - book_size * c6.args.p.0) (omega arith)
 
 pub returns : goal.returns
 returns c =
-    let c5 = c.before.before.before.before.before in
-    let c9 = c5.before.before.before.before in
-    desk-done c9.args.all.now c9.args.p.0 _ _ _ c5.if1.false
+    let c5 = c in
+    let c9 = c5 in
+    desk-done c9.args.all.now c9.args.p.0 _ _ _ c5.if-all-p.false
     (book_size * c9.args.p.0 + book_size - book_size * c9.args.p.0) (omega arith) _ _ c.attempt.ensures refl

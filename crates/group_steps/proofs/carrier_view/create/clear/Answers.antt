@@ -27,9 +27,6 @@ loop-p-preserved c =
       rw (l.invariant.2, c.waiting_at-w.ensures) (clear-turn (set a.queues.now c.order_at-c.result 0) a.i l.p),
     )
 
-pub shape_of-queues : goal.shape_of-queues
-shape_of-queues c = omega (arith, length-set c.args.queues.now c.order_at-c.result 0)
-
 pub returns : goal.returns
 returns c =
     let a = c.args in

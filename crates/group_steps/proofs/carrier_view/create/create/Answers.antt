@@ -40,48 +40,48 @@ above-requires c =
 
 pub returns-then-not-above : goal.returns-then-not-above
 returns-then-not-above c =
-    let l = c.before in
+    let l = c in
     let a = l.before.before.before.before.before.before.before.before.before.args in
     let r : Ranges = record { list = a.list.now; books = a.all.now; queues = a.queues.now } in
-    let t : fits (members_of r) a.set ≡ true = sym l.before.before.before.before.fits2.ensures ∙ not-false _ l.before.before.before.if1.false in
+    let t : fits (members_of r) a.set ≡ true = sym l.fits2.ensures ∙ not-false _ l.if1.false in
     create-refused r a.id.0 a.set IdentifierNotAbove (not-above r a.id.0 a.set t (sym l.above.ensures ∙ not-true _ c.if-not-above.true-raw))
 
 pub overflow_cast-made : goal.overflow_cast-made
 overflow_cast-made c =
-    let l = c.before in
+    let l = c in
     let a = l.before.before.before.before.before.before.before.before.before.args in
     let r : Ranges = record { list = a.list.now; books = a.all.now; queues = a.queues.now } in
     let h = l.before.before.before.before.before.before.before.before.before.requires in
     let f = ranged r h in
-    let t : fits (members_of r) a.set ≡ true = sym l.before.before.before.before.fits2.ensures ∙ not-false _ l.before.before.before.if1.false in
+    let t : fits (members_of r) a.set ≡ true = sym l.fits2.ensures ∙ not-false _ l.if1.false in
     omega (arith, f.made.1, f.room.1)
 
 pub returns-then-list-made : goal.returns-then-list-made
 returns-then-list-made c =
-    let l = c.before.before in
+    let l = c in
     let a = l.before.before.before.before.before.before.before.before.before.args in
     let r : Ranges = record { list = a.list.now; books = a.all.now; queues = a.queues.now } in
-    let t : fits (members_of r) a.set ≡ true = sym l.before.before.before.before.fits2.ensures ∙ not-false _ l.before.before.before.if1.false in
+    let t : fits (members_of r) a.set ≡ true = sym l.fits2.ensures ∙ not-false _ l.if1.false in
     let k : all_below a.id.0 (views_made r) ≡ true = sym l.above.ensures ∙ not-false _ c.if-not-above.false-raw in
     create-refused r a.id.0 a.set ListFull (list_full r a.id.0 a.set t k c.if-list-made.true)
 
 pub make-requires : goal.make-requires
 make-requires c =
-    let l = c.before.before.before.before in
+    let l = c in
     let a = l.before.before.before.before.before.before.before.before.before.args in
     let r : Ranges = record { list = a.list.now; books = a.all.now; queues = a.queues.now } in
     let h = l.before.before.before.before.before.before.before.before.before.requires in
     let f = ranged r h in
-    let t : fits (members_of r) a.set ≡ true = sym l.before.before.before.before.fits2.ensures ∙ not-false _ l.before.before.before.if1.false in
+    let t : fits (members_of r) a.set ≡ true = sym l.fits2.ensures ∙ not-false _ l.if1.false in
     let k : all_below a.id.0 (views_made r) ≡ true = sym l.above.ensures ∙ not-false _ c.if-not-above.false-raw in
     let x = made-says r a.id.0 a.set t k c.if-list-made.false f in
     (omega (arith, f.room.1, c.if-list-made.false), x.place, x.table)
 
 pub returns : goal.returns
 returns c =
-    let l = c.before.before.before.before.before.before.before.before.before in
+    let l = c in
     let a = l.before.before.before.before.before.before.before.before.before.args in
     let r : Ranges = record { list = a.list.now; books = a.all.now; queues = a.queues.now } in
-    let t : fits (members_of r) a.set ≡ true = sym l.before.before.before.before.fits2.ensures ∙ not-false _ l.before.before.before.if1.false in
+    let t : fits (members_of r) a.set ≡ true = sym l.fits2.ensures ∙ not-false _ l.if1.false in
     let k : all_below a.id.0 (views_made r) ≡ true = sym l.above.ensures ∙ not-false _ c.if-not-above.false-raw in
     create-accepted r a.id.0 a.set t k c.if-list-made.false _ _ c.make.ensures.0 c.make.ensures.1

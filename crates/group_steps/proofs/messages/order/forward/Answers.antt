@@ -5,7 +5,7 @@ use Rattle.group_steps.proofs.messages.order.forward.Goals as goal
 
 pub pop-requires : goal.pop-requires
 pop-requires c =
-    let s = c.before.before.before.before.before.before in
+    let s = c in
     let a = s.args in
     rw c.append.ensures
     (pop-asks a.q.now (λ j. omega (arith, c.slice_known-1.given j)) a.c a.w

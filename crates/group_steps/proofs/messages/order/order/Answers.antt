@@ -42,90 +42,90 @@ place-i-requires c =
 
 pub returns-then-made-i : goal.returns-then-made-i
 returns-then-made-i c =
-    let l = c.before in
-    let a = l.before.before.before.before.before.before.before.before.args in
+    let l = c in
+    let a = l.args in
     let r : Ranges = record { list = a.list.now; books = a.all.now; queues = a.queues.now } in
     let p = a.p.0 in
-    let m = l.before.before.if1.false in
+    let m = l.if-all-p.false in
     let i = place_of a.id.0 (views_made r) in
-    let e : l.place.result ≡ i = l.place.ensures in
+    let e : l.place-i.result ≡ i = l.place-i.ensures in
     order-refused r p a.id.0 NoSuchView (no-view r p a.id.0 m (omega (arith, c.if-made-i.true)))
 
 pub order_at-c-requires : goal.order_at-c-requires
 order_at-c-requires c =
-    let l = c.before in
-    let a = l.before.before.before.before.before.before.before.before.args in
+    let l = c in
+    let a = l.args in
     let r : Ranges = record { list = a.list.now; books = a.all.now; queues = a.queues.now } in
-    let h = l.before.before.before.before.before.before.before.before.requires in
+    let h = l.requires in
     let f = ranged r h in
-    let m = l.before.before.if1.false in
+    let m = l.if-all-p.false in
     let i = place_of a.id.0 (views_made r) in
-    let e : l.place.result ≡ i = l.place.ensures in
+    let e : l.place-i.result ≡ i = l.place-i.ensures in
     omega (arith, f.made.1, f.room.1, c.if-made-i.false)
 
 pub waiting_at-w-requires : goal.waiting_at-w-requires
 waiting_at-w-requires c =
-    let l = c.before.before in
-    let a = l.before.before.before.before.before.before.before.before.args in
+    let l = c in
+    let a = l.args in
     let r : Ranges = record { list = a.list.now; books = a.all.now; queues = a.queues.now } in
-    let h = l.before.before.before.before.before.before.before.before.requires in
+    let h = l.requires in
     let f = ranged r h in
-    let m = l.before.before.if1.false in
+    let m = l.if-all-p.false in
     let i = place_of a.id.0 (views_made r) in
-    let e : l.place.result ≡ i = l.place.ensures in
+    let e : l.place-i.result ≡ i = l.place-i.ensures in
     (omega (arith, f.made.1, f.room.1, c.if-made-i.false), omega (arith, f.members.1))
 
 pub bounds-queues-w : goal.bounds-queues-w
 bounds-queues-w c =
-    let l = c.before.before.before.before in
-    let a = l.before.before.before.before.before.before.before.before.args in
+    let l = c in
+    let a = l.args in
     let r : Ranges = record { list = a.list.now; books = a.all.now; queues = a.queues.now } in
-    let h = l.before.before.before.before.before.before.before.before.requires in
+    let h = l.requires in
     let f = ranged r h in
     let p = a.p.0 in
-    let m = l.before.before.if1.false in
+    let m = l.if-all-p.false in
     let i = place_of a.id.0 (views_made r) in
-    let e : l.place.result ≡ i = l.place.ensures in
+    let e : l.place-i.result ≡ i = l.place-i.ensures in
     let t : i < made_of r = omega (arith, c.if-made-i.false) in
     let w : c.waiting_at-w.result ≡ waiting_at i p = c.waiting_at-w.ensures ∙ ap (λ (j : ℕ). waiting_at j p) e in
     omega (arith, waiting-inside r f i t p m)
 
 pub returns-then-queues-w-eq0 : goal.returns-then-queues-w-eq0
 returns-then-queues-w-eq0 c =
-    let l = c.before.before.before.before.before in
-    let a = l.before.before.before.before.before.before.before.before.args in
+    let l = c in
+    let a = l.args in
     let r : Ranges = record { list = a.list.now; books = a.all.now; queues = a.queues.now } in
     let p = a.p.0 in
-    let m = l.before.before.if1.false in
+    let m = l.if-all-p.false in
     let i = place_of a.id.0 (views_made r) in
-    let e : l.place.result ≡ i = l.place.ensures in
+    let e : l.place-i.result ≡ i = l.place-i.ensures in
     let t : i < made_of r = omega (arith, c.if-made-i.false) in
     let w : c.waiting_at-w.result ≡ waiting_at i p = c.waiting_at-w.ensures ∙ ap (λ (j : ℕ). waiting_at j p) e in
     order-refused r p a.id.0 NoneWaiting (none-waiting r p a.id.0 m t (rw w at c.if-queues-w-eq0.true))
 
 pub bounds-queues-c : goal.bounds-queues-c
 bounds-queues-c c =
-    let l = c.before.before.before.before.before.before in
-    let a = l.before.before.before.before.before.before.before.before.args in
+    let l = c in
+    let a = l.args in
     let r : Ranges = record { list = a.list.now; books = a.all.now; queues = a.queues.now } in
-    let h = l.before.before.before.before.before.before.before.before.requires in
+    let h = l.requires in
     let f = ranged r h in
-    let m = l.before.before.if1.false in
+    let m = l.if-all-p.false in
     let i = place_of a.id.0 (views_made r) in
-    let e : l.place.result ≡ i = l.place.ensures in
+    let e : l.place-i.result ≡ i = l.place-i.ensures in
     let t : i < made_of r = omega (arith, c.if-made-i.false) in
     let o : c.order_at-c.result ≡ order_at i = c.order_at-c.ensures ∙ ap order_at e in
     omega (arith, order-inside r f i t)
 
 pub returns-then-queues-c-ge-ORDERED : goal.returns-then-queues-c-ge-ORDERED
 returns-then-queues-c-ge-ORDERED c =
-    let l = c.before.before.before.before.before.before.before in
-    let a = l.before.before.before.before.before.before.before.before.args in
+    let l = c in
+    let a = l.args in
     let r : Ranges = record { list = a.list.now; books = a.all.now; queues = a.queues.now } in
     let p = a.p.0 in
-    let m = l.before.before.if1.false in
+    let m = l.if-all-p.false in
     let i = place_of a.id.0 (views_made r) in
-    let e : l.place.result ≡ i = l.place.ensures in
+    let e : l.place-i.result ≡ i = l.place-i.ensures in
     let t : i < made_of r = omega (arith, c.if-made-i.false) in
     let w : c.waiting_at-w.result ≡ waiting_at i p = c.waiting_at-w.ensures ∙ ap (λ (j : ℕ). waiting_at j p) e in
     let o : c.order_at-c.result ≡ order_at i = c.order_at-c.ensures ∙ ap order_at e in
@@ -134,15 +134,15 @@ returns-then-queues-c-ge-ORDERED c =
 
 pub forward-requires : goal.forward-requires
 forward-requires c =
-    let l = c.before.before.before.before.before.before.before.before in
-    let a = l.before.before.before.before.before.before.before.before.args in
+    let l = c in
+    let a = l.args in
     let r : Ranges = record { list = a.list.now; books = a.all.now; queues = a.queues.now } in
-    let h = l.before.before.before.before.before.before.before.before.requires in
+    let h = l.requires in
     let f = ranged r h in
     let p = a.p.0 in
-    let m = l.before.before.if1.false in
+    let m = l.if-all-p.false in
     let i = place_of a.id.0 (views_made r) in
-    let e : l.place.result ≡ i = l.place.ensures in
+    let e : l.place-i.result ≡ i = l.place-i.ensures in
     let t : i < made_of r = omega (arith, c.if-made-i.false) in
     let w : c.waiting_at-w.result ≡ waiting_at i p = c.waiting_at-w.ensures ∙ ap (λ (j : ℕ). waiting_at j p) e in
     let o : c.order_at-c.result ≡ order_at i = c.order_at-c.ensures ∙ ap order_at e in
@@ -153,13 +153,13 @@ forward-requires c =
 
 pub returns : goal.returns
 returns c =
-    let l = c.before.before.before.before.before.before.before.before.before.before.before in
-    let a = l.before.before.before.before.before.before.before.before.args in
+    let l = c in
+    let a = l.args in
     let r : Ranges = record { list = a.list.now; books = a.all.now; queues = a.queues.now } in
     let p = a.p.0 in
-    let m = l.before.before.if1.false in
+    let m = l.if-all-p.false in
     let i = place_of a.id.0 (views_made r) in
-    let e : l.place.result ≡ i = l.place.ensures in
+    let e : l.place-i.result ≡ i = l.place-i.ensures in
     let t : i < made_of r = omega (arith, c.if-made-i.false) in
     let w : c.waiting_at-w.result ≡ waiting_at i p = c.waiting_at-w.ensures ∙ ap (λ (j : ℕ). waiting_at j p) e in
     let o : c.order_at-c.result ≡ order_at i = c.order_at-c.ensures ∙ ap order_at e in

@@ -48,70 +48,70 @@ slice_bounds-load_seat-end c =
 
 pub returns-then-not-carrier : goal.returns-then-not-carrier
 returns-then-not-carrier c =
-    let l = c.before.before in
+    let l = c in
     let a = l.before.before.before.before.before.before.before.before.before.before.args in
     let r : Ranges = record { list = a.list.now; books = a.all.now; queues = a.queues.now } in
     let h = l.before.before.before.before.before.before.before.before.before.before.requires in
     let p = a.p.0 in
-    let m = l.before.before.before.before.if1.false in
+    let m = l.if1.false in
     let b = book_bytes r.books p in
-    let s : l.load_seat.result ≡ (record_in b).carrier = place_is r.books p (book_size * p + book_size - book_size * p) (omega arith) _ l.load_seat.ensures in
+    let s : l.load_seat-carrier.result ≡ (record_in b).carrier = place_is r.books p (book_size * p + book_size - book_size * p) (omega arith) _ l.load_seat-carrier.ensures in
     pass-refused r p NoCarrierView (no-carrier r p h m (sym (ap (λ (z : Seat). z.there) s) ∙ not-true _ c.if-not-carrier.true))
 
 pub bounds-all-a : goal.bounds-all-a
 bounds-all-a c =
-    let l = c.before.before.before in
+    let l = c in
     let a = l.before.before.before.before.before.before.before.before.before.before.args in
     let r : Ranges = record { list = a.list.now; books = a.all.now; queues = a.queues.now } in
     let h = l.before.before.before.before.before.before.before.before.before.before.requires in
     let f = ranged r h in
-    let m = l.before.before.before.before.if1.false in
+    let m = l.if1.false in
     omega (arith, f.books, f.members.1)
 
 pub returns-then-all-a-eq0 : goal.returns-then-all-a-eq0
 returns-then-all-a-eq0 c =
-    let l = c.before.before.before.before in
+    let l = c in
     let a = l.before.before.before.before.before.before.before.before.before.before.args in
     let r : Ranges = record { list = a.list.now; books = a.all.now; queues = a.queues.now } in
     let h = l.before.before.before.before.before.before.before.before.before.before.requires in
     let p = a.p.0 in
-    let m = l.before.before.before.before.if1.false in
+    let m = l.if1.false in
     let b = book_bytes r.books p in
-    let s : l.load_seat.result ≡ (record_in b).carrier = place_is r.books p (book_size * p + book_size - book_size * p) (omega arith) _ l.load_seat.ensures in
+    let s : l.load_seat-carrier.result ≡ (record_in b).carrier = place_is r.books p (book_size * p + book_size - book_size * p) (omega arith) _ l.load_seat-carrier.ensures in
     let t : (record_in b).carrier.there ≡ true = sym (ap (λ (z : Seat). z.there) s) ∙ not-false _ c.if-not-carrier.false in
     pass-refused r p NoneOutgoing (none-outgoing r p h m t (book-byte r.books p outgoing_at (omega arith) ∙ c.if-all-a-eq0.true))
 
 pub bounds-queues-0 : goal.bounds-queues-0
 bounds-queues-0 c =
-    let l = c.before.before.before.before.before in
+    let l = c in
     let a = l.before.before.before.before.before.before.before.before.before.before.args in
     let r : Ranges = record { list = a.list.now; books = a.all.now; queues = a.queues.now } in
     let h = l.before.before.before.before.before.before.before.before.before.before.requires in
     let f = ranged r h in
-    let m = l.before.before.before.before.if1.false in
+    let m = l.if1.false in
     omega (arith, f.queues)
 
 pub place-i-requires : goal.place-i-requires
 place-i-requires c =
-    let l = c.before.before.before.before.before in
-    let a = l.before.before.before.before.before.before.before.before.before.before.args in
+    let l = c in
+    let a = l.args in
     let r : Ranges = record { list = a.list.now; books = a.all.now; queues = a.queues.now } in
-    let h = l.before.before.before.before.before.before.before.before.before.before.requires in
+    let h = l.requires in
     let f = ranged r h in
-    let m = l.before.before.before.before.if1.false in
+    let m = l.if-all-p.false in
     (omega (arith, f.made.1), made-rise r h)
 
 pub waiting_at-w-requires : goal.waiting_at-w-requires
 waiting_at-w-requires c =
-    let l = c.before.before.before.before.before.before in
-    let a = l.before.before.before.before.before.before.before.before.before.before.args in
+    let l = c in
+    let a = l.args in
     let r : Ranges = record { list = a.list.now; books = a.all.now; queues = a.queues.now } in
-    let h = l.before.before.before.before.before.before.before.before.before.before.requires in
+    let h = l.requires in
     let f = ranged r h in
     let p = a.p.0 in
-    let m = l.before.before.before.before.if1.false in
+    let m = l.if-all-p.false in
     let b = book_bytes r.books p in
-    let s : l.load_seat.result ≡ (record_in b).carrier = place_is r.books p (book_size * p + book_size - book_size * p) (omega arith) _ l.load_seat.ensures in
+    let s : l.load_seat-carrier.result ≡ (record_in b).carrier = place_is r.books p (book_size * p + book_size - book_size * p) (omega arith) _ l.load_seat-carrier.ensures in
     let t : (record_in b).carrier.there ≡ true = sym (ap (λ (z : Seat). z.there) s) ∙ not-false _ c.if-not-carrier.false in
     let i = place_of (id_of (carried_in b)) (views_made r) in
     let e : c.place-i.result ≡ i = c.place-i.ensures ∙ ap (λ (z : Seat). place_of (id_of z.view) (views_made r)) s in
@@ -119,15 +119,15 @@ waiting_at-w-requires c =
 
 pub bounds-queues-w : goal.bounds-queues-w
 bounds-queues-w c =
-    let l = c.before.before.before.before.before.before.before.before in
-    let a = l.before.before.before.before.before.before.before.before.before.before.args in
+    let l = c in
+    let a = l.args in
     let r : Ranges = record { list = a.list.now; books = a.all.now; queues = a.queues.now } in
-    let h = l.before.before.before.before.before.before.before.before.before.before.requires in
+    let h = l.requires in
     let f = ranged r h in
     let p = a.p.0 in
-    let m = l.before.before.before.before.if1.false in
+    let m = l.if-all-p.false in
     let b = book_bytes r.books p in
-    let s : l.load_seat.result ≡ (record_in b).carrier = place_is r.books p (book_size * p + book_size - book_size * p) (omega arith) _ l.load_seat.ensures in
+    let s : l.load_seat-carrier.result ≡ (record_in b).carrier = place_is r.books p (book_size * p + book_size - book_size * p) (omega arith) _ l.load_seat-carrier.ensures in
     let t : (record_in b).carrier.there ≡ true = sym (ap (λ (z : Seat). z.there) s) ∙ not-false _ c.if-not-carrier.false in
     let i = place_of (id_of (carried_in b)) (views_made r) in
     let e : c.place-i.result ≡ i = c.place-i.ensures ∙ ap (λ (z : Seat). place_of (id_of z.view) (views_made r)) s in
@@ -136,14 +136,14 @@ bounds-queues-w c =
 
 pub returns-then-queues-w-ge-WAITING : goal.returns-then-queues-w-ge-WAITING
 returns-then-queues-w-ge-WAITING c =
-    let l = c.before.before.before.before.before.before.before.before.before in
-    let a = l.before.before.before.before.before.before.before.before.before.before.args in
+    let l = c in
+    let a = l.args in
     let r : Ranges = record { list = a.list.now; books = a.all.now; queues = a.queues.now } in
-    let h = l.before.before.before.before.before.before.before.before.before.before.requires in
+    let h = l.requires in
     let p = a.p.0 in
-    let m = l.before.before.before.before.if1.false in
+    let m = l.if-all-p.false in
     let b = book_bytes r.books p in
-    let s : l.load_seat.result ≡ (record_in b).carrier = place_is r.books p (book_size * p + book_size - book_size * p) (omega arith) _ l.load_seat.ensures in
+    let s : l.load_seat-carrier.result ≡ (record_in b).carrier = place_is r.books p (book_size * p + book_size - book_size * p) (omega arith) _ l.load_seat-carrier.ensures in
     let t : (record_in b).carrier.there ≡ true = sym (ap (λ (z : Seat). z.there) s) ∙ not-false _ c.if-not-carrier.false in
     let o : 0 < get_or b outgoing_at 0 = omega (arith, book-byte r.books p outgoing_at (omega arith), c.if-all-a-eq0.false) in
     let i = place_of (id_of (carried_in b)) (views_made r) in
@@ -153,24 +153,24 @@ returns-then-queues-w-ge-WAITING c =
 
 pub slice_bounds-forward-end : goal.slice_bounds-forward-end
 slice_bounds-forward-end c =
-    let l = c.before.before.before.before.before.before.before.before.before in
-    let a = l.before.before.before.before.before.before.before.before.before.before.args in
+    let l = c in
+    let a = l.args in
     let r : Ranges = record { list = a.list.now; books = a.all.now; queues = a.queues.now } in
-    let h = l.before.before.before.before.before.before.before.before.before.before.requires in
+    let h = l.requires in
     let f = ranged r h in
-    let m = l.before.before.before.before.if1.false in
+    let m = l.if-all-p.false in
     omega (arith, f.books, f.members.1)
 
 pub forward-requires : goal.forward-requires
 forward-requires c =
-    let l = c.before.before.before.before.before.before.before.before.before.before.before in
-    let a = l.before.before.before.before.before.before.before.before.before.before.args in
+    let l = c in
+    let a = l.args in
     let r : Ranges = record { list = a.list.now; books = a.all.now; queues = a.queues.now } in
-    let h = l.before.before.before.before.before.before.before.before.before.before.requires in
+    let h = l.requires in
     let p = a.p.0 in
-    let m = l.before.before.before.before.if1.false in
+    let m = l.if-all-p.false in
     let b = book_bytes r.books p in
-    let s : l.load_seat.result ≡ (record_in b).carrier = place_is r.books p (book_size * p + book_size - book_size * p) (omega arith) _ l.load_seat.ensures in
+    let s : l.load_seat-carrier.result ≡ (record_in b).carrier = place_is r.books p (book_size * p + book_size - book_size * p) (omega arith) _ l.load_seat-carrier.ensures in
     let t : (record_in b).carrier.there ≡ true = sym (ap (λ (z : Seat). z.there) s) ∙ not-false _ c.if-not-carrier.false in
     let o : 0 < get_or b outgoing_at 0 = omega (arith, book-byte r.books p outgoing_at (omega arith), c.if-all-a-eq0.false) in
     let i = place_of (id_of (carried_in b)) (views_made r) in
@@ -181,14 +181,14 @@ forward-requires c =
 
 pub returns : goal.returns
 returns c =
-    let l = c.before.before.before.before.before.before.before.before.before.before.before.before.before.before.before.before in
-    let a = l.before.before.before.before.before.before.before.before.before.before.args in
+    let l = c in
+    let a = l.args in
     let r : Ranges = record { list = a.list.now; books = a.all.now; queues = a.queues.now } in
-    let h = l.before.before.before.before.before.before.before.before.before.before.requires in
+    let h = l.requires in
     let p = a.p.0 in
-    let m = l.before.before.before.before.if1.false in
+    let m = l.if-all-p.false in
     let b = book_bytes r.books p in
-    let s : l.load_seat.result ≡ (record_in b).carrier = place_is r.books p (book_size * p + book_size - book_size * p) (omega arith) _ l.load_seat.ensures in
+    let s : l.load_seat-carrier.result ≡ (record_in b).carrier = place_is r.books p (book_size * p + book_size - book_size * p) (omega arith) _ l.load_seat-carrier.ensures in
     let t : (record_in b).carrier.there ≡ true = sym (ap (λ (z : Seat). z.there) s) ∙ not-false _ c.if-not-carrier.false in
     let o : 0 < get_or b outgoing_at 0 = omega (arith, book-byte r.books p outgoing_at (omega arith), c.if-all-a-eq0.false) in
     let i = place_of (id_of (carried_in b)) (views_made r) in

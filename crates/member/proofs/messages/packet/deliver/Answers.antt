@@ -72,9 +72,6 @@ loop-at-preserved c =
     let gave = rw (take_all (length s - l.at) (drop l.at s) (omega (arith, length-drop l.at s))) at c.deliver_front-f.ensures in
     (underway-goes a.b.now s a.q.0 l.b l.at l.count bytes l.invariant.0 (omega arith) _ _ gave c.in-Accepted.is, search rules)
 
-pub shape_of-b : goal.shape_of-b
-shape_of-b c = c.loop-at.invariant.1
-
 pub returns : goal.returns
 returns c =
     let a = c.before.before.before.before.before.before.before.args in

@@ -22,15 +22,15 @@ write_from-w-requires c =
 
 pub returns-in-Refused : goal.returns-in-Refused
 returns-in-Refused c =
-    let early = c.before.before.before.before.before in
+    let early = c in
     let a = early.before.before.before.before.before.before.before.before.before.args in
-    let wrote = wrote-slot a.b.now first_at a.view _ _ early.before.before.before.before.before.load_message.ensures early.before.before.before.carried.ensures _ _ _ early.write_from.ensures in
+    let wrote = wrote-slot a.b.now first_at a.view _ _ early.load_message.ensures early.carried.ensures _ _ _ early.write_from-w.ensures in
     out-refused _ _ _ _ _ wrote _ c.in-Refused.is
 
 pub returns-in-Accepted : goal.returns-in-Accepted
 unfolding pass_bytes
 returns-in-Accepted c =
-    let early = c.before.before.before.before.before.before.before.before in
+    let early = c in
     let a = early.before.before.before.before.before.before.before.before.before.args in
-    let wrote = wrote-slot a.b.now first_at a.view _ _ early.before.before.before.before.before.load_message.ensures early.before.before.before.carried.ensures _ _ _ early.write_from.ensures in
+    let wrote = wrote-slot a.b.now first_at a.view _ _ early.load_message.ensures early.carried.ensures _ _ _ early.write_from-w.ensures in
     out-accepted _ _ _ _ _ wrote c.in-Accepted.is _ c.pop.ensures

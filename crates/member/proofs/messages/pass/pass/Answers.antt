@@ -11,5 +11,5 @@ returns-in-Refused c = pass-refused _ _ _ c.admit-v.ensures _ c.in-Refused.is
 
 pub returns-in-Accepted : goal.returns-in-Accepted
 returns-in-Accepted c =
-    let early = c.before.before.before.before in
-    pass-given _ _ _ early.before.before.before.before.before.admit.ensures early.before.before.before.enum_told.given.1 _ _ _ early.pass_first.ensures
+    let early = c in
+    pass-given _ _ _ early.admit-v.ensures early.in-Accepted.is _ _ _ early.pass_first.ensures

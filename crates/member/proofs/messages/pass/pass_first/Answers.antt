@@ -15,8 +15,8 @@ bounds-b-191 c = omega (arith, sound-size _ c.before.before.before.before.before
 
 pub returns-then-b-eq0 : goal.returns-then-b-eq0
 returns-then-b-eq0 c =
-    let early = c.before.before.before.before in
-    pass-emptied _ early.before.before.before.before.requires _ early.load_seat.ensures c.if-not-carrier.false _ c.if-b-eq0.true
+    let early = c in
+    pass-emptied _ early.before.before.before.before.requires _ early.load_seat-carrier.ensures c.if-not-carrier.false _ c.if-b-eq0.true
 
 pub give_out-requires : goal.give_out-requires
 give_out-requires c =
