@@ -13,13 +13,13 @@ pub overflow_sub-i : goal.overflow_sub-i
 overflow_sub-i c = some-made (ranges c.args.list.now c.args.all.now c.args.queues.now) c.requires.0
 
 pub overflow_cast-i : goal.overflow_cast-i
-overflow_cast-i c = omega (arith, few-made (ranges c.before.before.before.before.before.args.list.now c.before.before.before.before.before.args.all.now c.before.before.before.before.before.args.queues.now) c.before.before.before.before.before.requires.0)
+overflow_cast-i c = omega (arith, few-made (ranges c.args.list.now c.args.all.now c.args.queues.now) c.requires.0)
 
 pub overflow_mul-i : goal.overflow_mul-i
-overflow_mul-i c = omega (arith, few-made (ranges c.before.before.before.before.before.args.list.now c.before.before.before.before.before.args.all.now c.before.before.before.before.before.args.queues.now) c.before.before.before.before.before.requires.0)
+overflow_mul-i c = omega (arith, few-made (ranges c.args.list.now c.args.all.now c.args.queues.now) c.requires.0)
 
 pub load_view-v-requires : goal.load_view-v-requires
-load_view-v-requires c = listed-inside (ranges c.before.before.before.before.before.args.list.now c.before.before.before.before.before.args.all.now c.before.before.before.before.before.args.queues.now) c.before.before.before.before.before.requires.0
+load_view-v-requires c = listed-inside (ranges c.args.list.now c.args.all.now c.args.queues.now) c.requires.0
 
 pub all_or_none-x-requires : goal.all_or_none-x-requires
 all_or_none-x-requires c =
@@ -30,8 +30,8 @@ all_or_none-x-requires c =
 
 pub returns-in-Refused : goal.returns-in-Refused
 returns-in-Refused c =
-    counted-refused (newest-is (ranges c.before.before.before.before.before.before.before.before.before.before.before.before.before.before.before.before.before.before.before.before.args.list.now c.before.before.before.before.before.before.before.before.before.before.before.before.before.before.before.before.before.before.before.before.args.all.now c.before.before.before.before.before.before.before.before.before.before.before.before.before.before.before.before.before.before.before.before.args.queues.now) c.before.before.before.before.before.before.before.before.before.before.before.before.before.before.before.before.before.before.before.before.requires.0 _ c.load_view-v.ensures) c.all_or_none-x.ensures c.in-Refused.is c.refuse.ensures
+    counted-refused (newest-is (ranges c.args.list.now c.args.all.now c.args.queues.now) c.requires.0 _ c.load_view-v.ensures) c.all_or_none-x.ensures c.in-Refused.is c.refuse.ensures
 
 pub returns-in-Accepted : goal.returns-in-Accepted
 returns-in-Accepted c =
-    counted-accepted (newest-is (ranges c.before.before.before.before.before.before.before.before.before.before.before.before.before.before.before.before.before.before.before.args.list.now c.before.before.before.before.before.before.before.before.before.before.before.before.before.before.before.before.before.before.before.args.all.now c.before.before.before.before.before.before.before.before.before.before.before.before.before.before.before.before.before.before.before.args.queues.now) c.before.before.before.before.before.before.before.before.before.before.before.before.before.before.before.before.before.before.before.requires.0 _ c.load_view-v.ensures) c.all_or_none-x.ensures c.in-Accepted.is c.count.ensures
+    counted-accepted (newest-is (ranges c.args.list.now c.args.all.now c.args.queues.now) c.requires.0 _ c.load_view-v.ensures) c.all_or_none-x.ensures c.in-Accepted.is c.count.ensures

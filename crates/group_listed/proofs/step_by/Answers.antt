@@ -12,12 +12,12 @@ slice_bounds-bytes-end c = part_end _ _ _ c.long-e.ensures c.spread-bytes.ensure
 pub slice_bounds-view_in-end : goal.slice_bounds-view_in-end
 slice_bounds-view_in-end c =
     let early = c in
-    part-more early.before.before.before.before.before.before.before.before.before.before.before.args.l _ _ early.long.ensures early.spread.ensures early.step.new.0 (drop (early.long.result - 0) early.spread.result) early.bytes2.given
+    part-more early.args.l _ _ early.long.ensures early.spread.ensures early.step.new.0 (drop (early.long.result - 0) early.spread.result) early.bytes2.given
 
 -- src/calls.rt:86:1
 pub returns : goal.returns
 returns c =
-    let a = c.before.before.before.before.before.before.before.before.before.before.before.before.before.before.before.before.before.before.args in
+    let a = c.args in
     let long = c.long.ensures in
     let spread = c.spread.ensures in
     stepped_by a.l _ _ _ _ _ _ _ _ _ _ _ (part_in a.l _ _ long spread) c.step.ensures c.next.ensures (part_left a.l _ _ long spread _ _ c.bytes2.given) c.view_in-view.ensures

@@ -9,4 +9,4 @@ pub returns-then-got-lt0 : goal.returns-then-got-lt0
 returns-then-got-lt0 c = record { more = search rules; within = search rules; same = part-before c.args.input.now c.read-got.new.1.0 c.args.held c.requires; none = λ _. refl }
 
 pub returns : goal.returns
-returns c = record { more = search rules; within = search rules; same = part-before c.before.before.before.before.before.before.before.before.before.args.input.now c.read.new.1.0 c.before.before.before.before.before.before.before.before.before.args.held c.before.before.before.before.before.before.before.before.before.requires; none = λ e. absurd (true≢false (sym e)) }
+returns c = record { more = search rules; within = search rules; same = part-before c.args.input.now c.read.new.1.0 c.args.held c.requires; none = λ e. absurd (true≢false (sym e)) }

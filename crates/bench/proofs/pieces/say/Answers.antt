@@ -12,9 +12,9 @@ use Rattle.bench.proofs.pieces.say.Goals as goal
 
 pub returns-then-out-filled-lt-LONGEST_REPLY : goal.returns-then-out-filled-lt-LONGEST_REPLY
 returns-then-out-filled-lt-LONGEST_REPLY c =
-    let z : Sized c.before.before.before.before.before.before.before.before.args.r.event = record { member = omega arith; identifier = omega arith; set = omega arith; sender = omega arith; entry = omega arith } in
-    let l : length (reply_line c.before.before.before.before.before.before.before.before.args.r) ≤ longest_reply = reply-fits c.before.before.before.before.before.before.before.before.args.r z in
-    put-place _ c.before.before.before.before.before.before.before.before.args.out.now _ 0 _ _ (place-front c.before.before.before.before.before.before.before.before.args.filled c.before.before.before.before.before.before.before.before.args.out.now (omega arith)) (wrote-put _ c.before.before.before.before.before.before.before.before.args.out.now _ _ (omega arith) c.write-w.ensures)
+    let z : Sized c.args.r.event = record { member = omega arith; identifier = omega arith; set = omega arith; sender = omega arith; entry = omega arith } in
+    let l : length (reply_line c.args.r) ≤ longest_reply = reply-fits c.args.r z in
+    put-place _ c.args.out.now _ 0 _ _ (place-front c.args.filled c.args.out.now (omega arith)) (wrote-put _ c.args.out.now _ _ (omega arith) c.write-w.ensures)
 
 pub overflow_add-result : goal.overflow_add-result
 overflow_add-result c =

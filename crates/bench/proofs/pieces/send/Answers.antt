@@ -3,4 +3,4 @@ use lib.Seq.{length-take-le}
 use Rattle.bench.proofs.pieces.send.Goals as goal
 
 pub slice_bounds-write_all-end : goal.slice_bounds-write_all-end
-slice_bounds-write_all-end c = sym (length-take-le c.before.before.args.filled c.before.before.args.out.now c.before.before.requires)
+slice_bounds-write_all-end c = sym (length-take-le c.args.filled c.args.out.now c.requires)

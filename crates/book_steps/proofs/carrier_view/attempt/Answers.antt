@@ -7,19 +7,19 @@ use Rattle.book_bytes.specs.Places.{inward_at}
 use Rattle.book_steps.proofs.carrier_view.attempt.Goals as goal
 
 pub load-h-requires : goal.load-h-requires
-load-h-requires c = omega (arith, sound-size _ c.before.before.requires)
+load-h-requires c = omega (arith, sound-size _ c.requires)
 
 pub bounds-b-0 : goal.bounds-b-0
-bounds-b-0 c = omega (arith, sound-size _ c.before.before.before.before.requires)
+bounds-b-0 c = omega (arith, sound-size _ c.requires)
 
 pub lend-s-requires : goal.lend-s-requires
-lend-s-requires c = attempt-asks _ _ (loaded-side _ c.before.before.before.before.requires _ c.load-h.ensures)
+lend-s-requires c = attempt-asks _ _ (loaded-side _ c.requires _ c.load-h.ensures)
 
 pub bounds-b-1 : goal.bounds-b-1
-bounds-b-1 c = omega (arith, sound-size _ c.before.before.before.before.before.before.before.before.requires)
+bounds-b-1 c = omega (arith, sound-size _ c.requires)
 
 pub empty-requires : goal.empty-requires
-empty-requires c = (omega (arith, sound-size _ c.before.before.before.before.before.before.before.before.before.before.requires), loaded-side _ c.before.before.before.before.before.before.before.before.before.before.requires _ c.load-h.ensures)
+empty-requires c = (omega (arith, sound-size _ c.requires), loaded-side _ c.requires _ c.load-h.ensures)
 
 pub store-requires : goal.store-requires
 store-requires c =

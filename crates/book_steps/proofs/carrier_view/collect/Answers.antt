@@ -6,16 +6,16 @@ use Rattle.book_steps.proofs.MarkLaws.{collect-few, collect-done}
 use Rattle.book_steps.proofs.carrier_view.collect.Goals as goal
 
 pub load-h-requires : goal.load-h-requires
-load-h-requires c = omega (arith, sound-size _ c.before.before.requires)
+load-h-requires c = omega (arith, sound-size _ c.requires)
 
 pub bounds-b-0 : goal.bounds-b-0
-bounds-b-0 c = omega (arith, sound-size _ c.before.before.before.before.requires)
+bounds-b-0 c = omega (arith, sound-size _ c.requires)
 
 pub lend-s-requires : goal.lend-s-requires
 lend-s-requires c = collect-asks _ _
 
 pub keep-requires : goal.keep-requires
-keep-requires c = (omega (arith, sound-size _ c.before.before.before.before.before.before.before.requires), collect-few _ _ c.load-h.ensures _ (collect-lent _ _ _ c.lend-s.ensures))
+keep-requires c = (omega (arith, sound-size _ c.requires), collect-few _ _ c.load-h.ensures _ (collect-lent _ _ _ c.lend-s.ensures))
 
 pub returns : goal.returns
 returns c =

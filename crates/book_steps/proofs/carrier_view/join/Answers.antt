@@ -5,18 +5,18 @@ use Rattle.book_steps.proofs.JoinLaws.{join-refused, join-accepted}
 use Rattle.book_steps.proofs.carrier_view.join.Goals as goal
 
 pub load_seat-carrier-requires : goal.load_seat-carrier-requires
-load_seat-carrier-requires c = omega (arith, sound-size _ c.before.before.requires)
+load_seat-carrier-requires c = omega (arith, sound-size _ c.requires)
 
 pub bounds-b-1 : goal.bounds-b-1
-bounds-b-1 c = omega (arith, sound-size _ c.before.before.before.before.requires)
+bounds-b-1 c = omega (arith, sound-size _ c.requires)
 
 pub announce-requires : goal.announce-requires
 announce-requires c =
-    let layout = sound-layout _ c.before.before.before.before.before.before.before.before.requires in
+    let layout = sound-layout _ c.requires in
     (omega (arith, layout.size), layout.side, layout.opens)
 
 pub enter-requires : goal.enter-requires
-enter-requires c = omega (arith, c.announce.auto.b, sound-size _ c.before.before.before.before.before.before.before.before.before.before.before.before.requires)
+enter-requires c = omega (arith, c.announce.auto.b, sound-size _ c.requires)
 
 pub returns-in-Refused : goal.returns-in-Refused
 returns-in-Refused c = join-refused _ _ _ c.load_seat-carrier.ensures _ c.join_verdict.ensures _ _ c.in-Refused.is c.refuse.ensures

@@ -5,19 +5,19 @@ use Rattle.book_steps.proofs.SpeakLaws.{register-refused, register-fits, registe
 use Rattle.book_steps.proofs.client_view.register.Goals as goal
 
 pub load_current-h-requires : goal.load_current-h-requires
-load_current-h-requires c = omega (arith, sound-size _ c.before.before.requires)
+load_current-h-requires c = omega (arith, sound-size _ c.requires)
 
 pub bounds-b-191 : goal.bounds-b-191
-bounds-b-191 c = omega (arith, sound-size _ c.before.before.before.before.requires)
+bounds-b-191 c = omega (arith, sound-size _ c.requires)
 
 pub bounds-b-1 : goal.bounds-b-1
-bounds-b-1 c = omega (arith, sound-size _ c.before.before.before.before.before.before.before.before.before.requires)
+bounds-b-1 c = omega (arith, sound-size _ c.requires)
 
 pub say-requires : goal.say-requires
-say-requires c = (omega (arith, sound-size _ c.before.before.before.before.before.before.before.before.before.before.before.requires), register-fits _ _ c.load_current-h.ensures _ c.register-verdict.ensures _ c.spoken-m.ensures c.in-Accepted.is)
+say-requires c = (omega (arith, sound-size _ c.requires), register-fits _ _ c.load_current-h.ensures _ c.register-verdict.ensures _ c.spoken-m.ensures c.in-Accepted.is)
 
 pub bounds-b-19 : goal.bounds-b-19
-bounds-b-19 c = omega (arith, sound-size _ c.before.before.before.before.before.before.before.before.before.before.before.before.before.before.requires, c.say.auto.b)
+bounds-b-19 c = omega (arith, sound-size _ c.requires, c.say.auto.b)
 
 pub returns-in-Refused : goal.returns-in-Refused
 returns-in-Refused c = register-refused _ _ c.load_current-h.ensures _ c.register-verdict.ensures _ _ c.in-Refused.is c.refuse.ensures

@@ -5,16 +5,16 @@ use Rattle.book_steps.proofs.SpeakLaws.{send-refused, send-fits, send-done}
 use Rattle.book_steps.proofs.client_view.send.Goals as goal
 
 pub load_current-h-requires : goal.load_current-h-requires
-load_current-h-requires c = omega (arith, sound-size _ c.before.before.requires)
+load_current-h-requires c = omega (arith, sound-size _ c.requires)
 
 pub bounds-b-191 : goal.bounds-b-191
-bounds-b-191 c = omega (arith, sound-size _ c.before.before.before.before.requires)
+bounds-b-191 c = omega (arith, sound-size _ c.requires)
 
 pub bounds-b-1 : goal.bounds-b-1
-bounds-b-1 c = omega (arith, sound-size _ c.before.before.before.before.before.before.before.before.before.requires)
+bounds-b-1 c = omega (arith, sound-size _ c.requires)
 
 pub say-requires : goal.say-requires
-say-requires c = (omega (arith, sound-size _ c.before.before.before.before.before.before.before.before.before.before.before.requires), send-fits _ _ c.load_current-h.ensures _ c.send-verdict.ensures _ _ c.spoken-m.ensures c.in-Accepted.is)
+say-requires c = (omega (arith, sound-size _ c.requires), send-fits _ _ c.load_current-h.ensures _ c.send-verdict.ensures _ _ c.spoken-m.ensures c.in-Accepted.is)
 
 pub returns-in-Refused : goal.returns-in-Refused
 returns-in-Refused c = send-refused _ _ c.load_current-h.ensures _ c.send-verdict.ensures _ _ _ c.in-Refused.is c.refuse.ensures

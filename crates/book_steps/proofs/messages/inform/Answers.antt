@@ -5,7 +5,7 @@ use Rattle.book_steps.proofs.messages.inform.Goals as goal
 
 pub note-requires : goal.note-requires
 note-requires c =
-    let pre = c.before.before.before.before.before.before.before.before.before.before.before.before.before.before.requires in
+    let pre = c.requires in
     let ready = settled-ready _ _ (pre.0, pre.1) _ c.store_view.ensures in
     (ready.0, ready.1, pre.3, omega arith, omega arith)
 

@@ -16,7 +16,7 @@ returns-then-opens-gt-OPEN c =
 
 pub note-requires : goal.note-requires
 note-requires c =
-    let pre = c.before.before.before.before.before.before.before.before.before.before.before.before.before.before.before.requires in
+    let pre = c.requires in
     let ready = held-ready _ _ (pre.0, pre.1) _ c.if-opens-gt-OPEN.false c.store_held.ensures in
     (ready.0, ready.1, pre.3, omega arith, omega arith)
 

@@ -10,7 +10,7 @@ use Rattle.book_steps.proofs.TakeLaws.{gained-ready, took-client}
 use Rattle.book_steps.proofs.messages.receive.Goals as goal
 
 pub gaining-c-requires : goal.gaining-c-requires
-gaining-c-requires c = let sound = c.before.before.requires.0 in (omega (arith, sound-size _ sound), (sound-layout _ sound).side)
+gaining-c-requires c = let sound = c.requires.0 in (omega (arith, sound-size _ sound), (sound-layout _ sound).side)
 
 pub gain-requires : goal.gain-requires
 gain-requires c =
@@ -21,11 +21,11 @@ gain-requires c =
 
 pub count-requires : goal.count-requires
 count-requires c =
-    let pre = c.before.before.before.before.before.before.before.before.requires in
+    let pre = c.requires in
     gained-ready _ _ (omega (arith, sound-size _ pre.0), pre.1) _ _ _ (rw c.gaining-c.ensures (omega arith)) c.gain.ensures
 
 pub returns : goal.returns
 returns c =
-    let a = c.before.before.before.before.before.before.before.before.before.before.before.args in
+    let a = c.args in
     let count = c.count in
     took-client a.q.0 _ _ count.ensures.0 _ a.x (count.ensures.1 ∙ ap one_more (c.gain.ensures ∙ ap (λ (z : ℕ). gained a.b.now z a.q.0 a.x) c.gaining-c.ensures))

@@ -6,7 +6,7 @@ use Rattle.group.proofs.step.step.Goals as goal
 
 pub returns-then-not-sound : goal.returns-then-not-sound
 returns-then-not-sound c =
-    let a = c.before.before.before.before.before.before.before.before.before.args in
+    let a = c.args in
     unsound-went (record { list = a.list.now; books = a.all.now; queues = a.queues.now }) (sym c.sound.ensures ∙ not-true _ c.if-not-sound.true-raw) (asked a.kind a.first a.second) _ c.refuse.ensures
 
 pub dispatch-requires : goal.dispatch-requires

@@ -30,7 +30,7 @@ steps-requires c =
     let o = early in
     let r : Ranges = ranges o.args.list.now o.args.all.now o.args.queues.now in
     let bytes : RangesBytes r = record {
-      list = λ j. omega (arith, early.before.before.before.slice-known.given j);
+      list = λ j. omega (arith, early.slice_known-1.given j);
       books = λ j. omega (arith, early.slice-known2.given j);
       queues = λ j. omega (arith, early.slice-known3.given j);
     } in
@@ -43,7 +43,7 @@ returns c =
     let o = early in
     let r : Ranges = ranges o.args.list.now o.args.all.now o.args.queues.now in
     let bytes : RangesBytes r = record {
-      list = λ j. omega (arith, early.before.before.before.slice-known.given j);
+      list = λ j. omega (arith, early.slice_known-1.given j);
       books = λ j. omega (arith, early.slice-known2.given j);
       queues = λ j. omega (arith, early.slice-known3.given j);
     } in

@@ -13,7 +13,7 @@ use Rattle.group_form.proofs.undo.keeping_queues.Goals as goal
 
 pub save-requires : goal.save-requires
 save-requires c =
-    let s = c.before.before.before.before.before.requires in
+    let s = c.requires in
     (length-replicate {A = ℕ} 32905 0, omega (arith, stands-low s), omega (arith, stands-inside s))
 
 pub steps-x-requires : goal.steps-x-requires
@@ -21,13 +21,13 @@ steps-x-requires c e = absurd (true≢false (sym e))
 
 pub restore-requires : goal.restore-requires
 restore-requires c =
-    let s = c.before.before.before.before.before.before.before.before.before.before.before.before.before.before.before.before.before.before.before.before.before.requires in
+    let s = c.requires in
     (ap length c.save.ensures ∙ queues-size _ _ (stands-inside s), omega (arith, stands-low s), omega (arith, stands-inside s))
 
 pub returns-in_default : goal.returns-in_default
 returns-in_default c =
-    let bytes : RangesBytes (ranges c.before.before.before.before.before.before.before.before.before.before.before.before.before.before.before.before.before.before.before.before.before.before.before.before.args.list.now c.before.before.before.before.before.before.before.before.before.before.before.before.before.before.before.before.before.before.before.before.before.before.before.before.args.all.now c.before.before.before.before.before.before.before.before.before.before.before.before.before.before.before.before.before.before.before.before.before.before.before.before.args.queues.now) = record { list = λ j. omega (arith, c.slice-known.given j); books = λ j. omega (arith, c.slice-known2.given j); queues = λ j. omega (arith, c.slice-known3.given j) } in
-    queues-put-back c.before.before.before.before.before.before.before.before.before.before.before.before.before.before.before.before.before.before.before.before.before.before.before.before.requires bytes c.steps-x.ensures c.in_default.is _ _ c.save.ensures c.restore.ensures
+    let bytes : RangesBytes (ranges c.args.list.now c.args.all.now c.args.queues.now) = record { list = λ j. omega (arith, c.slice-known.given j); books = λ j. omega (arith, c.slice-known2.given j); queues = λ j. omega (arith, c.slice-known3.given j) } in
+    queues-put-back c.requires bytes c.steps-x.ensures c.in_default.is _ _ c.save.ensures c.restore.ensures
 
 pub returns : goal.returns
-returns c = queues-taken c.before.before.before.before.before.before.before.before.before.before.before.before.before.before.before.before.before.before.before.requires c.steps-x.ensures c.in-Accepted.is
+returns c = queues-taken c.requires c.steps-x.ensures c.in-Accepted.is

@@ -32,10 +32,10 @@ slice_bounds-put-end c = omega (arith, length-set c.loop.digits c.loop.i (48 + c
 pub put-requires : goal.put-requires
 put-requires c =
     let l = c.loop in
-    let e = number-end c.before.before.before.before.before.before.args.x l.rest l.i l.digits (omega arith) (omega arith) l.invariant.4 l.invariant.1 in
-    rw e (omega (arith, decimal-length c.before.before.before.before.before.before.args.x))
+    let e = number-end c.args.x l.rest l.i l.digits (omega arith) (omega arith) l.invariant.4 l.invariant.1 in
+    rw e (omega (arith, decimal-length c.args.x))
 
 pub returns : goal.returns
 returns c =
     let l = c.loop in
-    put_same _ (decimal c.before.before.before.before.before.before.before.before.before.args.x) c.before.before.before.before.before.before.before.before.before.args.text.now _ c.before.before.before.before.before.before.before.before.before.args.at _ (number-end c.before.before.before.before.before.before.before.before.before.args.x l.rest l.i l.digits (omega arith) (omega arith) l.invariant.4 l.invariant.1) c.put.ensures
+    put_same _ (decimal c.args.x) c.args.text.now _ c.args.at _ (number-end c.args.x l.rest l.i l.digits (omega arith) (omega arith) l.invariant.4 l.invariant.1) c.put.ensures

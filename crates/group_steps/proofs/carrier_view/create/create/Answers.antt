@@ -33,15 +33,15 @@ bounds-queues-0 c =
 
 pub above-requires : goal.above-requires
 above-requires c =
-    let a = c.before.before.before.before.before.before.before.before.args in
+    let a = c.args in
     let r : Ranges = record { list = a.list.now; books = a.all.now; queues = a.queues.now } in
-    let f = ranged r c.before.before.before.before.before.before.before.before.requires in
+    let f = ranged r c.requires in
     omega (arith, f.made.1)
 
 pub returns-then-not-above : goal.returns-then-not-above
 returns-then-not-above c =
     let l = c in
-    let a = l.before.before.before.before.before.before.before.before.before.args in
+    let a = l.args in
     let r : Ranges = record { list = a.list.now; books = a.all.now; queues = a.queues.now } in
     let t : fits (members_of r) a.set ≡ true = sym l.fits2.ensures ∙ not-false _ l.if1.false in
     create-refused r a.id.0 a.set IdentifierNotAbove (not-above r a.id.0 a.set t (sym l.above.ensures ∙ not-true _ c.if-not-above.true-raw))
@@ -49,9 +49,9 @@ returns-then-not-above c =
 pub overflow_cast-made : goal.overflow_cast-made
 overflow_cast-made c =
     let l = c in
-    let a = l.before.before.before.before.before.before.before.before.before.args in
+    let a = l.args in
     let r : Ranges = record { list = a.list.now; books = a.all.now; queues = a.queues.now } in
-    let h = l.before.before.before.before.before.before.before.before.before.requires in
+    let h = l.requires in
     let f = ranged r h in
     let t : fits (members_of r) a.set ≡ true = sym l.fits2.ensures ∙ not-false _ l.if1.false in
     omega (arith, f.made.1, f.room.1)
@@ -59,7 +59,7 @@ overflow_cast-made c =
 pub returns-then-list-made : goal.returns-then-list-made
 returns-then-list-made c =
     let l = c in
-    let a = l.before.before.before.before.before.before.before.before.before.args in
+    let a = l.args in
     let r : Ranges = record { list = a.list.now; books = a.all.now; queues = a.queues.now } in
     let t : fits (members_of r) a.set ≡ true = sym l.fits2.ensures ∙ not-false _ l.if1.false in
     let k : all_below a.id.0 (views_made r) ≡ true = sym l.above.ensures ∙ not-false _ c.if-not-above.false-raw in
@@ -68,9 +68,9 @@ returns-then-list-made c =
 pub make-requires : goal.make-requires
 make-requires c =
     let l = c in
-    let a = l.before.before.before.before.before.before.before.before.before.args in
+    let a = l.args in
     let r : Ranges = record { list = a.list.now; books = a.all.now; queues = a.queues.now } in
-    let h = l.before.before.before.before.before.before.before.before.before.requires in
+    let h = l.requires in
     let f = ranged r h in
     let t : fits (members_of r) a.set ≡ true = sym l.fits2.ensures ∙ not-false _ l.if1.false in
     let k : all_below a.id.0 (views_made r) ≡ true = sym l.above.ensures ∙ not-false _ c.if-not-above.false-raw in
@@ -80,7 +80,7 @@ make-requires c =
 pub returns : goal.returns
 returns c =
     let l = c in
-    let a = l.before.before.before.before.before.before.before.before.before.args in
+    let a = l.args in
     let r : Ranges = record { list = a.list.now; books = a.all.now; queues = a.queues.now } in
     let t : fits (members_of r) a.set ≡ true = sym l.fits2.ensures ∙ not-false _ l.if1.false in
     let k : all_below a.id.0 (views_made r) ≡ true = sym l.above.ensures ∙ not-false _ c.if-not-above.false-raw in

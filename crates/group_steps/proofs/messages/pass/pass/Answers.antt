@@ -41,17 +41,17 @@ returns-then-all-p c =
 
 pub slice_bounds-load_seat-end : goal.slice_bounds-load_seat-end
 slice_bounds-load_seat-end c =
-    let a = c.before.before.before.before.before.before.before.before.args in
+    let a = c.args in
     let r : Ranges = record { list = a.list.now; books = a.all.now; queues = a.queues.now } in
-    let f = ranged r c.before.before.before.before.before.before.before.before.requires in
+    let f = ranged r c.requires in
     omega (arith, f.books, f.members.1)
 
 pub returns-then-not-carrier : goal.returns-then-not-carrier
 returns-then-not-carrier c =
     let l = c in
-    let a = l.before.before.before.before.before.before.before.before.before.before.args in
+    let a = l.args in
     let r : Ranges = record { list = a.list.now; books = a.all.now; queues = a.queues.now } in
-    let h = l.before.before.before.before.before.before.before.before.before.before.requires in
+    let h = l.requires in
     let p = a.p.0 in
     let m = l.if1.false in
     let b = book_bytes r.books p in
@@ -61,9 +61,9 @@ returns-then-not-carrier c =
 pub bounds-all-a : goal.bounds-all-a
 bounds-all-a c =
     let l = c in
-    let a = l.before.before.before.before.before.before.before.before.before.before.args in
+    let a = l.args in
     let r : Ranges = record { list = a.list.now; books = a.all.now; queues = a.queues.now } in
-    let h = l.before.before.before.before.before.before.before.before.before.before.requires in
+    let h = l.requires in
     let f = ranged r h in
     let m = l.if1.false in
     omega (arith, f.books, f.members.1)
@@ -71,9 +71,9 @@ bounds-all-a c =
 pub returns-then-all-a-eq0 : goal.returns-then-all-a-eq0
 returns-then-all-a-eq0 c =
     let l = c in
-    let a = l.before.before.before.before.before.before.before.before.before.before.args in
+    let a = l.args in
     let r : Ranges = record { list = a.list.now; books = a.all.now; queues = a.queues.now } in
-    let h = l.before.before.before.before.before.before.before.before.before.before.requires in
+    let h = l.requires in
     let p = a.p.0 in
     let m = l.if1.false in
     let b = book_bytes r.books p in
@@ -84,9 +84,9 @@ returns-then-all-a-eq0 c =
 pub bounds-queues-0 : goal.bounds-queues-0
 bounds-queues-0 c =
     let l = c in
-    let a = l.before.before.before.before.before.before.before.before.before.before.args in
+    let a = l.args in
     let r : Ranges = record { list = a.list.now; books = a.all.now; queues = a.queues.now } in
-    let h = l.before.before.before.before.before.before.before.before.before.before.requires in
+    let h = l.requires in
     let f = ranged r h in
     let m = l.if1.false in
     omega (arith, f.queues)

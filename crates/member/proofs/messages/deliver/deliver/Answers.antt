@@ -12,7 +12,7 @@ use Rattle.member.proofs.messages.deliver.deliver.Goals as goal
 pub deliver_read-taken-requires : goal.deliver_read-taken-requires
 deliver_read-taken-requires c =
     let admitted = call-sound _ _ c.admit-v.ensures c.in-Accepted.is in
-    (admitted, λ e. at_front c.before.before.before.before.before.before.before.before.args.bytes.now (sym c.verdict-read.ensures ∙ e))
+    (admitted, λ e. at_front c.args.bytes.now (sym c.verdict-read.ensures ∙ e))
 
 pub returns-in-Refused : goal.returns-in-Refused
 unfolding deliver_call deliver_alone
@@ -21,12 +21,12 @@ returns-in-Refused c = call-refused _ _ _ _ c.admit-v.ensures _ c.in-Refused.is 
 pub returns-in-Refused-taken : goal.returns-in-Refused-taken
 unfolding replied
 returns-in-Refused-taken c =
-    let a = c.before.before.before.before.before.before.before.before.before.before.before.before.before.before.before.args in
+    let a = c.args in
     one-done a.b.now a.bytes.now a.q.0 _ c.admit-v.ensures c.in-Accepted.is _ c.verdict-read.ensures _ _ c.deliver_read-taken.ensures _
     (c.refuse-in-Refused-taken.ensures ∙ ap (λ (v : Verdict). record { verdict = v; event = no_event }) (sym c.in-Refused-taken.is))
 
 pub returns-in-Accepted-taken : goal.returns-in-Accepted-taken
 returns-in-Accepted-taken c =
-    let a = c.before.before.before.before.before.before.before.before.before.before.before.before.before.before.args in
+    let a = c.args in
     one-done a.b.now a.bytes.now a.q.0 _ c.admit-v.ensures c.in-Accepted.is _ c.verdict-read.ensures _ _ c.deliver_read-taken.ensures _
     (λ i. record { verdict = sym c.in-Accepted-taken.is i; event = c.no_event.ensures i })

@@ -12,11 +12,11 @@ use Rattle.member.proofs.PacketLaws.{underway-begins, underway-ends, underway-st
 use Rattle.member.proofs.messages.packet.deliver.Goals as goal
 
 pub returns-then-not-sound : goal.returns-then-not-sound
-returns-then-not-sound c = let a = c.before.before.before.before.before.args in packet-refused a.bytes.now a.q.0 a.b.now _ c.sound.ensures c.if-not-sound.true-raw
+returns-then-not-sound c = let a = c.args in packet-refused a.bytes.now a.q.0 a.b.now _ c.sound.ensures c.if-not-sound.true-raw
 
 pub loop-at-init : goal.loop-at-init
 loop-at-init c =
-    let a = c.before.before.before.before.before.args in
+    let a = c.args in
     let bytes : AreBytes a.b.now = λ j. omega (arith, c.slice-known.given j) in
     (underway-begins a.b.now a.bytes.now a.q.0 bytes (sym c.sound.ensures ∙ not-false _ c.if-not-sound.false-raw), refl)
 
@@ -25,7 +25,7 @@ deliver_front-f-requires c = c.loop-at.invariant.0.sound
 
 pub returns-in_default : goal.returns-in_default
 returns-in_default c =
-    let a = c.before.before.before.before.before.before.before.before.before.before.before.before.before.before.args in
+    let a = c.args in
     let l = c.loop-at in
     let s = a.bytes.now in
     let bytes : AreBytes s = λ j. omega (arith, c.shared-slice-known.given j) in
@@ -35,7 +35,7 @@ returns-in_default c =
 
 pub overflow_add-at : goal.overflow_add-at
 overflow_add-at c =
-    let a = c.before.before.before.before.before.before.before.before.before.before.before.before.before.before.before.args in
+    let a = c.args in
     let l = c.loop-at in
     let s = a.bytes.now in
     let bytes : AreBytes s = λ j. omega (arith, c.shared-slice-known.given j) in
@@ -45,7 +45,7 @@ overflow_add-at c =
 
 pub overflow_add-count : goal.overflow_add-count
 overflow_add-count c =
-    let a = c.before.before.before.before.before.before.before.before.before.before.before.before.before.before.before.args in
+    let a = c.args in
     let l = c.loop-at in
     let s = a.bytes.now in
     let bytes : AreBytes s = λ j. omega (arith, c.shared-slice-known.given j) in
@@ -55,7 +55,7 @@ overflow_add-count c =
 
 pub loop-at-smaller : goal.loop-at-smaller
 loop-at-smaller c =
-    let a = c.before.before.before.before.before.before.before.before.before.before.before.before.before.before.before.args in
+    let a = c.args in
     let l = c.loop-at in
     let s = a.bytes.now in
     let bytes : AreBytes s = λ j. omega (arith, c.shared-slice-known.given j) in
@@ -65,7 +65,7 @@ loop-at-smaller c =
 
 pub loop-at-preserved : goal.loop-at-preserved
 loop-at-preserved c =
-    let a = c.before.before.before.before.before.before.before.before.before.before.before.before.before.before.before.args in
+    let a = c.args in
     let l = c.loop-at in
     let s = a.bytes.now in
     let bytes : AreBytes s = λ j. omega (arith, c.shared-slice-known.given j) in
@@ -74,6 +74,6 @@ loop-at-preserved c =
 
 pub returns : goal.returns
 returns c =
-    let a = c.before.before.before.before.before.before.before.args in
+    let a = c.args in
     let l = c.loop-at in
     underway-ends a.b.now a.bytes.now a.q.0 l.b l.at l.count (sym c.sound.ensures ∙ not-false _ c.if-not-sound.false-raw) l.invariant.0 (omega arith)

@@ -5,18 +5,18 @@ use Rattle.member.proofs.PassLaws.{pass-unseated, pass-emptied, first_frame, fir
 use Rattle.member.proofs.messages.pass.pass_first.Goals as goal
 
 pub load_seat-carrier-requires : goal.load_seat-carrier-requires
-load_seat-carrier-requires c = omega (arith, sound-size _ c.before.before.before.requires)
+load_seat-carrier-requires c = omega (arith, sound-size _ c.requires)
 
 pub returns-then-not-carrier : goal.returns-then-not-carrier
-returns-then-not-carrier c = pass-unseated _ c.before.before.before.before.before.before.requires _ c.load_seat-carrier.ensures _ c.if-not-carrier.true
+returns-then-not-carrier c = pass-unseated _ c.requires _ c.load_seat-carrier.ensures _ c.if-not-carrier.true
 
 pub bounds-b-191 : goal.bounds-b-191
-bounds-b-191 c = omega (arith, sound-size _ c.before.before.before.before.before.before.before.requires)
+bounds-b-191 c = omega (arith, sound-size _ c.requires)
 
 pub returns-then-b-eq0 : goal.returns-then-b-eq0
 returns-then-b-eq0 c =
     let early = c in
-    pass-emptied _ early.before.before.before.before.requires _ early.load_seat-carrier.ensures c.if-not-carrier.false _ c.if-b-eq0.true
+    pass-emptied _ early.requires _ early.load_seat-carrier.ensures c.if-not-carrier.false _ c.if-b-eq0.true
 
 pub give_out-requires : goal.give_out-requires
 give_out-requires c =
