@@ -19,7 +19,7 @@ bounds-b-25 c = simp length-set (omega (arith, c.requires))
 pub loop-i-init : goal.loop-i-init
 loop-i-init c =
     let a = c.args in
-    let z : length a.h.tolds ≡ max_members = simp length-map at c.well_formed.1.0.1.1.1.1.1.1.1.1.1.1.1.1.1.0.1.0.1 in
+    let z : length a.h.tolds ≡ max_members = c.well_formed.1.0.1.1.1.1.1.1.1.1.1.1.1.1.1.0.1.0.1 in
     let first = set (set a.b.now infos_at a.h.infos) registrations_at a.h.registrations in
     (omega arith, z, simp length-set (omega (arith, c.requires)), refl, paste-zero first tolds_at a.h.tolds)
 

@@ -13,7 +13,7 @@ use Rattle.group_listed.proofs.list.sets_fit.Goals as goal
 pub loop-i-init : goal.loop-i-init
 loop-i-init c =
     let l = c.args.l in (
-      c.used-n.ensures ∙ sym (length-used l.count l.at (simp length-map at c.well_formed.0.1.1.1.0.1.0.1)),
+      c.used-n.ensures ∙ sym (length-used l.count l.at c.well_formed.0.1.1.1.0.1.0.1),
       omega (arith, c.used-n.ensures),
       omega arith,
       refl,

@@ -19,7 +19,7 @@ returns-then-not-majority c = rw (passes-majority c.args.v c.args.settled, sym c
 pub loop-i-init : goal.loop-i-init
 loop-i-init c =
     let a = c.args in (
-      c.used-n.ensures ∙ sym (length-used a.opens.count a.opens.at (simp length-map at c.well_formed.1.1.0.1.1.1.0.1.0.1)),
+      c.used-n.ensures ∙ sym (length-used a.opens.count a.opens.at c.well_formed.1.1.0.1.1.1.0.1.0.1),
       omega (arith, c.used-n.ensures),
       omega arith,
       refl,

@@ -11,7 +11,7 @@ use Rattle.views.proofs.list.find.Goals as goal
 pub loop-i-init : goal.loop-i-init
 loop-i-init c =
     let list = c.args.list in (
-      c.used-n.ensures ∙ sym (length-used list.count list.at (simp length-map at c.well_formed.0.1.1.1.0.1.0.1)),
+      c.used-n.ensures ∙ sym (length-used list.count list.at c.well_formed.0.1.1.1.0.1.0.1),
       omega (arith, c.used-n.ensures),
       omega arith,
       refl,

@@ -13,7 +13,7 @@ use Rattle.views.proofs.list.prune.Goals as goal
 pub loop-i-init : goal.loop-i-init
 loop-i-init c =
     let a = c.args in (
-      c.used-n.ensures ∙ sym (length-used a.list.count a.list.at (simp length-map at c.well_formed.0.1.1.1.0.1.0.1)),
+      c.used-n.ensures ∙ sym (length-used a.list.count a.list.at c.well_formed.0.1.1.1.0.1.0.1),
       omega (arith, c.used-n.ensures),
       omega arith,
       omega arith,

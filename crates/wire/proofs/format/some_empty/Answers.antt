@@ -12,7 +12,7 @@ use Rattle.wire.proofs.format.some_empty.Goals as goal
 pub loop-i-init : goal.loop-i-init
 loop-i-init c =
     let list = c.args.list in
-    let z : length list.at ≡ 32 = simp length-map at c.well_formed.0.1.1.1.0.1.0.1 in
+    let z : length list.at ≡ 32 = c.well_formed.0.1.1.1.0.1.0.1 in
     let l : length (list_of list) ≡ min list.count (length list.at) = length-take _ _ in
     let u = c.used-n.ensures in
     (omega arith, omega arith, refl)

@@ -9,7 +9,7 @@ use Rattle.wire.proofs.writer.store_views.Goals as goal
 pub loop-i-init : goal.loop-i-init
 loop-i-init c =
     let a = c.args in
-    let z : length a.list.at ≡ 32 = simp length-map at c.well_formed.1.1.0.1.1.1.0.1.0.1 in
+    let z : length a.list.at ≡ 32 = c.well_formed.1.1.0.1.1.1.0.1.0.1 in
     (omega arith, z, refl, store-start a.b.now a.from a.list.at (omega arith))
 
 pub loop-i-preserved : goal.loop-i-preserved

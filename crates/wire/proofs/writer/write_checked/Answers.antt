@@ -18,7 +18,7 @@ pub returns-then-b-size : goal.returns-then-b-size
 returns-then-b-size c =
     let a = c.args in
     let pre = c.requires in
-    let z : length a.f.views.at ≡ 32 = simp length-map at c.well_formed.1.0.1.1.1.1.0.1.1.1.0.1.0.1 in
+    let z : length a.f.views.at ≡ 32 = c.well_formed.1.0.1.1.1.1.0.1.1.1.0.1.0.1 in
     let s = length-frame a.f z (frame-few a.f pre) in
     wrote-short a.f a.b.now pre (omega arith)
 
