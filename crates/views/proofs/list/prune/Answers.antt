@@ -8,6 +8,7 @@ use lib.ListN.{get_or, drop, length-map, drop_of_length-le}
 use Rattle.views.specs.Lists.{above_of, list_of, no_view}
 use Rattle.views.proofs.PlaceLaws.{filling-start, filling-more, filling_skip, filling-end, length-used}
 use Rattle.views.proofs.WalkLaws.{above-here, above_on}
+use Rattle.views.proofs.list.prune.Goals.{then-floor-v, else-floor-v}
 use Rattle.views.proofs.list.prune.Goals as goal
 
 pub loop-i-init : goal.loop-i-init
@@ -28,24 +29,24 @@ loop-i-preserved c =
     let whole = above_of g (list_of a.list) in
     let rest = above_of g (drop l.i (list_of a.list)) in
     let v = get_or a.list.at l.i no_view in
-    ⊎_elim
-    (λ w. (
-      l.invariant.0,
-      l.invariant.1,
-      omega arith,
-      omega arith,
-      rw (w.1, w.2)
+    elim c.if-floor-v.branch [
+      then-floor-v w ↦ (
+        l.invariant.0,
+        l.invariant.1,
+        omega arith,
+        omega arith,
+        rw (w.at-is, w.k-is)
           (filling-more whole _ l.at l.k v
-          (filling_skip whole rest _ l.at l.k (above-here a.list.count a.list.at l.i (omega arith) g w.0.taken) l.invariant.4) (omega arith)),
-    ))
-    (λ w. (
+          (filling_skip whole rest _ l.at l.k (above-here a.list.count a.list.at l.i (omega arith) g w.if-floor-v.true) l.invariant.4) (omega arith)),
+      )
+      | else-floor-v w ↦ (
       l.invariant.0,
       l.invariant.1,
       omega arith,
       omega arith,
-      rw (w.1, w.2) (filling_skip whole rest _ l.at l.k (above_on a.list.count a.list.at l.i (omega arith) g w.0.left) l.invariant.4),
-    ))
-    c.if-floor-v.branch
+      rw (w.at-is, w.k-is) (filling_skip whole rest _ l.at l.k (above_on a.list.count a.list.at l.i (omega arith) g w.if-floor-v.false) l.invariant.4),
+      )
+    ]
 
 pub returns : goal.returns
 unfolding above_of
