@@ -1,5 +1,5 @@
 -- Laws of numbers in bytes, each once for every width. Callers use these and not the definitions.
-use mathlib.Core.Path.{◌≡◌, refl, sym, ap, ◌∙◌}
+use mathlib.Core.Path.{◌≡◌, refl, sym, ap, subst, ◌∙◌}
 use mathlib.Core.List.{List, [], ◌∷◌, ◌++◌, append_assoc}
 use Prim.Native.Nat.{ℕ, zero, suc, ◌+◌, ◌-◌, ◌*◌, ◌/◌, ◌%◌, ◌^◌, ◌<◌, ◌≤◌}
 use native.Mathlib.Nat.{pow-suc, pow-le-pow_right, add-zero, add-suc}
@@ -87,7 +87,7 @@ get-digits p (suc k) x q l =
     let at_low : get_or (p ++ (digits k (x / 256) ++ ((x % 256 ∷ []) ++ q))) (length p + k) 0 ≡ x % 256 =
     get_or-append-add p (digits k (x / 256) ++ ((x % 256 ∷ []) ++ q)) k 0 ∙ get_or_at (digits k (x / 256)) (x % 256) q 0 k (length_digits k (x / 256))
     in
-    rw re (omega (arith, ih, at_low))
+    subst (λ (z : List ℕ). get (p ++ z) (length p) (suc k) ≡ x) (sym re) (omega (arith, ih, at_low))
 
 -- each of the k bytes at `at` is a byte
 abbrev pub Bytes : List ℕ → ℕ → ℕ → Type 0
