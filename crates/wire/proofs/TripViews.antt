@@ -1,5 +1,5 @@
 -- Views as bytes: a list's bytes read back as the list, and the bytes of the views that are read are the bytes they were read from.
-use mathlib.Core.Path.{◌≡◌, refl, sym, ap, ◌∙◌}
+use mathlib.Core.Path.{◌≡◌, refl, sym, ap, subst, ◌∙◌}
 use mathlib.Core.List.{List, [], ◌∷◌, ◌++◌, append_assoc}
 use Prim.Native.Nat.{ℕ, zero, suc, ◌+◌, ◌*◌, ◌^◌, ◌≤◌, ◌<◌}
 use native.Mathlib.Nat.{pow-suc}
@@ -42,7 +42,8 @@ views-back p (v ∷ l) q h =
     let rest : views_in (p ++ (view_bytes v ++ (views_bytes l ++ q))) (length p + 5) (length l) ≡ l =
     rw (along, ← n) (views-back (p ++ view_bytes v) l q (λ (j : ℕ). h (suc j)))
     in
-    rw (front, rest) (ap (λ (x : View). x ∷ l) (view-back p v (views_bytes l ++ q) (h 0).id))
+    subst (λ (z : List ℕ). view_in z (length p) ∷ views_in z (length p + 5) (length l) ≡ v ∷ l) (sym front)
+    (rw rest (ap (λ (x : View). x ∷ l) (view-back p v (views_bytes l ++ q) (h 0).id)))
 
 -- ---- what is read is written
 

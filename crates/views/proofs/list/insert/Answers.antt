@@ -35,24 +35,23 @@ ready c =
     let front : left ≡ w ∷ rest = drop-used a.list.count a.list.at l.i (omega arith) in
     let still : l.ahead ≡ true → l.k ≤ l.i = l.invariant.4 in
     elim c.if-ahead.branch [
-      then-ahead+then-v-w+then-v-w-2 u ↦
-        let e : cond l.ahead (insert_of v left) left ≡ v ∷ w ∷ rest = rw (u.if-ahead.true, front, insert-here v w rest u.if-v-w-2.true) in
-        rw (u.at-is, u.k-is, u.ahead-is) (
-          omega (arith, still u.if-ahead.true),
-          λ x. absurd (true≢false (sym x)),
-          filling-more whole (w ∷ rest) l.at l.k v (filling_skip whole _ _ l.at l.k e l.invariant.5) (omega (arith, still u.if-ahead.true)),
-        )
+      | then-ahead+then-v-w+then-v-w-2 u ↦
+          let e : cond l.ahead (insert_of v left) left ≡ v ∷ w ∷ rest = rw (u.if-ahead.true, front, insert-here v w rest u.if-v-w-2.true) in
+          rw (u.at-is, u.k-is, u.ahead-is) (
+            omega (arith, still u.if-ahead.true),
+            λ x. absurd (true≢false (sym x)),
+            filling-more whole (w ∷ rest) l.at l.k v (filling_skip whole _ _ l.at l.k e l.invariant.5) (omega (arith, still u.if-ahead.true)),
+          )
       | then-ahead+then-v-w+else-v-w-2 u ↦
-        let e : cond l.ahead (insert_of v left) left ≡ w ∷ rest = rw (u.if-ahead.true, front, insert-same v w rest (omega (arith, u.if-v-w.true, u.if-v-w-2.false))) in
-        rw (u.at-is, u.k-is, u.ahead-is) (omega arith, λ x. absurd (true≢false (sym x)), filling_skip whole _ _ l.at l.k e l.invariant.5)
+          let e : cond l.ahead (insert_of v left) left ≡ w ∷ rest = rw (u.if-ahead.true, front, insert-same v w rest (omega (arith, u.if-v-w.true, u.if-v-w-2.false))) in
+          rw (u.at-is, u.k-is, u.ahead-is) (omega arith, λ x. absurd (true≢false (sym x)), filling_skip whole _ _ l.at l.k e l.invariant.5)
       | then-ahead+else-v-w u ↦
-        let e : cond l.ahead (insert_of v left) left ≡ w ∷ insert_of v rest = rw (u.if-ahead.true, front, insert-on v w rest u.if-v-w.false) in
-        rw (u.at-is, u.k-is, u.ahead-is) (omega arith, λ x. still x, rw u.if-ahead.true (filling_skip whole _ _ l.at l.k e l.invariant.5))
+          let e : cond l.ahead (insert_of v left) left ≡ w ∷ insert_of v rest = rw (u.if-ahead.true, front, insert-on v w rest u.if-v-w.false) in
+          rw (u.at-is, u.k-is, u.ahead-is) (omega arith, λ x. still x, rw u.if-ahead.true (filling_skip whole _ _ l.at l.k e l.invariant.5))
       | else-ahead u ↦
-        let e : cond l.ahead (insert_of v left) left ≡ w ∷ rest = rw (u.if-ahead.false, front) in
-        rw (u.at-is, u.k-is, u.ahead-is) (omega arith, λ x. still x, rw u.if-ahead.false (filling_skip whole _ _ l.at l.k e l.invariant.5))
+          let e : cond l.ahead (insert_of v left) left ≡ w ∷ rest = rw (u.if-ahead.false, front) in
+          rw (u.at-is, u.k-is, u.ahead-is) (omega arith, λ x. still x, rw u.if-ahead.false (filling_skip whole _ _ l.at l.k e l.invariant.5))
     ]
-
 
 pub loop-i-init : goal.loop-i-init
 loop-i-init c =
@@ -88,7 +87,7 @@ loop-i-preserved c =
       omega (arith, h.0),
       λ x. omega (arith, h.1 x),
       elim c.if-k-lt-VIEWS.branch [
-        then-k-lt-VIEWS u ↦ rw u.at-is (filling-more whole behind at k w h.2 u.if-k-lt-VIEWS.true)
+        | then-k-lt-VIEWS u ↦ rw u.at-is (filling-more whole behind at k w h.2 u.if-k-lt-VIEWS.true)
         | else-k-lt-VIEWS u ↦ rw u.at-is (filling-full whole behind at k w h.2 u.if-k-lt-VIEWS.false)
       ],
     )
@@ -103,7 +102,7 @@ returns-after-k-lt-VIEWS-2 c =
     let e : cond l.ahead (insert_of a.v (drop l.i (list_of a.list))) (drop l.i (list_of a.list)) ≡ a.v ∷ [] = rw (c.if-ahead-2.true, none) in
     let f = filling_skip whole _ (a.v ∷ []) l.at l.k e l.invariant.5 in
     elim c.if-k-lt-VIEWS-2.branch [
-      then-k-lt-VIEWS-2 u ↦ rw u.at-is (filling-end whole _ (l.k + 1) (filling-more whole [] l.at l.k a.v f u.if-k-lt-VIEWS-2.true))
+      | then-k-lt-VIEWS-2 u ↦ rw u.at-is (filling-end whole _ (l.k + 1) (filling-more whole [] l.at l.k a.v f u.if-k-lt-VIEWS-2.true))
       | else-k-lt-VIEWS-2 u ↦ rw u.at-is (filling-end whole _ (l.k + 1) (filling-full whole [] l.at l.k a.v f u.if-k-lt-VIEWS-2.false))
     ]
 

@@ -30,21 +30,21 @@ loop-i-preserved c =
     let rest = above_of g (drop l.i (list_of a.list)) in
     let v = get_or a.list.at l.i no_view in
     elim c.if-floor-v.branch [
-      then-floor-v w ↦ (
+      | then-floor-v w ↦ (
         l.invariant.0,
         l.invariant.1,
         omega arith,
         omega arith,
         rw (w.at-is, w.k-is)
-          (filling-more whole _ l.at l.k v
-          (filling_skip whole rest _ l.at l.k (above-here a.list.count a.list.at l.i (omega arith) g w.if-floor-v.true) l.invariant.4) (omega arith)),
+            (filling-more whole _ l.at l.k v
+            (filling_skip whole rest _ l.at l.k (above-here a.list.count a.list.at l.i (omega arith) g w.if-floor-v.true) l.invariant.4) (omega arith)),
       )
       | else-floor-v w ↦ (
-      l.invariant.0,
-      l.invariant.1,
-      omega arith,
-      omega arith,
-      rw (w.at-is, w.k-is) (filling_skip whole rest _ l.at l.k (above_on a.list.count a.list.at l.i (omega arith) g w.if-floor-v.false) l.invariant.4),
+        l.invariant.0,
+        l.invariant.1,
+        omega arith,
+        omega arith,
+        rw (w.at-is, w.k-is) (filling_skip whole rest _ l.at l.k (above_on a.list.count a.list.at l.i (omega arith) g w.if-floor-v.false) l.invariant.4),
       )
     ]
 

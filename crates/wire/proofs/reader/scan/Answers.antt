@@ -31,7 +31,7 @@ returns-then-not-views_allowed c =
     let if1 = c.if-size-lt1 in
     let known = c.known in
     let if2 = c.if-not-known in
-    sym (need-met _ _ (le-leb _ _ if1.false) ∙ need-met _ _ (sym known.ensures ∙ not-false _ if2.false) ∙ need-met _ _ (le-leb _ _ c.if-size-lt-VIEWS_AT.false) ∙ need-unmet _ _ (sym c.views_allowed.ensures ∙ not-true _ c.if-not-views_allowed.true-raw))
+    sym (need-met _ _ (le-leb _ _ if1.false) ∙ need-met _ _ (sym known.ensures ∙ not-false _ if2.false-raw) ∙ need-met _ _ (le-leb _ _ c.if-size-lt-VIEWS_AT.false) ∙ need-unmet _ _ (sym c.views_allowed.ensures ∙ not-true _ c.if-not-views_allowed.true-raw))
 
 pub overflow_mul-at : goal.overflow_mul-at
 overflow_mul-at c = omega (arith, c.shared_slice_known-3-1.given 5)
@@ -49,7 +49,7 @@ returns-then-size-at c =
     let known = c.known in
     let if2 = c.if-not-known in
     let if3 = c.if-size-lt-VIEWS_AT in
-    sym (need-met _ _ (le-leb _ _ if1.false) ∙ need-met _ _ (sym known.ensures ∙ not-false _ if2.false) ∙ need-met _ _ (le-leb _ _ if3.false) ∙ need-met _ _ (sym c.views_allowed.ensures ∙ not-false _ c.if-not-views_allowed.false-raw) ∙ need-unmet _ _ (lt-leb _ _ c.if-size-at.true))
+    sym (need-met _ _ (le-leb _ _ if1.false) ∙ need-met _ _ (sym known.ensures ∙ not-false _ if2.false-raw) ∙ need-met _ _ (le-leb _ _ if3.false) ∙ need-met _ _ (sym c.views_allowed.ensures ∙ not-false _ c.if-not-views_allowed.false-raw) ∙ need-unmet _ _ (lt-leb _ _ c.if-size-at.true))
 
 pub overflow_cast-m : goal.overflow_cast-m
 overflow_cast-m c =
@@ -65,7 +65,7 @@ returns-then-not-numbers_allowed c =
     let if3 = c.if-size-lt-VIEWS_AT in
     let va = c.views_allowed in
     let if4 = c.if-not-views_allowed in
-    sym (need-met _ _ (le-leb _ _ if1.false) ∙ need-met _ _ (sym known.ensures ∙ not-false _ if2.false) ∙ need-met _ _ (le-leb _ _ if3.false) ∙ need-met _ _ (sym va.ensures ∙ not-false _ if4.false) ∙ need-met _ _ (le-leb _ _ c.if-size-at.false) ∙ need-unmet _ _ (sym c.numbers_allowed.ensures ∙ not-true _ c.if-not-numbers_allowed.true-raw))
+    sym (need-met _ _ (le-leb _ _ if1.false) ∙ need-met _ _ (sym known.ensures ∙ not-false _ if2.false-raw) ∙ need-met _ _ (le-leb _ _ if3.false) ∙ need-met _ _ (sym va.ensures ∙ not-false _ if4.false-raw) ∙ need-met _ _ (le-leb _ _ c.if-size-at.false) ∙ need-unmet _ _ (sym c.numbers_allowed.ensures ∙ not-true _ c.if-not-numbers_allowed.true-raw))
 
 pub overflow_mul-m : goal.overflow_mul-m
 overflow_mul-m c =
@@ -88,7 +88,7 @@ returns-then-size-at-2 c =
     let va = c.views_allowed in
     let if4 = c.if-not-views_allowed in
     let if5 = c.if-size-at in
-    sym (need-met _ _ (le-leb _ _ if1.false) ∙ need-met _ _ (sym known.ensures ∙ not-false _ if2.false) ∙ need-met _ _ (le-leb _ _ if3.false) ∙ need-met _ _ (sym va.ensures ∙ not-false _ if4.false) ∙ need-met _ _ (le-leb _ _ if5.false) ∙ need-met _ _ (sym c.numbers_allowed.ensures ∙ not-false _ c.if-not-numbers_allowed.false-raw) ∙ need-unmet _ _ (lt-leb _ _ c.if-size-at-2.true))
+    sym (need-met _ _ (le-leb _ _ if1.false) ∙ need-met _ _ (sym known.ensures ∙ not-false _ if2.false-raw) ∙ need-met _ _ (le-leb _ _ if3.false) ∙ need-met _ _ (sym va.ensures ∙ not-false _ if4.false-raw) ∙ need-met _ _ (le-leb _ _ if5.false) ∙ need-met _ _ (sym c.numbers_allowed.ensures ∙ not-false _ c.if-not-numbers_allowed.false-raw) ∙ need-unmet _ _ (lt-leb _ _ c.if-size-at-2.true))
 
 pub returns : goal.returns
 unfolding scan_of
@@ -100,4 +100,4 @@ returns c =
     let va = c.views_allowed in
     let if4 = c.if-not-views_allowed in
     let if5 = c.if-size-at in
-    sym (need-met _ _ (le-leb _ _ if1.false) ∙ need-met _ _ (sym known.ensures ∙ not-false _ if2.false) ∙ need-met _ _ (le-leb _ _ if3.false) ∙ need-met _ _ (sym va.ensures ∙ not-false _ if4.false) ∙ need-met _ _ (le-leb _ _ if5.false) ∙ need-met _ _ (sym c.numbers_allowed.ensures ∙ not-false _ c.if-not-numbers_allowed.false-raw) ∙ need-met _ _ (le-leb _ _ c.if-size-at-2.false))
+    sym (need-met _ _ (le-leb _ _ if1.false) ∙ need-met _ _ (sym known.ensures ∙ not-false _ if2.false-raw) ∙ need-met _ _ (le-leb _ _ if3.false) ∙ need-met _ _ (sym va.ensures ∙ not-false _ if4.false-raw) ∙ need-met _ _ (le-leb _ _ if5.false) ∙ need-met _ _ (sym c.numbers_allowed.ensures ∙ not-false _ c.if-not-numbers_allowed.false-raw) ∙ need-met _ _ (le-leb _ _ c.if-size-at-2.false))

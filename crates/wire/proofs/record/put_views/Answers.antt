@@ -14,4 +14,4 @@ returns c =
     let copied = c.copy in
     let k = 14 + 5 * a.n in
     views-put a.out.now a.from.now a.at a.n k (174 - k) _ _ pre.0 pre.1 pre.2 (λ j. omega (arith, c.shared_slice_known-1.given j)) refl refl
-    copied.ensures (ap (λ (p : List ℕ). take k copied.new.0 ++ (p ++ drop (174 - k) (drop k copied.new.0))) c.clear.ensures)
+    copied.ensures (ap (λ (p : List ℕ). take k copied.new.out ++ (p ++ drop (174 - k) (drop k copied.new.out))) c.clear.ensures)

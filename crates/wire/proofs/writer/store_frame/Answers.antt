@@ -15,5 +15,5 @@ returns c =
     let store-front = c.store_front in
     let store-views = c.store_views in
     let f = a.f in
-    let z : length f.views.at ≡ 32 = simp length-map at good.1.0.1.1.1.1.0.1.1.1.0.1.0.1 in
+    let z : length f.views.at ≡ 32 = good.1.0.1.1.1.1.0.1.1.1.0.1.0.1 in
     frame-stored f.view.0 f.views.count f.message (list_of f.views) a.b.now _ _ _ (length-take-le f.views.count f.views.at (omega arith)) (rw kind.ensures at store-front.ensures) store-views.ensures c.store_numbers.ensures

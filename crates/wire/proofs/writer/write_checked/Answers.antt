@@ -33,6 +33,6 @@ returns c =
     let a = c.args in
     let good = c.well_formed in
     let pre = c.requires in
-    let z : length a.f.views.at ≡ 32 = simp length-map at good.1.0.1.1.1.1.0.1.1.1.0.1.0.1 in
+    let z : length a.f.views.at ≡ 32 = good.1.0.1.1.1.1.0.1.1.1.0.1.0.1 in
     let s = length-frame a.f z (frame-few a.f pre) in
     wrote-whole a.f a.b.now _ _ pre c.store_frame.ensures (omega arith) (omega arith)
