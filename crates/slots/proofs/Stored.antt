@@ -1,5 +1,5 @@
 -- What is stored reads back: a view, a list of views, a message in a slot.
-use mathlib.Core.Path.{◌≡◌, refl, sym, ap, ap₂, ◌∙◌}
+use mathlib.Core.Path.{◌≡◌, refl, sym, ap, ap₂, subst, ◌∙◌}
 use mathlib.Core.Bool.{true}
 use mathlib.Core.Logic.{inl}
 use mathlib.Core.List.{List, [], ◌∷◌, ◌++◌, append_assoc}
@@ -92,7 +92,7 @@ views-stored b at (v ∷ l) f h =
     let first : view_in (store_views w (at + 5) l) at ≡ v =
     view-apart (store_views-changed w (at + 5) l (omega arith)) at (inl (omega arith)) ∙ view-stored b at v (f 0) (omega arith)
     in
-    rw (store_views-cons b at v l h)
+    subst (λ (z : List ℕ). view_in z at ∷ views_in z (at + 5) (length l) ≡ v ∷ l) (sym (store_views-cons b at v l h))
     (ap₂ (λ (x : View) (k : List View). x ∷ k) first (views-stored w (at + 5) l (λ (j : ℕ). f (suc j)) (omega arith)))
 
 -- ---- a message with a number
