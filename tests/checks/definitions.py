@@ -11,7 +11,7 @@ MODIFIERS = {'abbrev', 'unfoldable', 'opaque', 'pub'}
 WORDS = set('λ → : = _ × . , ; ( ) { } ⌜ ⌝ « » let in record data where Type'.split())
 COMMENT = re.compile(r'(^|(?<=\s))--.*')
 USE = re.compile(r'(?:pub |ghost )*use ([^\s{;]+?)(?:\.\{([^}]*)\}| as ([^\s;]+))?;?$')
-MODULE = re.compile(r'Rattle·(\w+)(?:·\w+)?\.(specs|proofs)\.(.+)')
+MODULE = re.compile(r'Rattle\.(?!std\.)(\w+)\.(specs|proofs)\.(.+)')
 
 
 # ---- names
@@ -57,7 +57,7 @@ def free(found, scope):
             while found[i + 1] not in ('.', '=', ':') and not (found[i + 1] == '(' and binder(found, i + 1)):
                 i += 1
                 scope |= {found[i]}
-        elif is_name(token) and token not in scope and not (found[i + 1:i + 2] == ['='] and found[i - 1] in ('{', ';')):
+        elif is_name(token) and token not in scope and token.split('.')[0] not in scope and not (found[i + 1:i + 2] == ['='] and found[i - 1] in ('{', ';')):
             names.append(token)
         i += 1
     return names
@@ -117,7 +117,7 @@ class File:
             self.uses[path.split('::')[-1]] = path, path.split('::')[-1]
         for name in (names or '').split(','):
             own, _, other = name.strip().partition(' as ')
-            for part in {other or own} | {part for part in (other or own).split('_') if '_' in own and part}:
+            for part in {other or own} | {part for part in (other or own).split('◌') if '◌' in own and part}:
                 self.uses[part] = path, own
 
     def block(self, lines, around):
@@ -137,8 +137,8 @@ class File:
                 last = self.definitions.setdefault(words[0], made)
                 last.type = words[2:]
                 last.names += free(last.type, set(last.scope))
-                self.owners.update({part: last for part in words[0].split('_') if part and '_' in words[0]})
-            elif last and (words[0] == last.name or '_' in last.name):
+                self.owners.update({part: last for part in words[0].split('◌') if part and '◌' in words[0]})
+            elif last and (words[0] == last.name or '◌' in last.name):
                 self.clause(words, last)
             elif words[0] not in ('mod', 'unfolding'):
                 self.strange.append(chunk[0][0])

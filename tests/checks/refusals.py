@@ -95,7 +95,7 @@ def proof_of_numbers():
     for i in numbers:
         text += 'enum-told{0} : tie.Need-enum-told{0}\nenum-told{0} c = search needs\n\n'.format(suffix(i))
     for i in numbers:
-        text += 'returns{0} : tie.Need-returns{0}\nreturns{0} c = sym (ap numberOf (c .enum-told{1} .given .1))\n\n'.format(suffix(i), suffix(i, ''))
+        text += 'returns{0} : tie.Need-returns{0}\nreturns{0} c = sym (ap number_of (c .enum-told{1} .given .1))\n\n'.format(suffix(i), suffix(i, ''))
     text += 'pub number-spec : {M : Type 1} → statement M\nnumber-spec =\n    tie.close\n    (tie.spec\n'
     text += '\n'.join('    %s%s' % (need, suffix(i)) for need in ('enum-told', 'returns') for i in numbers)
     return text + ')\n'
@@ -166,11 +166,11 @@ WHOLE = ''  # before, or behind, all of the file
 PARTS = [
     ('crates/*/src/**/refusal.rt', 'pub enum Refusal {\n', '}\n', variants),
     ('crates/*/src/**/refusal.rt', '    match r {\n', '    }\n', each('        Refusal::{r.name} => {r.number},\n')),
-    ('crates/*/specs/**/Refusals.antt', '.Refusal.{Refusal}\n', 'use Rattle·views·specs.specs.declared.refusal.Verdict.{Verdict}\n', imports),
-    ('crates/*/specs/**/Refusals.antt', 'numberOf : Refusal → ℕ\n', '\n-- 0 for accepted', each('numberOf {r.name} = {r.number}\n')),
+    ('crates/*/specs/**/Refusals.antt', '.Refusal.{Refusal}\n', 'use Rattle.views.specs.declared.refusal.Verdict.{Verdict}\n', imports),
+    ('crates/*/specs/**/Refusals.antt', 'number_of : Refusal → ℕ\n', '\n-- 0 for accepted', each('number_of {r.name} = {r.number}\n')),
     ('crates/*/proofs/**/refusal/number/Proof.antt', '.Tie as tie\n\n', WHOLE, proof_of_numbers()),
-    ('crates/*/proofs/**/Numbers.antt', '.Refusal.{Refusal}\n', 'use Rattle·views·specs.specs.Refusals.{numberOf}\n', imports),
-    ('crates/*/proofs/**/Numbers.antt', 'eqb (numberOf r) 0 ≡ false\n', WHOLE, each('never-0 {r.name} = refl\n')),
+    ('crates/*/proofs/**/Numbers.antt', '.Refusal.{Refusal}\n', 'use Rattle.views.specs.Refusals.{number_of}\n', imports),
+    ('crates/*/proofs/**/Numbers.antt', 'eqb (number_of r) 0 ≡ false\n', WHOLE, each('never-0 {r.name} = refl\n')),
     ('include/dvs_refusals.h', WHOLE, WHOLE, c_header()),
     ('include/dvs_refusals.hpp', WHOLE, WHOLE, cpp_header()),
     ('tests/outside/refusals.inc', WHOLE, WHOLE, '/* The answers of include/dvs.h in the order of their numbers, from 0. */\n' +

@@ -30,11 +30,12 @@ def short(path):
 def contracts():
     """Each function that a host may call: what it is called, its file, and the names in what it ensures."""
     for crate, path in host_functions():
-        before, _, ensured = (function(crate, path) or '').partition('ensures {')
+        before, *clauses = re.split(r'\bensures(?: \w+)? (?={)', function(crate, path) or '')
+        ensured = ' '.join(clauses)
         if not ensured:
             faults.append('%s::%s ensures nothing' % (crate, path))
         else:
-            yield '%s::%s' % (crate, path), file(source(crate, path)), free(tokens(ensured), set(re.findall(r'(\w+):(?!:)', before)))
+            yield '%s::%s' % (crate, path), file(source(crate, path)), free(tokens(ensured), {'result', *re.findall(r'(\w+):(?!:)', before)})
 
 
 def named(cell, paths):
@@ -50,7 +51,7 @@ def named(cell, paths):
 
 def is_operator(where, token):
     found = where.meaning(token)
-    return getattr(found, 'name', found or '').endswith('_')
+    return '◌' in getattr(found, 'name', found or '')
 
 
 def is_named(d):
