@@ -29,6 +29,7 @@ use Rattle.record_steps.specs.Turns.{opened_to, attempted_at, settled_as}
 -- ---- lists of views
 
 pub each_in : (l : List View) → EachFits l → (v : View) → In v l → ViewFits v
+each_in [] f v i = elim i [ ]
 each_in (w ∷ l) f v top = f 0
 each_in (w ∷ l) f v (pop i) = each_in l (λ (j : ℕ). f (suc j)) v i
 

@@ -1,6 +1,6 @@
 -- Join keeps the invariants: the carrier view rises, and the info that p sends is new and says what p holds.
-use mathlib.Core.Path.{◌≡◌, refl, subst}
-use mathlib.Core.Logic.{inl, inr}
+use mathlib.Core.Path.{◌≡◌, refl, sym, subst}
+use mathlib.Core.Logic.{◌⊎◌, inl, inr}
 use Prim.Native.Nat.{ℕ, zero, suc, ◌≤◌, ◌<◌}
 use native.Mathlib.Omega.{arith}
 use Rattle.views.proofs.PointLaws.{upd-ind, upd-here, upd-up}
@@ -41,11 +41,13 @@ module _ (E : Env) (s : State) (i : Inv E s) (p v : ℕ) (m : Mem E v p) (above 
   open-sent g q w (Also.old t) = omega (arith, i.open-carrier g q w t, carrier-up q)
   open-sent g q w (Also.new t) = omega (arith, carrier-now)
 
+  was-or-new : (g q x : ℕ) → s'.sent_settled g q x → s.sent_settled g q x ⊎ ((g ≡ v) × (q ≡ p) × (x ≡ s.settled p))
+  was-or-new = plus3 (λ g q x. s.sent_settled g q x ⊎ ((g ≡ v) × (q ≡ p) × (x ≡ s.settled p))) (inr (refl, refl, refl)) (λ g q x t. inl t)
+
   sent-once : (g q x : ℕ) → s'.sent_settled g q x → (y : ℕ) → s'.sent_settled g q y → x ≡ y
   sent-once g q x (Plus3.old t) y (Plus3.old u) = i.sent-one g q x t y u
   sent-once g q x (Plus3.old t) y Plus3.new = absurd (unsent x t)
-  sent-once g q x Plus3.new y (Plus3.old u) = absurd (unsent y u)
-  sent-once g q x Plus3.new y Plus3.new = refl
+  sent-once g q x Plus3.new y u = elim (was-or-new v p y u) [ inl k ↦ absurd (unsent y k) | inr e ↦ sym e.2 ]
 
   sent-below : (g q w : ℕ) → Sent s' g q w → w < g
   sent-below g q w (inl (Plus3.old t)) = i.sent-bound g q w (inl t)

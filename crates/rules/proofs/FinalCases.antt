@@ -26,6 +26,7 @@ use Rattle.rules.proofs.Final.Places.{at_in, at-below, at-append}
 
 -- what holds of each of a list
 pub each_in : {A : Type 0} (P : A → Type 0) (l : List A) {x : A} → Each P l → In x l → P x
+each_in P [] c h = elim h [ ]
 each_in P (y ∷ l) c top = c.0
 each_in P (y ∷ l) c (pop i) = each_in P l c.1 i
 

@@ -13,5 +13,5 @@ pub returns : goal.returns
 returns c =
     let start = c in
     let a = start.args in
-    let z : length a.list.at ≡ 32 = simp length-map at start.well_formed.1.0.1.1.1.0.1.0.1 in
+    let z : length a.list.at ≡ 32 = start.well_formed.1.0.1.1.1.0.1.0.1 in
     opens-joined a.b.now _ a.list (length-take-le a.list.count a.list.at (omega arith)) (omega arith) c.store_views.ensures

@@ -3,15 +3,6 @@ use Rattle.book_bytes.specs.Places.{outgoing_at}
 use Rattle.book_steps.specs.Parts.{said_bytes}
 use Rattle.book_steps.proofs.say.Goals as goal
 
-pub overflow_cast-n : goal.overflow_cast-n
-overflow_cast-n c = omega (arith, c.slice_known-then-m-1.given outgoing_at)
-
-pub overflow_mul-n : goal.overflow_mul-n
-overflow_mul-n c = omega (arith, c.slice_known-then-m-1.given outgoing_at)
-
-pub overflow_add-n : goal.overflow_add-n
-overflow_add-n c = omega (arith, c.slice_known-then-m-1.given outgoing_at)
-
 pub store_short-requires : goal.store_short-requires
 store_short-requires c = omega (arith, c.requires.1 c.if-m.true)
 

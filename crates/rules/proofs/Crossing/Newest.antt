@@ -17,6 +17,7 @@ use Rattle.rules.specs.Crossing.{newest_first, Falls}
 module _ (f : View → Bool) where
   pub newest-has : (v : View) (l : List View) → In v l → f v ≡ true → In v (newest_first f l)
   unfolding newest_first
+  newest-has v [] h e = absurd (in-nil h)
   newest-has v (w ∷ l) top e = rw e (in_right (newest_first f l) top)
   newest-has v (w ∷ l) (pop h) e = in_left _ (newest-has v l h e)
 

@@ -17,7 +17,7 @@ module _ {A : Type 0} where
   at-below l n x h = place-below l n x h.0 h.1
 
   -- whatever is in a list has a place
-  pub in-at : {l : List A} {x : A} → In x l → (n : ℕ) × At l n x
+  pub in-at : {x : A} {l : List A} → In x l → (n : ℕ) × At l n x
   in-at (top {l}) = (0, (l, refl))
   in-at (pop h) = let r = in-at h in (suc r.0, r.1)
 

@@ -36,11 +36,14 @@ module _ {M : Type 0} where
   does-step (D.create v m h) p g c o i = absurd (in-nil i)
   does-step (D.order q j m r h) p g c o i = absurd (in-nil i)
   does-step (D.new_view q v h t l) p g c o (pop i) = absurd (in-nil i)
+  does-step (D.new_view q v h t l) p g _ o top = elim o [ ]
   does-step (D.registers q j h) p g c registering top = (h, h)
   does-step (D.registers q j h) p g c o (pop i) = absurd (in-nil i)
+  does-step (D.sends q j m h) p g _ o top = elim o [ ]
   does-step (D.sends q j m h) p g c o (pop i) = absurd (in-nil i)
   does-step (D.receives q j x h t) p g c (receiving y) top = (h, h)
   does-step (D.receives q j x h t) p g c o (pop i) = absurd (in-nil i)
+  does-step (D.safes q v x h u t z) p g _ o top = elim o [ ]
   does-step (D.safes q v x h u t z) p g c o (pop i) = absurd (in-nil i)
 
   module _ (v₀ : View) where

@@ -44,11 +44,11 @@ module _ {M : Type 0} (a : State) (d : Outer M) (s : Flat M) (r : Tied a d s) wh
     same-current⁺ C = ap (at p (suc v)) r.same-current
 
     opened-listed⁺ : OpenedListed a⁺ s⁺
-    opened-listed⁺ = upd-ind _ _ _ (λ q l. (w : ℕ) → Plus2 a.opened p v q w → In w l) own others
+    opened-listed⁺ = upd-ind _ _ _ (λ q l. (w : ℕ) → Plus2 a.opened p v q w → In w l) (λ w. own p w refl) others
       where
-        own : (w : ℕ) → Plus2 a.opened p v p w → In w os
-        own w (Plus2.old o) = keeps w (r.opened-listed p w o)
-        own w Plus2.new = opens
+        own : (q w : ℕ) → q ≡ p → Plus2 a.opened p v q w → In w os
+        own q w e (Plus2.old o) = keeps w (r.opened-listed p w (rw e at o))
+        own q w e Plus2.new = opens
 
         others : (q : ℕ) → q ≢ p → (w : ℕ) → Plus2 a.opened p v q w → In w (s.opens q)
         others q n w (Plus2.old o) = r.opened-listed q w o
@@ -96,12 +96,12 @@ module _ {M : Type 0} (a : State) (d : Outer M) (s : Flat M) (r : Tied a d s) wh
     collect-settled = ap (at p v) r.same-settled
 
     collect-opened : OpenedListed (collect_s a p v) (collect_f s p v os)
-    collect-opened = upd-ind _ _ _ (λ q l. (w : ℕ) → (collect_s a p v).opened q w → In w l) own others
+    collect-opened = upd-ind _ _ _ (λ q l. (w : ℕ) → (collect_s a p v).opened q w → In w l) (λ w. own p w refl) others
       where
-        own : (w : ℕ) → (collect_s a p v).opened p w → In w os
-        own w (Put.here (inl o, l)) = keeps w (r.opened-listed p w o) l
-        own w (Put.here (inr o, l)) = absurd o
-        own w (Put.there n o) = absurd (n refl)
+        own : (q w : ℕ) → q ≡ p → (collect_s a p v).opened q w → In w os
+        own q w e (Put.here (inl o, l)) = keeps w (r.opened-listed p w o) l
+        own q w e (Put.here (inr o, l)) = absurd o
+        own q w e (Put.there n o) = absurd (n e)
 
         others : (q : ℕ) → q ≢ p → (w : ℕ) → (collect_s a p v).opened q w → In w (s.opens q)
         others q n w (Put.here o) = absurd (n refl)

@@ -82,12 +82,12 @@ module _ {M : Type 0} (a : State) (d : Outer M) (s : Flat M) (r : Tied a d s) wh
     still g q F.registered t = t
     still g q (F.told c) t = t
 
-    own_open : (w : ℕ) → a⁺.sent_open v p w → In w (s.opens p)
-    own_open w (Also.old o) = absurd (no-open w o)
-    own_open w (Also.new o) = r.opened-listed p w o
+    own_open : (g q w : ℕ) → g ≡ v → q ≡ p → a⁺.sent_open g q w → In w (s.opens p)
+    own_open g q w e f (Also.old o) = absurd (no-open w (rw (e, f) at o))
+    own_open g q w e f (Also.new o) = r.opened-listed p w o
 
     own-info : (g : ℕ) → g ≡ v → (m : Msg M) → In m (F.info (s.settled p) (s.opens p) ∷ []) → Backed a⁺ d g p m
-    own-info g e m top = rw (e, ← settled_is r p) (Plus3.new, own_open)
+    own-info g e m top = rw (e, ← settled_is r p) (Plus3.new, λ w. own_open v p w refl refl)
     own-info g e m (pop h) = absurd (in-nil h)
 
     outgoing-backed⁺ : OutgoingBacked a⁺ d s⁺

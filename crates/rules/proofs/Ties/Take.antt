@@ -67,12 +67,12 @@ module _ {M : Type 0} (a : State) (d : Outer M) (s : Flat M) (r : Tied a d s) wh
     info-settled = λ i. at p (max (r.same-settled i p) x) (r.same-settled i)
 
     info-opened : OpenedListed a⁺ s⁺
-    info-opened = upd-ind _ _ _ (λ y l. (w : ℕ) → a⁺.opened y w → In w l) own others
+    info-opened = upd-ind _ _ _ (λ y l. (w : ℕ) → a⁺.opened y w → In w l) (λ w. own p w refl) others
       where
-        own : (w : ℕ) → a⁺.opened p w → In w os
-        own w (Put.here (inl o, l)) = keeps w (inl (r.opened-listed p w o)) (omega (arith, settled_is r p))
-        own w (Put.here (inr o, l)) = keeps w (inr (info-sent.1 w o)) (omega (arith, settled_is r p))
-        own w (Put.there n o) = absurd (n refl)
+        own : (y w : ℕ) → y ≡ p → a⁺.opened y w → In w os
+        own y w e (Put.here (inl o, l)) = keeps w (inl (r.opened-listed p w o)) (omega (arith, settled_is r p))
+        own y w e (Put.here (inr o, l)) = keeps w (inr (info-sent.1 w o)) (omega (arith, settled_is r p))
+        own y w e (Put.there n o) = absurd (n e)
 
         others : (y : ℕ) → y ≢ p → (w : ℕ) → a⁺.opened y w → In w (s.opens y)
         others y n w (Put.here o) = absurd (n refl)

@@ -2,7 +2,6 @@
 use mathlib.Core.Path.{sym, ◌∙◌}
 use Prim.Native.Nat.{◌+◌, ◌-◌, ◌*◌}
 use native.Mathlib.Omega.{arith}
-use borrow.Author.Tests.{not-true, not-false}
 use Rattle.slots.specs.Slots.{slot_size}
 use Rattle.slots.proofs.Lists.{slots_at}
 use Rattle.book_sound.specs.EntryParts.{entry_sound}
@@ -16,10 +15,10 @@ pub entry_sound-requires : goal.entry_sound-requires
 entry_sound-requires c = (omega arith, slots_at c.args.b.now c.args.at c.args.count c.loop-i.i (omega arith) c.requires.1)
 
 pub returns-then-not-entry_sound : goal.returns-then-not-entry_sound
-returns-then-not-entry_sound c = sym (c.loop-i.invariant.1 ∙ entries-turn c.args.b.now c.args.at c.args.count c.loop-i.i (omega arith) (entry_sound c.args.n) ∙ rw (sym c.entry_sound.ensures ∙ not-true _ c.if-not-entry_sound.true-raw))
+returns-then-not-entry_sound c = sym (c.loop-i.invariant.1 ∙ entries-turn c.args.b.now c.args.at c.args.count c.loop-i.i (omega arith) (entry_sound c.args.n) ∙ rw (sym c.entry_sound.ensures ∙ c.if-not-entry_sound.true))
 
 pub loop-i-preserved : goal.loop-i-preserved
-loop-i-preserved c = (omega arith, c.loop-i.invariant.1 ∙ entries-turn c.args.b.now c.args.at c.args.count c.loop-i.i (omega arith) (entry_sound c.args.n) ∙ rw (sym c.entry_sound.ensures ∙ not-false _ c.if-not-entry_sound.false-raw))
+loop-i-preserved c = (omega arith, c.loop-i.invariant.1 ∙ entries-turn c.args.b.now c.args.at c.args.count c.loop-i.i (omega arith) (entry_sound c.args.n) ∙ rw (sym c.entry_sound.ensures ∙ c.if-not-entry_sound.false))
 
 pub returns : goal.returns
 returns c = sym (c.loop-i.invariant.1 ∙ entries-end c.args.b.now (c.args.at + slot_size * c.loop-i.i) (c.args.count - c.loop-i.i) (omega arith) (entry_sound c.args.n))

@@ -8,9 +8,6 @@ use Rattle.book_sound.proofs.entries_at.entry_sound.Goals as goal
 pub returns-then-n-b : goal.returns-then-n-b
 returns-then-n-b c = sym (entry-foreign c.args.b.now c.args.at c.args.n c.requires.1 c.if-n-b.true)
 
-pub overflow_cast-b : goal.overflow_cast-b
-overflow_cast-b c = omega (arith, c.shared_slice_known-then-kind-eq-INFO-1.given (c.args.at + 10))
-
 pub sound-requires : goal.sound-requires
 sound-requires c = let a = c.args in let t = info-count a.b.now a.at a.n c.requires.1 c.if-kind-eq-INFO.true in omega (arith, t.1)
 

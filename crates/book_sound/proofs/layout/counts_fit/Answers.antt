@@ -7,9 +7,6 @@ use Rattle.book_sound.specs.Parts.{counts_fit}
 use Rattle.rules.proofs.Truth.{stopped, four}
 use Rattle.book_sound.proofs.layout.counts_fit.Goals as goal
 
-pub overflow_cast-b : goal.overflow_cast-b
-overflow_cast-b c = omega (arith, c.shared_slice_known-1.given opens_at)
-
 pub returns-then-b-gt-OPEN : goal.returns-then-b-gt-OPEN
 unfolding counts_fit
 returns-then-b-gt-OPEN c = sym (stopped _ 0 (lt-leb _ _ c.if-b-gt-OPEN.true))

@@ -2,7 +2,7 @@
 use mathlib.Core.Path.{sym, ap, ◌∙◌}
 use mathlib.Core.List.{List}
 use Prim.Native.Nat.{ℕ}
-use borrow.Author.Tests.{le-leb, lt-leb, not-true, not-false}
+use borrow.Author.Tests.{le-leb, lt-leb}
 use lib.Dec.{leb}
 use lib.ListN.{get_or}
 use Rattle.views.specs.Limits.{max_ordered}
@@ -21,25 +21,25 @@ pub returns-then-not-tolds_fit : goal.returns-then-not-tolds_fit
 unfolding record_in
 returns-then-not-tolds_fit c =
     let a = c.args in
-    sym (record-are a.n (record_in a.b.now) a.own a.new ∙ rw (le-leb _ _ c.if-n-lt1.false, le-leb _ _ c.if-n-gt-MEMBERS.false, sym (c.tolds_fit.ensures ∙ ap (λ (t : List ℕ). every a.n (λ (q : ℕ). leb (get_or t q 0) max_ordered)) c.load_tolds-tolds.ensures) ∙ not-true _ c.if-not-tolds_fit.true-raw))
+    sym (record-are a.n (record_in a.b.now) a.own a.new ∙ rw (le-leb _ _ c.if-n-lt1.false, le-leb _ _ c.if-n-gt-MEMBERS.false, sym (c.tolds_fit.ensures ∙ ap (λ (t : List ℕ). every a.n (λ (q : ℕ). leb (get_or t q 0) max_ordered)) c.load_tolds-tolds.ensures) ∙ c.if-not-tolds_fit.true))
 
 pub returns-then-not-taken_fits : goal.returns-then-not-taken_fits
 unfolding record_in
 returns-then-not-taken_fits c =
     let a = c.args in
     let early = c in
-    sym (record-are a.n (record_in a.b.now) a.own a.new ∙ rw (le-leb _ _ early.if-n-lt1.false, le-leb _ _ early.if-n-gt-MEMBERS.false, sym (c.tolds_fit.ensures ∙ ap (λ (t : List ℕ). every a.n (λ (q : ℕ). leb (get_or t q 0) max_ordered)) early.load_tolds-tolds.ensures) ∙ not-false _ c.if-not-tolds_fit.false-raw, sym c.taken_fits.ensures ∙ not-true _ c.if-not-taken_fits.true-raw))
+    sym (record-are a.n (record_in a.b.now) a.own a.new ∙ rw (le-leb _ _ early.if-n-lt1.false, le-leb _ _ early.if-n-gt-MEMBERS.false, sym (c.tolds_fit.ensures ∙ ap (λ (t : List ℕ). every a.n (λ (q : ℕ). leb (get_or t q 0) max_ordered)) early.load_tolds-tolds.ensures) ∙ c.if-not-tolds_fit.false, sym c.taken_fits.ensures ∙ c.if-not-taken_fits.true))
 
 pub returns-then-not-positions_fit : goal.returns-then-not-positions_fit
 unfolding record_in
 returns-then-not-positions_fit c =
     let a = c.args in
     let early = c in
-    sym (record-are a.n (record_in a.b.now) a.own a.new ∙ rw (le-leb _ _ early.if-n-lt1.false, le-leb _ _ early.if-n-gt-MEMBERS.false, sym (early.tolds_fit.ensures ∙ ap (λ (t : List ℕ). every a.n (λ (q : ℕ). leb (get_or t q 0) max_ordered)) early.load_tolds-tolds.ensures) ∙ not-false _ early.if-not-tolds_fit.false-raw, sym c.taken_fits.ensures ∙ not-false _ c.if-not-taken_fits.false-raw, sym c.positions_fit.ensures ∙ not-true _ c.if-not-positions_fit.true-raw))
+    sym (record-are a.n (record_in a.b.now) a.own a.new ∙ rw (le-leb _ _ early.if-n-lt1.false, le-leb _ _ early.if-n-gt-MEMBERS.false, sym (early.tolds_fit.ensures ∙ ap (λ (t : List ℕ). every a.n (λ (q : ℕ). leb (get_or t q 0) max_ordered)) early.load_tolds-tolds.ensures) ∙ early.if-not-tolds_fit.false, sym c.taken_fits.ensures ∙ c.if-not-taken_fits.false, sym c.positions_fit.ensures ∙ c.if-not-positions_fit.true))
 
 pub returns : goal.returns
 unfolding record_in
 returns c =
     let a = c.args in
     let early = c in
-    c.views_sound.ensures ∙ sym (record-are a.n (record_in a.b.now) a.own a.new ∙ rw (le-leb _ _ early.if-n-lt1.false, le-leb _ _ early.if-n-gt-MEMBERS.false, sym (early.tolds_fit.ensures ∙ ap (λ (t : List ℕ). every a.n (λ (q : ℕ). leb (get_or t q 0) max_ordered)) early.load_tolds-tolds.ensures) ∙ not-false _ early.if-not-tolds_fit.false-raw, sym early.taken_fits.ensures ∙ not-false _ c.if-not-taken_fits.false-raw, sym c.positions_fit.ensures ∙ not-false _ c.if-not-positions_fit.false-raw))
+    c.views_sound.ensures ∙ sym (record-are a.n (record_in a.b.now) a.own a.new ∙ rw (le-leb _ _ early.if-n-lt1.false, le-leb _ _ early.if-n-gt-MEMBERS.false, sym (early.tolds_fit.ensures ∙ ap (λ (t : List ℕ). every a.n (λ (q : ℕ). leb (get_or t q 0) max_ordered)) early.load_tolds-tolds.ensures) ∙ early.if-not-tolds_fit.false, sym early.taken_fits.ensures ∙ c.if-not-taken_fits.false, sym c.positions_fit.ensures ∙ c.if-not-positions_fit.false))

@@ -1,6 +1,5 @@
 -- `book_sound::record::tolds_fit` meets its contract: the counts of the members below q are within their limit, and past the places there is none.
 use mathlib.Core.Path.{◌≡◌, sym}
-use mathlib.Core.Logic.{⊎_elim}
 use Prim.Native.Nat.{◌-◌}
 use native.Mathlib.Omega.{arith}
 use borrow.Author.Tests.{le-leb, lt-leb}
@@ -9,6 +8,7 @@ use Rattle.views.specs.Limits.{max_ordered}
 use Rattle.rules.proofs.Truth.{every-stop}
 use Rattle.book_sound.proofs.Walks.{tolds-more, tolds-end}
 use Rattle.book_sound.proofs.record.tolds_fit.Goals as goal
+use Rattle.book_sound.proofs.record.tolds_fit.Goals.{then-q-n+else-tolds-q-gt-ORDERED, else-q-n}
 
 pub loop-q-init : goal.loop-q-init
 loop-q-init c = λ p h i. absurd (omega arith)
@@ -20,7 +20,11 @@ pub loop-q-preserved : goal.loop-q-preserved
 loop-q-preserved c =
     let a = c.args in
     let l = c.loop-q in
-    tolds-more a.n a.tolds l.q l.invariant (λ h. ⊎_elim (λ w. le-leb (get_or a.tolds l.q 0) max_ordered (omega arith)) (λ w. absurd (omega arith)) c.if-q-n.branch)
+    tolds-more a.n a.tolds l.q l.invariant (λ h.
+      elim c.if-q-n.branch [
+        | then-q-n+else-tolds-q-gt-ORDERED w ↦ le-leb (get_or a.tolds l.q 0) max_ordered (omega arith)
+        | else-q-n w ↦ absurd (omega arith)
+      ])
 
 pub returns : goal.returns
 returns c =

@@ -19,7 +19,7 @@ pub enter-requires : goal.enter-requires
 enter-requires c = omega (arith, c.announce.auto.b, sound-size _ c.requires)
 
 pub returns-in-Refused : goal.returns-in-Refused
-returns-in-Refused c = join-refused _ _ _ c.load_seat-carrier.ensures _ c.join_verdict.ensures _ _ c.in-Refused.is c.refuse.ensures
+returns-in-Refused c = join-refused _ _ _ c.load_seat-carrier.ensures _ c.join-verdict.ensures _ _ c.in-Refused.is c.refuse.ensures
 
 pub returns-in-Accepted : goal.returns-in-Accepted
-returns-in-Accepted c = join-accepted _ _ _ c.load_seat-carrier.ensures _ c.join_verdict.ensures c.in-Accepted.is _ c.no_event.ensures _ _ c.announce.ensures c.enter.ensures
+returns-in-Accepted c = join-accepted _ _ _ c.load_seat-carrier.ensures _ c.join-verdict.ensures c.in-Accepted.is _ c.no_event.ensures _ _ c.announce.ensures c.enter.ensures

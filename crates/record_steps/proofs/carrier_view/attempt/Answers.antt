@@ -25,7 +25,7 @@ returns-then-not-above c =
     ∙ refused-by _ _ _
     (attempt-row 0 a.h [] [] [] one a.n
     ∙ need-met _ _ (not-false _ c.if-not-at.false)
-    ∙ need-unmet _ _ (sym c.above.ensures ∙ not-true _ c.if-not-above.true-raw))
+    ∙ need-unmet _ _ (sym c.above.ensures ∙ c.if-not-above.true))
 
 pub returns-then-not-all_noted : goal.returns-then-not-all_noted
 unfolding attempt_turn
@@ -35,8 +35,8 @@ returns-then-not-all_noted c =
     ∙ refused-by _ _ _
     (attempt-row 0 a.h [] [] [] one a.n
     ∙ need-met _ _ (not-false _ c.if-not-at.false)
-    ∙ need-met _ _ (sym c.above.ensures ∙ not-false _ c.if-not-above.false-raw)
-    ∙ need-unmet _ _ (sym c.all_noted.ensures ∙ not-true _ c.if-not-all_noted.true-raw))
+    ∙ need-met _ _ (sym c.above.ensures ∙ c.if-not-above.false)
+    ∙ need-unmet _ _ (sym c.all_noted.ensures ∙ c.if-not-all_noted.true))
 
 pub returns-then-not-passes_all : goal.returns-then-not-passes_all
 unfolding attempt_turn
@@ -46,9 +46,9 @@ returns-then-not-passes_all c =
     ∙ refused-by _ _ _
     (attempt-row 0 a.h [] [] [] one a.n
     ∙ need-met _ _ (not-false _ c.if-not-at.false)
-    ∙ need-met _ _ (sym c.above.ensures ∙ not-false _ c.if-not-above.false-raw)
-    ∙ need-met _ _ (sym c.all_noted.ensures ∙ not-false _ c.if-not-all_noted.false-raw)
-    ∙ need-unmet _ _ (sym c.passes_all.ensures ∙ not-true _ c.if-not-passes_all.true-raw))
+    ∙ need-met _ _ (sym c.above.ensures ∙ c.if-not-above.false)
+    ∙ need-met _ _ (sym c.all_noted.ensures ∙ c.if-not-all_noted.false)
+    ∙ need-unmet _ _ (sym c.passes_all.ensures ∙ c.if-not-passes_all.true))
 
 pub returns : goal.returns
 unfolding attempt_turn
@@ -58,6 +58,6 @@ returns c =
     (accepted-by _ _
     (attempt-row 0 a.h [] [] [] one a.n
     ∙ need-met _ _ (not-false _ c.if-not-at.false)
-    ∙ need-met _ _ (sym c.above.ensures ∙ not-false _ c.if-not-above.false-raw)
-    ∙ need-met _ _ (sym c.all_noted.ensures ∙ not-false _ c.if-not-all_noted.false-raw)
-    ∙ need-met _ _ (sym c.passes_all.ensures ∙ not-false _ c.if-not-passes_all.false-raw)))
+    ∙ need-met _ _ (sym c.above.ensures ∙ c.if-not-above.false)
+    ∙ need-met _ _ (sym c.all_noted.ensures ∙ c.if-not-all_noted.false)
+    ∙ need-met _ _ (sym c.passes_all.ensures ∙ c.if-not-passes_all.false)))

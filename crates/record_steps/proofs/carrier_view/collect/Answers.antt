@@ -35,7 +35,7 @@ returns-then-not-all_noted c =
     (collect-row 0 a.h [] [] [] a.n
     ∙ need-met _ _ (not-false _ c.if-not-at.false)
     ∙ need-met _ _ (lt-ltb _ _ c.if-v-h.false)
-    ∙ need-unmet _ _ (sym c.all_noted.ensures ∙ not-true _ c.if-not-all_noted.true-raw))
+    ∙ need-unmet _ _ (sym c.all_noted.ensures ∙ c.if-not-all_noted.true))
 
 pub returns : goal.returns
 unfolding collect_turn settled_as
@@ -46,4 +46,4 @@ returns c =
     (collect-row 0 a.h [] [] [] a.n
     ∙ need-met _ _ (not-false _ c.if-not-at.false)
     ∙ need-met _ _ (lt-ltb _ _ c.if-v-h.false)
-    ∙ need-met _ _ (sym c.all_noted.ensures ∙ not-false _ c.if-not-all_noted.false-raw)))
+    ∙ need-met _ _ (sym c.all_noted.ensures ∙ c.if-not-all_noted.false)))

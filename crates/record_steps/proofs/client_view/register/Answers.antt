@@ -30,7 +30,7 @@ returns-then-not-has_room c =
     (register-row 0 (unheld c.args.h) (entries_of c.args.out) [] []
     ∙ need-met _ _ (not-false _ c.if-not-client.false)
     ∙ need-met _ _ (ap not c.if-h.false)
-    ∙ need-unmet _ _ (sym c.has_room.ensures ∙ not-true _ c.if-not-has_room.true-raw))
+    ∙ need-unmet _ _ (sym c.has_room.ensures ∙ c.if-not-has_room.true))
 
 pub returns : goal.returns
 unfolding register_verdict room_for
@@ -39,4 +39,4 @@ returns c =
     (register-row 0 (unheld c.args.h) (entries_of c.args.out) [] []
     ∙ need-met _ _ (not-false _ c.if-not-client.false)
     ∙ need-met _ _ (ap not c.if-h.false)
-    ∙ need-met _ _ (sym c.has_room.ensures ∙ not-false _ c.if-not-has_room.false-raw))
+    ∙ need-met _ _ (sym c.has_room.ensures ∙ c.if-not-has_room.false))

@@ -23,7 +23,7 @@ returns-then-not-in_step c =
     sym
     (safe-row 0 (unheld c.args.h) [] (items_of c.args.own) [] c.args.n
     ∙ need-met _ _ (not-false _ c.if-not-client.false)
-    ∙ need-unmet _ _ (sym c.in_step.ensures ∙ not-true _ c.if-not-in_step.true-raw))
+    ∙ need-unmet _ _ (sym c.in_step.ensures ∙ c.if-not-in_step.true))
 
 pub returns-then-h : goal.returns-then-h
 unfolding safe_verdict
@@ -31,7 +31,7 @@ returns-then-h c =
     sym
     (safe-row 0 (unheld c.args.h) [] (items_of c.args.own) [] c.args.n
     ∙ need-met _ _ (not-false _ c.if-not-client.false)
-    ∙ need-met _ _ (sym c.in_step.ensures ∙ not-false _ c.if-not-in_step.false-raw)
+    ∙ need-met _ _ (sym c.in_step.ensures ∙ c.if-not-in_step.false)
     ∙ need-unmet _ _ (le-ltb c.args.h.reported.0 (min c.args.h.handed.0 (length (items_of c.args.own))) (omega (arith, items-length c.args.own, c.if-h.true))))
 
 pub returns-then-own-h : goal.returns-then-own-h
@@ -40,7 +40,7 @@ returns-then-own-h c =
     sym
     (safe-row 0 (unheld c.args.h) [] (items_of c.args.own) [] c.args.n
     ∙ need-met _ _ (not-false _ c.if-not-client.false)
-    ∙ need-met _ _ (sym c.in_step.ensures ∙ not-false _ c.if-not-in_step.false-raw)
+    ∙ need-met _ _ (sym c.in_step.ensures ∙ c.if-not-in_step.false)
     ∙ need-unmet _ _ (le-ltb c.args.h.reported.0 (min c.args.h.handed.0 (length (items_of c.args.own))) (omega (arith, items-length c.args.own, c.if-own-h.true))))
 
 pub returns-then-not-all_told : goal.returns-then-not-all_told
@@ -49,9 +49,9 @@ returns-then-not-all_told c =
     sym
     (safe-row 0 (unheld c.args.h) [] (items_of c.args.own) [] c.args.n
     ∙ need-met _ _ (not-false _ c.if-not-client.false)
-    ∙ need-met _ _ (sym c.in_step.ensures ∙ not-false _ c.if-not-in_step.false-raw)
+    ∙ need-met _ _ (sym c.in_step.ensures ∙ c.if-not-in_step.false)
     ∙ need-met _ _ (lt-ltb c.args.h.reported.0 (min c.args.h.handed.0 (length (items_of c.args.own))) (omega (arith, items-length c.args.own, c.if-h.false, c.if-own-h.false)))
-    ∙ need-unmet _ _ (sym c.all_told.ensures ∙ not-true _ c.if-not-all_told.true-raw))
+    ∙ need-unmet _ _ (sym c.all_told.ensures ∙ c.if-not-all_told.true))
 
 pub returns : goal.returns
 unfolding safe_verdict
@@ -59,6 +59,6 @@ returns c =
     sym
     (safe-row 0 (unheld c.args.h) [] (items_of c.args.own) [] c.args.n
     ∙ need-met _ _ (not-false _ c.if-not-client.false)
-    ∙ need-met _ _ (sym c.in_step.ensures ∙ not-false _ c.if-not-in_step.false-raw)
+    ∙ need-met _ _ (sym c.in_step.ensures ∙ c.if-not-in_step.false)
     ∙ need-met _ _ (lt-ltb c.args.h.reported.0 (min c.args.h.handed.0 (length (items_of c.args.own))) (omega (arith, items-length c.args.own, c.if-h.false, c.if-own-h.false)))
-    ∙ need-met _ _ (sym c.all_told.ensures ∙ not-false _ c.if-not-all_told.false-raw))
+    ∙ need-met _ _ (sym c.all_told.ensures ∙ c.if-not-all_told.false))

@@ -20,7 +20,7 @@ returns-then-not-has_room c =
     sym
     (send-row 0 (unheld c.args.h) (entries_of c.args.out) [] [] 0
     ∙ need-met _ _ (not-false _ c.if-not-client.false)
-    ∙ need-unmet _ _ (sym c.has_room.ensures ∙ not-true _ c.if-not-has_room.true-raw))
+    ∙ need-unmet _ _ (sym c.has_room.ensures ∙ c.if-not-has_room.true))
 
 pub returns : goal.returns
 unfolding send_verdict room_for
@@ -28,4 +28,4 @@ returns c =
     sym
     (send-row 0 (unheld c.args.h) (entries_of c.args.out) [] [] 0
     ∙ need-met _ _ (not-false _ c.if-not-client.false)
-    ∙ need-met _ _ (sym c.has_room.ensures ∙ not-false _ c.if-not-has_room.false-raw))
+    ∙ need-met _ _ (sym c.has_room.ensures ∙ c.if-not-has_room.false))

@@ -21,7 +21,7 @@ returns-then-not-in_step c =
     sym
     (tell-row 0 (unheld c.args.h) (entries_of c.args.out) [] []
     ∙ need-met _ _ (not-false _ c.if-not-client.false)
-    ∙ need-unmet _ _ (sym c.in_step.ensures ∙ not-true _ c.if-not-in_step.true-raw))
+    ∙ need-unmet _ _ (sym c.in_step.ensures ∙ c.if-not-in_step.true))
 
 pub returns-then-h : goal.returns-then-h
 unfolding tell_verdict
@@ -29,7 +29,7 @@ returns-then-h c =
     sym
     (tell-row 0 (unheld c.args.h) (entries_of c.args.out) [] []
     ∙ need-met _ _ (not-false _ c.if-not-client.false)
-    ∙ need-met _ _ (sym c.in_step.ensures ∙ not-false _ c.if-not-in_step.false-raw)
+    ∙ need-met _ _ (sym c.in_step.ensures ∙ c.if-not-in_step.false)
     ∙ need-unmet _ _ (no-news c.args.h c.if-h.true))
 
 pub returns-then-h-eq0 : goal.returns-then-h-eq0
@@ -38,7 +38,7 @@ returns-then-h-eq0 c =
     sym
     (tell-row 0 (unheld c.args.h) (entries_of c.args.out) [] []
     ∙ need-met _ _ (not-false _ c.if-not-client.false)
-    ∙ need-met _ _ (sym c.in_step.ensures ∙ not-false _ c.if-not-in_step.false-raw)
+    ∙ need-met _ _ (sym c.in_step.ensures ∙ c.if-not-in_step.false)
     ∙ need-unmet _ _ (none-handed c.args.h c.if-h-eq0.true))
 
 pub returns-then-not-has_room : goal.returns-then-not-has_room
@@ -47,9 +47,9 @@ returns-then-not-has_room c =
     sym
     (tell-row 0 (unheld c.args.h) (entries_of c.args.out) [] []
     ∙ need-met _ _ (not-false _ c.if-not-client.false)
-    ∙ need-met _ _ (sym c.in_step.ensures ∙ not-false _ c.if-not-in_step.false-raw)
+    ∙ need-met _ _ (sym c.in_step.ensures ∙ c.if-not-in_step.false)
     ∙ need-met _ _ (news c.args.h c.if-h.false c.if-h-eq0.false)
-    ∙ need-unmet _ _ (sym c.has_room.ensures ∙ not-true _ c.if-not-has_room.true-raw))
+    ∙ need-unmet _ _ (sym c.has_room.ensures ∙ c.if-not-has_room.true))
 
 pub returns : goal.returns
 unfolding tell_verdict room_for
@@ -57,6 +57,6 @@ returns c =
     sym
     (tell-row 0 (unheld c.args.h) (entries_of c.args.out) [] []
     ∙ need-met _ _ (not-false _ c.if-not-client.false)
-    ∙ need-met _ _ (sym c.in_step.ensures ∙ not-false _ c.if-not-in_step.false-raw)
+    ∙ need-met _ _ (sym c.in_step.ensures ∙ c.if-not-in_step.false)
     ∙ need-met _ _ (news c.args.h c.if-h.false c.if-h-eq0.false)
-    ∙ need-met _ _ (sym c.has_room.ensures ∙ not-false _ c.if-not-has_room.false-raw))
+    ∙ need-met _ _ (sym c.has_room.ensures ∙ c.if-not-has_room.false))

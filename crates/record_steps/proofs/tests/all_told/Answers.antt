@@ -1,6 +1,5 @@
 -- `record_steps::tests::all_told` meets its contract: every member below q that is in the set told of more than the count.
 use mathlib.Core.Path.{◌≡◌, sym, ◌∙◌}
-use mathlib.Core.Logic.{⊎_elim}
 use mathlib.Core.Bool.{Bool, true}
 use Prim.Native.Nat.{ℕ, ◌-◌}
 use native.Mathlib.Omega.{arith}
@@ -10,6 +9,7 @@ use lib.ListN.{get_or}
 use Rattle.rules.proofs.Truth.{every-stop}
 use Rattle.record_steps.proofs.AskLaws.{every-none, every_more, asked-met, asked-unmet, unasked}
 use Rattle.record_steps.proofs.tests.all_told.Goals as goal
+use Rattle.record_steps.proofs.tests.all_told.Goals.{then-contains+else-told_by-count, else-contains}
 
 pub loop-q-init : goal.loop-q-init
 loop-q-init c = (omega arith, every-none _)
@@ -29,10 +29,10 @@ loop-q-preserved c =
     let l = c.loop-q in
     let inside = sym c.contains.ensures in
     let high : ℕ → Bool = λ q. ltb a.count.0 (get_or a.tolds q 0) in
-    ⊎_elim
-    (λ w. (omega arith, every_more _ l.q l.invariant.1 (asked-met a.members high l.q (inside ∙ w.0.taken) (lt-ltb a.count.0 (get_or a.tolds l.q 0) (omega (arith, w.1.ensures, w.3.left))))))
-    (λ w. (omega arith, every_more _ l.q l.invariant.1 (unasked a.members high l.q (inside ∙ w.left))))
-    c.if-contains.branch
+    elim c.if-contains.branch [
+      | then-contains+else-told_by-count w ↦ (omega arith, every_more _ l.q l.invariant.1 (asked-met a.members high l.q (inside ∙ w.if-contains.true) (lt-ltb a.count.0 (get_or a.tolds l.q 0) (omega (arith, w.told_by.ensures, w.if-told_by-count.false)))))
+      | else-contains w ↦ (omega arith, every_more _ l.q l.invariant.1 (unasked a.members high l.q (inside ∙ w.if-contains.false)))
+    ]
 
 pub returns : goal.returns
 returns c =

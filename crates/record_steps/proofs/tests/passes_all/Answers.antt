@@ -3,7 +3,6 @@ use mathlib.Core.Path.{◌≡◌, refl, sym, ◌∙◌}
 use mathlib.Core.Bool.{true, false}
 use Prim.Native.Nat.{◌-◌}
 use native.Mathlib.Omega.{arith}
-use borrow.Author.Tests.{not-true, not-false}
 use lib.ListN.{get_or, length-map, drop_of_length-le}
 use Rattle.views.specs.Sets.{one}
 use Rattle.views.specs.Lists.{list_of, no_view}
@@ -14,7 +13,7 @@ use Rattle.record_steps.proofs.tests.passes_all.Goals as goal
 
 pub returns-then-not-majority : goal.returns-then-not-majority
 unfolding all
-returns-then-not-majority c = rw (passes-majority c.args.v c.args.settled, sym c.majority.ensures ∙ not-true _ c.if-not-majority.true-raw)
+returns-then-not-majority c = rw (passes-majority c.args.v c.args.settled, sym c.majority.ensures ∙ c.if-not-majority.true)
 
 pub loop-i-init : goal.loop-i-init
 loop-i-init c =
@@ -31,8 +30,8 @@ returns-then-not-majority-2 c =
     let a = c.args in
     let l = c.loop-i in
     let w = get_or a.opens.at l.i no_view in
-    let here : passes one a.v w ≡ false = passes-majority a.v w ∙ sym c.majority-in-loop-i.ensures ∙ not-true _ c.if-not-majority-2.true-raw in
-    rw (passes-majority a.v a.settled, sym c.majority.ensures ∙ not-false _ c.if-not-majority.false-raw)
+    let here : passes one a.v w ≡ false = passes-majority a.v w ∙ sym c.majority-in-loop-i.ensures ∙ c.if-not-majority-2.true in
+    rw (passes-majority a.v a.settled, sym c.majority.ensures ∙ c.if-not-majority.false)
     (sym (l.invariant.3 ∙ all-stop (passes one a.v) a.opens.count a.opens.at l.i (omega arith) here))
 
 pub loop-i-preserved : goal.loop-i-preserved
@@ -40,7 +39,7 @@ loop-i-preserved c =
     let a = c.args in
     let l = c.loop-i in
     let w = get_or a.opens.at l.i no_view in
-    let here : passes one a.v w ≡ true = passes-majority a.v w ∙ sym c.majority-in-loop-i.ensures ∙ not-false _ c.if-not-majority-2.false-raw in
+    let here : passes one a.v w ≡ true = passes-majority a.v w ∙ sym c.majority-in-loop-i.ensures ∙ c.if-not-majority-2.false in
     (l.invariant.0, l.invariant.1, omega arith, l.invariant.3 ∙ all-on (passes one a.v) a.opens.count a.opens.at l.i (omega arith) here)
 
 pub returns : goal.returns
@@ -48,5 +47,5 @@ unfolding all
 returns c =
     let a = c.args in
     let l = c.loop-i in
-    rw (passes-majority a.v a.settled, sym c.majority.ensures ∙ not-false _ c.if-not-majority.false-raw)
+    rw (passes-majority a.v a.settled, sym c.majority.ensures ∙ c.if-not-majority.false)
     (sym (l.invariant.3 ∙ rw (drop_of_length-le (list_of a.opens) {i = l.i} (omega arith))))
