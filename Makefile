@@ -1,7 +1,7 @@
 # Thin names for the commands that matter. Plain make names them.
 .PHONY: help test run clean
 help:
-	@echo "make run       a group on the bench: a split in which one part goes on. Some seconds, nothing is proved"
+	@echo "make run       a group on the bench: a split in which one part goes on. The bench is proved first"
 	@echo "make lib       the library for C and C++, target/staticlib/libdvs.a, every proof of it first: 5 to 10 minutes"
 	@echo "make install   it, its headers and documents, to PREFIX"
 	@echo "make test      everything that has to hold: some 16 minutes"
@@ -12,16 +12,16 @@ help:
 test:
 	SHORT=1 .ci/run
 
-# The bench, compiled without proving, on the README's session, in which a group splits: each line and its answer, of which `all` has none.
+# The bench on the README's session, in which a group splits: each line and its answer, of which `all` has none.
 SESSION := tests/scripts/readme-session
-run: target/unproved/bench
+run: target/bin/bench
 	@cat $(SESSION).figure
 	@echo
 	@$< < $(SESSION).txt > $<.out
 	@{ echo; cat $<.out; } | paste $(SESSION).txt - | expand -t 20
 	@diff $(SESSION).out $<.out
 	@echo
-	@echo "README.md explains each line. Nothing was proved for this: make lib proves the library, make test all there is."
+	@echo "README.md explains each line. What ran was proved before it was built; make test proves and tries all there is."
 	@echo "To type lines: $<. Begin with the line all, or refusals are not shown."
 
 clean:
@@ -32,17 +32,13 @@ clean:
 # For programs in C and C++, proved before it is written. A program in C includes dvs.h, one in C++ dvs.hpp.
 .PHONY: lib
 HEADERS := $(wildcard include/*.h include/*.hpp)
-SOURCES := crates.txt $(shell find crates -name '*.rt' -o -name '*.antt')
-# What the tests below are of: what was proved or, with UNPROVED=1, the same sources compiled in seconds without proving, for the gate, which proves them
-# too. Programs over a library stand beside it, so that none is taken for another's.
-BUILT := $(if $(UNPROVED),target/unproved,target/staticlib)
+SOURCES := crates.txt $(shell find crates -name out -prune -o \( -name '*.rt' -o -name '*.antt' \) -print)
+# What the tests below are of. Programs over the library stand beside it.
+BUILT := target/staticlib
 LIBRARY := $(BUILT)/libdvs.a
 lib: target/staticlib/libdvs.a
 target/staticlib/libdvs.a: $(SOURCES)
-	.ci/prove staticlib dvs
-	touch $@
-target/unproved/libdvs.a: $(SOURCES)
-	.ci/unproved dvs
+	.ci/prove lib dvs
 
 # For operators: dvs-show BOOK says what a book holds and whom it waits for. It is linked with the library, so its verdicts are the library's own.
 .PHONY: show
@@ -175,7 +171,7 @@ target/reference-unchecked: tests/reference/reference.cpp $(REFERENCE)
 # The benches beside each other: every script with its answers, a random script, and others sent line by line, some in pieces too, with `all` before them
 # and without; what fails.
 .PHONY: compare
-BENCH := $(if $(UNPROVED),target/unproved,target/bin)/bench
+BENCH := target/bin/bench
 compare: $(BENCH) reference-cpp
 	python3 tests/reference/compare.py corpus tests/scripts $(BENCH) target/reference target/reference-unchecked
 	python3 tests/reference/compare.py random 1 20000 $(BENCH) target/reference target/reference-unchecked
@@ -183,10 +179,7 @@ compare: $(BENCH) reference-cpp
 	python3 tests/scripts/bench_waits.py $(BENCH)
 	python3 tests/scripts/bench_fails.py $(BENCH)
 target/bin/bench: $(SOURCES)
-	.ci/prove check bench
-	touch $@
-target/unproved/bench: $(SOURCES)
-	.ci/unproved bench
+	.ci/prove program bench
 
 # ---- the strength of the tests, and the benchmark
 

@@ -3,7 +3,7 @@
 # What the library costs beside independent implementations in C++: messages, calls of the member, packets, calls of the group, lists of steps, views
 # formed by one call, queries, lines of the bench, and how a step's cost grows with what the records hold. The others are compiled by LLVM too, if it is
 # installed, and for speed: make benchmark BENCHMARK_CXX=g++ for another. With BEFORE=LIBRARY, the libdvs.a of an earlier version, its calls of the member
-# and of the group are timed beside this one's; its layout may differ in the head of the queues alone. With UNPROVED=1 nothing is proved for it.
+# and of the group are timed beside this one's; its layout may differ in the head of the queues alone.
 .PHONY: benchmark
 BENCHMARK_CXX := $(or $(shell command -v clang++),$(CXX))
 BENCHMARK_DIR := $(BUILT)/benchmark/$(notdir $(BENCHMARK_CXX))$(if $(BEFORE),-before)

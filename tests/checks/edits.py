@@ -1,7 +1,7 @@
 #!/usr/bin/env python3
 """edits.py: whether the prover refuses the wrong answers that are kept beside the crates.
 
-    python3 tests/checks/edits.py [--gate | --listed | --all] [--jobs N] [--place DIR] [--proving PROCESS] [CRATE | CRATE/NAME ...]
+    python3 tests/checks/edits.py [--gate | --listed | --all] [--place DIR] [CRATE | CRATE/NAME ...]
     python3 tests/checks/edits.py --fit     only whether every edit fits its crate, in a second
 
 The gate tries the edits of crates/CRATE/must-fail/ and those of crates/CRATE/more-edits.txt that gate_edits.txt lists. This program tries the others of
@@ -12,20 +12,14 @@ An edit has lines 'file: ', 'old: ' and 'new: ': the old text, which must be in 
 line holds for the pairs after it. In more-edits.txt an edit begins with a line 'edit: NAME', and a line '# ' is a comment. In must-fail/, which rt reads
 too, an edit is a file of its own.
 
-rt checks a whole crate for each edit of must-fail/. Here a crate is checked once as it is, by 'rt dev' in a repository of its own under DIR/rooms, and
-then again after each edit, which costs what the edit reaches. That a wrong answer is refused needs no trust in what an earlier check kept. An edit is
-refused if the check ends with 1 and says 'logic=not-proved', having checked modules of the crate; one that does not fit, or that the compiler refuses
-before the prover sees it, is a failure.
-
-With --proving, the process of that number is proving all crates at the same time, and nothing was proved when it began: so does the gate. The edits of a
-crate then wait until all that the crate depends on is proved. The crate as it is, which that process proves, is not checked here.
+The edits are tried in a copy of the crates under DIR/tree. There a crate is checked once as it is, by 'rt check', which proves the crates that it depends
+on first, and then again after each edit, which costs what the edit reaches. That a wrong answer is refused needs no trust in what an earlier check kept.
+An edit is refused if the check ends with 1 and says 'logic=not-proved', having checked modules of the crate; one that does not fit, or that the compiler
+refuses before the prover sees it, is a failure.
 
 It prints for each edit where it was refused first and for what, and keeps the whole output in DIR/log/CRATE/NAME.log; DIR is target/edits if none is
 given. It exits with 1 if an edit was not refused."""
 import argparse
-import concurrent.futures
-import functools
-import os
 import pathlib
 import re
 import shutil
@@ -36,11 +30,9 @@ import typing
 
 ROOT = pathlib.Path(__file__).resolve().parents[2]
 CRATES = ROOT / 'crates'
-PROVED = ROOT / 'target'
+PLACE = ROOT / 'target' / 'edits'
 LIST = ROOT / 'tests' / 'checks' / 'gate_edits.txt'
-MOST_JOBS = 2
 SHOWN = 200
-PAUSE = 0.2
 
 
 class BadEdit(Exception):
@@ -139,35 +131,27 @@ def changed(crate, edit):
     return texts
 
 
-def line_of(crate):
-    """The line of crates.txt with the names that a crate depends on."""
-    return re.search('^%s:.*\n' % crate, (ROOT / 'crates.txt').read_text(), re.M).group()
-
-
-class Room:
-    """A repository for the edits of one crate, which lists this crate alone: a copy of it, and links to the others and to what is proved of them.
-    What an earlier check kept stays."""
+class Tree:
+    """A copy of the crates, for the edits of one of them. What an earlier check kept stays."""
 
     def __init__(self, place, crate):
-        self.crate, self.root, self.logs = crate, place.resolve() / 'rooms' / crate, place / 'log' / crate
+        self.crate, self.root, self.logs = crate, place.resolve() / 'tree', place / 'log' / crate
         self.home = self.root / 'crates' / crate
-        shutil.rmtree(self.root / 'crates', ignore_errors=True)
-        self.home.parent.mkdir(parents=True)
         self.logs.mkdir(parents=True, exist_ok=True)
-        (self.root / 'target').mkdir(exist_ok=True)
-        (self.root / 'target' / 'rlib').unlink(missing_ok=True)
-        (self.root / 'target' / 'rlib').symlink_to(PROVED / 'rlib')
-        (self.root / 'crates.txt').write_text(line_of(crate))
+        if not self.root.is_dir():
+            self.root.mkdir(parents=True)
+            subprocess.run(['git', 'init', '-q'], cwd=self.root, check=True)
+        shutil.copy(ROOT / 'crates.txt', self.root)
         for other in CRATES.iterdir():
-            if other.name != crate:
-                (self.home.parent / other.name).symlink_to(other)
-        for part in ('src', 'specs', 'proofs'):
-            if (CRATES / crate / part).is_dir():
-                shutil.copytree(CRATES / crate / part, self.home / part)
+            for part in ('src', 'specs', 'proofs'):
+                to = self.root / 'crates' / other.name / part
+                shutil.rmtree(to, ignore_errors=True)
+                if (other / part).is_dir():
+                    shutil.copytree(other / part, to)
 
     def check(self, label):
         """The exit status and the output of the crate's check."""
-        done = subprocess.run(['rt', 'dev', self.crate], cwd=self.root, stdout=subprocess.PIPE, stderr=subprocess.STDOUT, text=True)
+        done = subprocess.run(['rt', 'check'], cwd=self.home, stdin=subprocess.DEVNULL, stdout=subprocess.PIPE, stderr=subprocess.STDOUT, text=True)
         (self.logs / (label + '.log')).write_text(done.stdout)
         return done.returncode, done.stdout
 
@@ -200,42 +184,14 @@ class Room:
         return False, 'BAD EDIT: it did not reach the prover (exit %d): %s' % (status, self.first_error(output))
 
 
-def running(process):
-    """Whether a process has not ended."""
-    try:
-        os.kill(process, 0)
-    except ProcessLookupError:
-        return False
-    return True
-
-
-def await_proofs(crate, process):
-    """Waits for the process that proves what a crate depends on; what is not proved when the process has ended."""
-    needed = [name for name in line_of(crate).split(':')[1].split() if (CRATES / name).is_dir()]
-    while True:
-        ended = not running(process)
-        missing = [name for name in needed if not (PROVED / 'stamp' / name).is_file()]
-        if ended or not missing:
-            return missing
-        time.sleep(PAUSE)
-
-
-def obstacle(room, proving):
-    """Why the edits of a crate cannot be tried, or nothing."""
-    if proving:
-        missing = await_proofs(room.crate, proving)
-        return 'it depends on what is not proved: %s' % ' '.join(missing) if missing else ''
-    return 'the crate is not proved as it stands' if room.check('unedited')[0] else ''
-
-
-def try_crate(given, crate, edits):
+def try_crate(place, crate, edits):
     """Tries the edits of a crate one after another: how many are refused, and the others."""
-    room = Room(given.place, crate)
-    reason = obstacle(room, given.proving)
+    tree = Tree(place, crate)
+    reason = 'the crate is not proved as it stands' if tree.check('unedited')[0] else ''
     refused, others = 0, []
     for edit in edits:
         began = time.monotonic()
-        fine, words = (False, 'NOT TRIED: ' + reason) if reason else room.attempt(edit)
+        fine, words = (False, 'NOT TRIED: ' + reason) if reason else tree.attempt(edit)
         print('%s: %.1f s, %s' % (edit.name, time.monotonic() - began, words), flush=True)
         refused += fine
         others += [] if fine else [edit.name]
@@ -248,9 +204,7 @@ def arguments():
     for name, edits in (('gate', 'those of must-fail/ and of the list'), ('listed', 'those of the list'), ('all', 'every edit'),
                         ('fit', 'none, but see that each fits its crate')):
         which.add_argument('--' + name, action='store_const', dest='which', const=name, help=edits)
-    parser.add_argument('--jobs', type=int, default=min(MOST_JOBS, os.cpu_count() or 1), choices=range(1, MOST_JOBS + 1), help='crates at a time')
-    parser.add_argument('--place', type=pathlib.Path, default=PROVED / 'edits', metavar='DIR', help='for the rooms and the logs')
-    parser.add_argument('--proving', type=int, metavar='PROCESS', help='what proves all crates at the same time')
+    parser.add_argument('--place', type=pathlib.Path, default=PLACE, metavar='DIR', help='for the copy and the logs')
     parser.add_argument('words', nargs='*', metavar='CRATE[/NAME]', help='only the edits of these crates, and these edits')
     parser.set_defaults(which='rest')
     return parser.parse_args()
@@ -276,10 +230,7 @@ def main():
     wanted = {}
     for edit in chosen(given.which, given.words):
         wanted.setdefault(edit.crate, []).append(edit)
-    if not given.proving and subprocess.run(['rt', 'check', *wanted], cwd=ROOT, stdout=subprocess.DEVNULL).returncode:
-        sys.exit('the crates are not proved as they stand: rt check says where')
-    with concurrent.futures.ThreadPoolExecutor(given.jobs) as jobs:
-        results = list(jobs.map(functools.partial(try_crate, given), wanted.keys(), wanted.values()))
+    results = [try_crate(given.place, crate, edits) for crate, edits in wanted.items()]
     others = [name for _, names in results for name in names]
     for name in others:
         print('not refused: ' + name)

@@ -26,7 +26,8 @@ abbrev pub inward_in : List ℕ → ℕ → List (Item ℕ)
 inward_in b side = items_in b (inward_at side)
 
 unfoldable pub book_in : List ℕ → R.Book
-book_in b = meaning (record_in b) (outgoing_in b) (inward_in b (get_or b side_at 0)) (inward_in b (1 - get_or b side_at 0))
+book_in b =
+    meaning (record_in b) (outgoing_in b) (inward_in b (get_or b side_at 0)) (inward_in b (1 - get_or b side_at 0))
 
 -- what only bytes can hold: a length, a mark or a count outside its limits, an entry of unknown kind
 unfoldable pub layout_fits : List ℕ → Bool

@@ -84,7 +84,8 @@ deliver_ranges r p =
     let b = book_bytes r.books p in
     let i = place_of (id_of (record_in b).carrier.view) (views_made r) in
     let k = get_or b taken_at 0 in
-    rebooked r p (take_bytes (get_or r.queues (order_sender (order_at i) k) 0) (order_message r.queues (order_at i) k) b)
+    rebooked r p
+    (take_bytes (get_or r.queues (order_sender (order_at i) k) 0) (order_message r.queues (order_at i) k) b)
 
 -- ---- 6. attempt: the book's step, and the carrier view is marked
 

@@ -19,7 +19,8 @@ pick_at list marks hold T i = both (has marks i) (is_wanted hold T (view_in list
 -- the identifiers at the places below n that the test picks, the last first
 unfoldable pub ids_below : List ℕ → (ℕ → Bool) → ℕ → List Identifier
 ids_below list t zero = []
-ids_below list t (suc n) = cond (t n) (get list (view_size * n) identifier_size ∷ ids_below list t n) (ids_below list t n)
+ids_below list t (suc n) =
+    cond (t n) (get list (view_size * n) identifier_size ∷ ids_below list t n) (ids_below list t n)
 
 -- ---- the newest view before an identifier
 

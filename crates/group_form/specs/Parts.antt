@@ -1,5 +1,6 @@
 -- The parts of the driver: what is asked of the bytes, steps up to the first refusal, and what is put back after it.
-use Rattle.std.specs.Prelude.{◌≡◌, Bool, true, false, not, List, [], ◌∷◌, ◌++◌, ℕ, suc, ◌-◌, ◌<◌, eqb, length, get_or, take, drop}
+use Rattle.std.specs.Prelude.{◌≡◌, Bool, true, false, not, List, [], ◌∷◌, ◌++◌}
+use Rattle.std.specs.Prelude.{ℕ, suc, ◌-◌, ◌<◌, eqb, length, get_or, take, drop}
 use Rattle.std.proofs.Math.Seq.{paste}
 use Rattle.views.specs.declared.View.{View}
 use Rattle.views.specs.declared.list.Lookup.{Lookup}

@@ -19,7 +19,8 @@ head_fits n sender kind count = conditions (
     ∷ [])
 
 abbrev pub heads_fit : ℕ → List ℕ → ℕ → ℕ → Bool
-heads_fit n q c k = head_fits n (get_or q (order_sender c k) 0) (get_or q (order_kind c k) 0) (get_or q (order_count c k) 0)
+heads_fit n q c k =
+    head_fits n (get_or q (order_sender c k) 0) (get_or q (order_kind c k) 0) (get_or q (order_count c k) 0)
 
 -- of the first entries, how many there are up to the last info
 unfoldable pub infos_within : List ℕ → ℕ → ℕ → ℕ

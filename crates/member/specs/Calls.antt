@@ -41,7 +41,8 @@ pass_call room b = on_book b (pass_alone (members_in b) (own_in_book b) room (bo
 
 -- these bytes from the sender q
 unfoldable pub deliver_call : List ℕ → Member → List ℕ → Result Done
-deliver_call bytes q b = on_book b (deliver_alone (members_in b) (own_in_book b) (sent_of (read_one bytes)) q (book_in b))
+deliver_call bytes q b =
+    on_book b (deliver_alone (members_in b) (own_in_book b) (sent_of (read_one bytes)) q (book_in b))
 
 -- the messages in a packet's bytes, as the reader reads them
 abbrev pub messages_in : List ℕ → List (Result Sent)

@@ -8,9 +8,12 @@ use Rattle.rules.specs.Data.{Identifier, Member, Book, Result, refused, accepted
 use Rattle.rules.specs.Member.{Done, Passing}
 use Rattle.rules.specs.Alone.{Delivery}
 use Rattle.events.specs.Replies.{verdict_of}
-use Rattle.book_steps.specs.Acts.{join_bytes, pass_bytes, attempt_bytes, register_bytes, send_bytes, hand_bytes, tell_bytes}
-use Rattle.book_steps.specs.Acts.{safe_bytes, collect_bytes}
-use Rattle.member.specs.Calls.{join_call, pass_call, deliver_call, deliver_bytes, attempt_call, register_call, send_call}
+use Rattle.book_steps.specs.Acts.{join_bytes, pass_bytes, attempt_bytes, register_bytes}
+use Rattle.book_steps.specs.Acts.{send_bytes, hand_bytes, tell_bytes}
+use Rattle.book_steps.specs.Acts.{safe_bytes}
+use Rattle.book_steps.specs.Acts.{collect_bytes}
+use Rattle.member.specs.Calls.{join_call, pass_call, deliver_call, deliver_bytes, attempt_call, register_call}
+use Rattle.member.specs.Calls.{send_call}
 use Rattle.member.specs.Calls.{packet_call, packet_bytes, hand_call, tell_call, safe_call, collect_call}
 
 pub data Call : Type 0 where

@@ -26,7 +26,8 @@ use Rattle.events.specs.Replies.{reply_of, verdict_of}
 use Rattle.events.specs.Shown.{shown_by}
 use Rattle.book_bytes.specs.Books.{book_in, bytes_sound}
 use Rattle.book_bytes.specs.Starts.{start_bytes}
-use Rattle.book_steps.specs.Acts.{join_bytes, pass_bytes, attempt_bytes, register_bytes, send_bytes, hand_bytes, tell_bytes}
+use Rattle.book_steps.specs.Acts.{join_bytes, pass_bytes, attempt_bytes, register_bytes}
+use Rattle.book_steps.specs.Acts.{send_bytes, hand_bytes, tell_bytes}
 use Rattle.book_steps.specs.Acts.{safe_bytes, collect_bytes}
 use Rattle.member.specs.Calls.{start_call, join_call, pass_call, deliver_call, deliver_bytes, attempt_call}
 use Rattle.member.specs.Calls.{register_call, send_call, hand_call, tell_call, safe_call, collect_call}

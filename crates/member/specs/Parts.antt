@@ -27,7 +27,8 @@ use Rattle.member.specs.Calls.{on_book, taken_bytes}
 -- 4, then 6
 unfoldable pub admitted : List ℕ → Verdict
 admitted b =
-    cond (bytes_sound b) (cond (ltb (own_in_book b) (members_in b)) Accepted (Refused NoSuchMember)) (Refused RecordsUnsound)
+    cond (bytes_sound b)
+    (cond (ltb (own_in_book b) (members_in b)) Accepted (Refused NoSuchMember)) (Refused RecordsUnsound)
 
 -- ---- join, after 4 and 6
 

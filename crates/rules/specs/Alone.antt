@@ -168,7 +168,8 @@ onward b others (accepted d) =
     record { count = x.count + 1; stopped = x.stopped; book = x.book }
 
 -- one by one, up to the first refusal
-unfoldable pub deliveries_one_by_one : {M : Type 0} → ℕ → Member → List (Result (SentOf M)) → Member → BookOf M → DeliveryOf M
+unfoldable pub deliveries_one_by_one : {M : Type 0} → ℕ → Member → List (Result (SentOf M))
+    → Member → BookOf M → DeliveryOf M
 deliveries_one_by_one n p [] q b = record { count = 0; stopped = Accepted; book = b }
 deliveries_one_by_one n p (read ∷ l) q b = onward b (λ c. deliveries_one_by_one n p l q c) (deliver_alone n p read q b)
 

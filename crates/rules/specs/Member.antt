@@ -1,7 +1,8 @@
 -- The member's rules, over its book b: p is its own number, n the number of members. The group's steps and the member
 -- by itself use these. M is what a client sends. Each rule is its row of the refusal table from left to right, then
 -- what the step does.
-use Rattle.std.specs.Prelude.{Bool, true, false, cond, not, ◌||◌, List, [], ◌∷◌, ◌++◌, ℕ, zero, suc, ◌+◌, ◌*◌, eqb, ltb, leb, length, take, drop}
+use Rattle.std.specs.Prelude.{Bool, true, false, cond, not, ◌||◌, List, [], ◌∷◌, ◌++◌, ℕ}
+use Rattle.std.specs.Prelude.{zero, suc, ◌+◌, ◌*◌, eqb, ltb, leb, length, take, drop}
 use Rattle.std.proofs.Math.Option.{Option, some}
 use Rattle.views.specs.declared.View.{View}
 use Rattle.views.specs.declared.list.Lookup.{Lookup}

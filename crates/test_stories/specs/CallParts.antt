@@ -12,7 +12,8 @@ use Rattle.events.specs.Kinds.{safe_kind}
 use Rattle.book_bytes.specs.Starts.{start_bytes}
 use Rattle.book_steps.specs.Acts.{join_bytes, attempt_bytes, collect_bytes}
 use Rattle.book_steps.specs.Acts.{register_bytes, send_bytes, hand_bytes, tell_bytes, safe_bytes}
-use Rattle.member.specs.Calls.{start_call, start_reply, join_call, deliver_call, deliver_bytes, attempt_call, collect_call}
+use Rattle.member.specs.Calls.{start_call, start_reply, join_call, deliver_call}
+use Rattle.member.specs.Calls.{deliver_bytes, attempt_call, collect_call}
 use Rattle.member.specs.Calls.{register_call, send_call, hand_call, tell_call, safe_call}
 use Rattle.test_script.specs.ParseParts.{word_start, word_number, unhexed}
 use Rattle.test_script.specs.OperandParts.{byte_word, identifier_word}

@@ -33,7 +33,8 @@ find_of g (v ∷ l) = cond (eqb (id_of v) g) (Found v) (find_of g l)
 -- x put before the first view that is not below it, unless that one has its identifier
 unfoldable pub insert_of : View → List View → List View
 insert_of x [] = x ∷ []
-insert_of x (y ∷ l) = cond (ltb (id_of y) (id_of x)) (y ∷ insert_of x l) (cond (eqb (id_of x) (id_of y)) (y ∷ l) (x ∷ y ∷ l))
+insert_of x (y ∷ l) =
+    cond (ltb (id_of y) (id_of x)) (y ∷ insert_of x l) (cond (eqb (id_of x) (id_of y)) (y ∷ l) (x ∷ y ∷ l))
 
 -- x among the views of a list: those below x before it, and after it what `rest` makes of the others, less the one with
 -- x's identifier

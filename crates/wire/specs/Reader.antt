@@ -111,7 +111,8 @@ given (Refused x) r = refused x
 
 -- the message at the front of the bytes, and how many bytes it took
 unfoldable pub read_front : List ℕ → Reading
-read_front b = given (scan_of b) (given (whole_of b) (record { verdict = Accepted; taken = end_of b; frame = frame_in b }))
+read_front b =
+    given (scan_of b) (given (whole_of b) (record { verdict = Accepted; taken = end_of b; frame = frame_in b }))
 
 -- the verdict on the message at the front, and how many bytes it takes
 abbrev pub front_of : List ℕ → Front

@@ -1,8 +1,7 @@
 -- `views::list::find` meets its contract: no view before i has the identifier, so the answer is that of what is left.
 use mathlib.Core.Path.{refl, sym, ◌∙◌}
-use Prim.Native.Nat.{◌-◌}
 use native.Mathlib.Omega.{arith}
-use lib.ListN.{length-map, drop_of_length-le}
+use lib.ListN.{drop_of_length-le}
 use Rattle.views.specs.Lists.{find_of, list_of}
 use Rattle.views.proofs.PlaceLaws.{length-used}
 use Rattle.views.proofs.WalkLaws.{find-here, find-on}

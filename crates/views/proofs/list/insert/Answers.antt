@@ -1,12 +1,11 @@
 -- `views::list::insert` meets its contract: the places hold what is put together of the list up to i and, once a view that is not below v was met, of v;
 -- what is left comes behind.
 use mathlib.Core.Path.{◌≡◌, sym, ◌∙◌}
-use mathlib.Core.Logic.{⊎_elim}
 use mathlib.Core.Bool.{true, cond, true≢false}
 use mathlib.Core.List.{[], ◌∷◌}
-use Prim.Native.Nat.{◌+◌, ◌≤◌, ◌-◌}
+use Prim.Native.Nat.{◌+◌, ◌≤◌}
 use native.Mathlib.Omega.{arith}
-use lib.ListN.{get_or, drop, length-map, drop_of_length-le}
+use lib.ListN.{get_or, drop, drop_of_length-le}
 use Rattle.views.specs.Lists.{insert_of, list_of, no_view}
 use Rattle.views.proofs.PlaceLaws.{Filling, filling-start, filling-more, filling-full, filling_skip, filling-end, length-used, drop-used}
 use Rattle.views.proofs.WalkLaws.{insert-on, insert-same, insert-here}

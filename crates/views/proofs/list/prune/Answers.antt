@@ -1,10 +1,8 @@
 -- `views::list::prune` meets its contract: the places hold what is above the identifier of the list up to i, and what is left comes behind.
 use mathlib.Core.Path.{◌≡◌, sym, ap, ◌∙◌}
-use mathlib.Core.Logic.{⊎_elim}
 use mathlib.Core.List.{[]}
-use Prim.Native.Nat.{◌-◌}
 use native.Mathlib.Omega.{arith}
-use lib.ListN.{get_or, drop, length-map, drop_of_length-le}
+use lib.ListN.{get_or, drop, drop_of_length-le}
 use Rattle.views.specs.Lists.{above_of, list_of, no_view}
 use Rattle.views.proofs.PlaceLaws.{filling-start, filling-more, filling_skip, filling-end, length-used}
 use Rattle.views.proofs.WalkLaws.{above-here, above_on}

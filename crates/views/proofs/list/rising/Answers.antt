@@ -1,8 +1,6 @@
 -- `views::list::rising` meets its contract: up to the view before i the list rises, so the answer is that of the list from there on.
 use mathlib.Core.Path.{refl, sym, ◌∙◌}
-use Prim.Native.Nat.{◌-◌}
 use native.Mathlib.Omega.{arith}
-use lib.ListN.{length-map}
 use Rattle.views.specs.Lists.{list_of}
 use Rattle.views.proofs.PlaceLaws.{length-used}
 use Rattle.views.proofs.WalkLaws.{rising-stop, rising-on, rising-end}

@@ -1,9 +1,9 @@
 -- The views before i have members, so the answer for the whole list is that for the rest.
 use mathlib.Core.Path.{◌≡◌, refl, sym, ◌∙◌}
-use Prim.Native.Nat.{◌-◌, min}
+use Prim.Native.Nat.{min}
 use native.Mathlib.Omega.{arith}
 use borrow.Author.Tests.{eq-eqb, ne_eqb}
-use lib.ListN.{length, get_or, length-take, length-map, drop_of_length-le}
+use lib.ListN.{length, get_or, length-take, drop_of_length-le}
 use Rattle.views.specs.Lists.{no_view, list_of}
 use Rattle.wire.specs.Format.{some_empty}
 use Rattle.wire.proofs.FormatLaws.{empty-turn}

@@ -1,6 +1,5 @@
 -- The places hold the views read so far, and unused places behind them.
 use mathlib.Core.Path.{◌≡◌, refl}
-use Prim.Native.Nat.{◌-◌}
 use native.Mathlib.Omega.{arith}
 use Rattle.views.specs.Lists.{places}
 use Rattle.wire.specs.Reader.{views_in}

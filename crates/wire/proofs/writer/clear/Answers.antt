@@ -1,6 +1,5 @@
 -- `writer::clear` meets its contract: after i turns the first i bytes are 0.
 use mathlib.Core.Path.{refl, ◌∙◌}
-use Prim.Native.Nat.{◌-◌}
 use native.Mathlib.Omega.{arith}
 use lib.ListN.{length-set}
 use Rattle.wire.proofs.SeamLaws.{clear-turn, cleared}

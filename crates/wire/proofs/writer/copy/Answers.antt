@@ -1,6 +1,5 @@
 -- `writer::copy` meets its contract: after i turns i bytes are copied.
 use mathlib.Core.Path.{◌≡◌, refl}
-use Prim.Native.Nat.{◌-◌}
 use native.Mathlib.Omega.{arith}
 use lib.ListN.{length-set, drop}
 use lib.Seq.{paste-zero}

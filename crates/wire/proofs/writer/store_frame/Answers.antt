@@ -1,7 +1,7 @@
 -- The three parts stand one behind the other, and together they are the frame.
 use mathlib.Core.Path.{◌≡◌}
 use native.Mathlib.Omega.{arith}
-use lib.ListN.{length, length-map}
+use lib.ListN.{length}
 use lib.Seq.{length-take-le}
 use Rattle.views.specs.Lists.{list_of}
 use Rattle.wire.proofs.WriterLaws.{frame-stored}

@@ -1,8 +1,7 @@
 -- The buffer holds the first i views behind what stood before them, and its old bytes behind those.
 use mathlib.Core.Path.{◌≡◌, refl, ◌∙◌}
-use Prim.Native.Nat.{◌-◌}
 use native.Mathlib.Omega.{arith}
-use lib.ListN.{length, length-set, length-map}
+use lib.ListN.{length, length-set}
 use Rattle.wire.proofs.SeamLaws.{store-start, store-turn, store-end}
 use Rattle.wire.proofs.writer.store_views.Goals as goal
 

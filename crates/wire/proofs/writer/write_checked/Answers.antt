@@ -1,7 +1,7 @@
 -- The size that is compared with the buffer is the length of the frame's bytes.
 use mathlib.Core.Path.{◌≡◌}
 use native.Mathlib.Omega.{arith}
-use lib.ListN.{length, length-map}
+use lib.ListN.{length}
 use Rattle.wire.proofs.WriterLaws.{frame-few, length-frame, wrote-short, wrote-whole}
 use Rattle.wire.proofs.writer.write_checked.Goals as goal
 
