@@ -13,7 +13,7 @@ target/outside_wrong: $(OUTSIDE) $(wildcard tests/strength/*.?pp) $(LIBRARY)
 outside-strength: $(LIBRARY)
 	python3 tests/strength/changed_rules.py $(LIBRARY)
 
-# One fault after another put into the bench: its tests must see each. Some three minutes.
+# One fault after another put into the bench: the prover or its tests must see each.
 .PHONY: bench-strength
 bench-strength:
 	python3 tests/strength/wrong_benches.py

@@ -1,7 +1,7 @@
 #!/usr/bin/env python3
-"""How much the tests of the bench see: one fault after another is put into its sources, which are compiled without proving, and the stored
-scripts, the lines sent one at a time or the reads and writes that fail must show it. The prover refuses the faults of `showing` by itself; of
-what the bench reads and writes it knows nothing. Some three minutes.
+"""How much the tests of the bench see: one fault after another is put into its sources. The prover must refuse it, or the stored scripts, the
+lines sent one at a time or the reads and writes that fail must show it. The prover refuses the faults of `showing` by itself; of what the bench
+reads and writes it knows nothing.
 
     python3 tests/strength/wrong_benches.py
 """
@@ -12,7 +12,7 @@ import sys
 
 ROOT = pathlib.Path(__file__).resolve().parents[2]
 WORK = ROOT / "target" / "wrong-benches"
-BENCH = WORK / "target" / "unproved" / "bench"
+BENCH = WORK / "target" / "bin" / "bench"
 TESTS = {
     "stored scripts": ["tests/reference/compare.py", "corpus", "tests/scripts"],
     "lines one at a time": ["tests/scripts/bench_waits.py"],
@@ -58,8 +58,10 @@ FAULTS = {
 
 
 def noticed():
-    """The tests that see a fault in the bench that stands in WORK."""
-    subprocess.run([WORK / ".ci" / "unproved", "bench"], check=True, stdout=subprocess.DEVNULL)
+    """What sees a fault in the bench that stands in WORK: the prover, or else tests of what is built."""
+    proved = subprocess.run([WORK / ".ci" / "prove", "program", "bench"], stdin=subprocess.DEVNULL, stdout=subprocess.DEVNULL, stderr=subprocess.DEVNULL)
+    if proved.returncode:
+        return ["the prover"]
     return [name for name, words in TESTS.items()
             if subprocess.run([sys.executable, *words, str(BENCH)], cwd=ROOT, stdout=subprocess.DEVNULL, stderr=subprocess.DEVNULL).returncode]
 
@@ -78,7 +80,8 @@ def with_fault(file, old, new):
 def main():
     shutil.rmtree(WORK, ignore_errors=True)
     for name in "crates", ".ci":
-        shutil.copytree(ROOT / name, WORK / name)
+        shutil.copytree(ROOT / name, WORK / name, ignore=shutil.ignore_patterns("out"))
+    subprocess.run(["git", "init", "-q"], cwd=WORK, check=True)
     for name in "crates.txt", ".rattle-version":
         shutil.copy(ROOT / name, WORK)
     if noticed():
