@@ -1,17 +1,16 @@
 -- The views of a rising list that a test picks, newest first.
-use mathlib.Core.Path.{◌≡◌, refl, sym, ap, ◌∙◌}
-use mathlib.Core.Logic.{◌⊎◌, inl, inr, ⊎_elim}
-use mathlib.Core.Bool.{Bool, true, false, cond, true≢false}
+use mathlib.Core.Path.{◌≡◌, refl}
+use mathlib.Core.Logic.{inl, inr}
+use mathlib.Core.Bool.{Bool, true, false, cond}
 use mathlib.Core.List.{List, [], ◌∷◌, ◌++◌, append-nil}
-use Prim.Native.Nat.{ℕ, zero, suc, ◌<◌}
+use Prim.Native.Nat.{ℕ, ◌<◌}
 use native.Mathlib.Omega.{arith}
 use lib.Dec.{ltb}
-use borrow.Author.Tests.{ltb-true, lt-ltb}
+use borrow.Author.Tests.{ltb-true}
 use Rattle.views.specs.declared.View.{View}
-use Rattle.views.specs.Sets.{both}
 use Rattle.views.specs.Lists.{id_of, rises_above, is_rising}
 use Rattle.views.proofs.Members.{In, top, pop, in-nil, in-cons, in_left, in_right, in-append}
-use Rattle.views.proofs.SetLaws.{known, both_true}
+use Rattle.views.proofs.SetLaws.{both_true}
 use Rattle.rules.specs.Crossing.{newest_first, Falls}
 
 module _ (f : View → Bool) where

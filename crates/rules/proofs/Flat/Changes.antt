@@ -9,11 +9,9 @@ use lib.Seq.{drop-append-le, take-append-le}
 use Rattle.views.specs.declared.View.{View}
 use Rattle.views.specs.Points.{at, at2}
 use Rattle.views.specs.Lists.{id_of}
-use Rattle.rules.specs.Data as D
 use Rattle.rules.specs.Data.{MessageOf, EntryOf, entry, Item, Held, AtCarrierOf, BookOf, GroupOf}
 use Rattle.rules.specs.Member.{outgoes, takes, received, moves, noted, joined, opened, attempted, collected}
 use Rattle.rules.specs.Group.{booked}
-use Rattle.rules.proofs.Flat as F
 use Rattle.rules.proofs.Flat.{Msg, Ent, ent, Flat, join_f, pass_f, order_f, info_f, heard_f, told_f, inward_f, arrive_f, attempt_f, queue_f, hand_f, safe_f, collect_f}
 use Rattle.rules.proofs.Flat.Flatten.{flat, msg_of, ent_of, bare, put, put2, keep, map_snoc, take_next, drop-next, carrier_f, client_f, settled_f, opens_f, outgoing_f, infos_f, regs_f, tolds_f, taken_f, arrived_f, ahead_f, given_f, reported_f}
 

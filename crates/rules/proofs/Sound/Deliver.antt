@@ -9,7 +9,6 @@ use native.Mathlib.Omega.{arith}
 use lib.ListN.{length}
 use Rattle.views.specs.declared.View.{View}
 use Rattle.views.specs.Limits.{max_open, max_ordered}
-use Rattle.views.specs.Points.{at}
 use Rattle.views.proofs.SetLaws.{known}
 use Rattle.views.proofs.PointLaws.{upd-ind}
 use Rattle.rules.specs.Data.{Member, MessageOf, client, info, registered, told, entry, Item, item, BookOf}

@@ -12,7 +12,7 @@ use Rattle.views.specs.declared.View.{View}
 use Rattle.views.specs.Limits.{max_members, max_views}
 use Rattle.views.specs.Sets.{is_empty, is_beyond, fits}
 use Rattle.views.specs.Lists.{id_of, is_rising, rises_above}
-use Rattle.views.proofs.SetLaws.{known, both_true}
+use Rattle.views.proofs.SetLaws.{both_true}
 use Rattle.views.proofs.Members.{In, top, in-nil, in-cons, in_left}
 use Rattle.rules.specs.Data.{Identifier, Member, EntryOf, GroupOf, accepted}
 use Rattle.rules.specs.Member.{all}

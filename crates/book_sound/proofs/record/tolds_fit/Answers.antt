@@ -1,6 +1,5 @@
 -- `book_sound::record::tolds_fit` meets its contract: the counts of the members below q are within their limit, and past the places there is none.
 use mathlib.Core.Path.{◌≡◌, sym}
-use Prim.Native.Nat.{◌-◌}
 use native.Mathlib.Omega.{arith}
 use borrow.Author.Tests.{le-leb, lt-leb}
 use lib.ListN.{length, get_or}
@@ -21,10 +20,10 @@ loop-q-preserved c =
     let a = c.args in
     let l = c.loop-q in
     tolds-more a.n a.tolds l.q l.invariant (λ h.
-      elim c.if-q-n.branch [
-        | then-q-n+else-tolds-q-gt-ORDERED w ↦ le-leb (get_or a.tolds l.q 0) max_ordered (omega arith)
-        | else-q-n w ↦ absurd (omega arith)
-      ])
+    elim c.if-q-n.branch [
+      | then-q-n+else-tolds-q-gt-ORDERED w ↦ le-leb (get_or a.tolds l.q 0) max_ordered (omega arith)
+      | else-q-n w ↦ absurd (omega arith)
+    ])
 
 pub returns : goal.returns
 returns c =
