@@ -15,7 +15,7 @@ use Rattle.wire.specs.Format.{told_fits}
 use Rattle.wire.specs.Reader.{views_in}
 use Rattle.wire.proofs.ReaderLaws.{length-views_in}
 use Rattle.wire.proofs.TripMessages.{Kind}
-use Rattle.rules.specs.Data.{Message, client, registered, told, entry}
+use Rattle.rules.specs.Data.{Message, entry}
 use Rattle.rules.specs.Member.{all}
 use Rattle.rules.specs.Sound.{conditions, set_fits}
 use Rattle.rules.specs.Alone.{info_of}

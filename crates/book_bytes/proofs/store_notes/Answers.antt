@@ -1,8 +1,7 @@
 -- `book_bytes::store_notes` meets its contract: after i turns the first i told counts are stored.
 use mathlib.Core.Path.{◌≡◌, refl}
-use Prim.Native.Nat.{◌-◌}
 use native.Mathlib.Omega.{arith}
-use lib.ListN.{length, length-set, length-map, set}
+use lib.ListN.{length, length-set, set}
 use lib.Seq.{paste-zero}
 use Rattle.views.specs.Limits.{max_members}
 use Rattle.book_bytes.specs.Places.{infos_at, registrations_at, tolds_at}

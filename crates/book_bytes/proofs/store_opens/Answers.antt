@@ -1,7 +1,7 @@
 -- `book_bytes::store_opens` meets its contract: the count is stored, then the views behind it.
 use mathlib.Core.Path.{◌≡◌}
 use native.Mathlib.Omega.{arith}
-use lib.ListN.{length, length-set, length-map}
+use lib.ListN.{length, length-set}
 use lib.Seq.{length-take-le}
 use Rattle.book_bytes.proofs.CodeLaws.{opens-joined}
 use Rattle.book_bytes.proofs.store_opens.Goals as goal

@@ -1,7 +1,6 @@
 -- `book_sound::queues_sound` meets its contract: a layout that fits has every queue within the bytes, and each is tested where it lies.
 use mathlib.Core.Path.{sym, ◌∙◌}
 use native.Mathlib.Omega.{arith}
-use Rattle.book_bytes.specs.Places.{outgoing_at, side_at}
 use Rattle.book_bytes.proofs.LayoutLaws.{layout-says}
 use Rattle.book_sound.specs.Parts.{queues_sound}
 use Rattle.rules.proofs.Truth.{stopped, three}

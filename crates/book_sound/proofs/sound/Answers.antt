@@ -2,7 +2,6 @@
 use mathlib.Core.Path.{sym, ◌∙◌}
 use native.Mathlib.Omega.{arith}
 use Rattle.rules.proofs.Truth.{stopped}
-use Rattle.book_bytes.specs.Places.{side_at}
 use Rattle.book_bytes.specs.Books.{bytes_sound}
 use Rattle.book_bytes.proofs.LayoutLaws.{layout-says}
 use Rattle.book_sound.proofs.Whole.{record-members, record-stops, record-passes}

@@ -1,5 +1,4 @@
 use native.Mathlib.Omega.{arith}
-use Rattle.book_bytes.specs.Places.{outgoing_at}
 use Rattle.book_steps.specs.Parts.{said_bytes}
 use Rattle.book_steps.proofs.say.Goals as goal
 

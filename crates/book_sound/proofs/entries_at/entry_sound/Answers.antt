@@ -1,6 +1,5 @@
 -- `book_sound::entries_at::entry_sound` meets its contract: by the sender and the kind, the entry is tested by what is left to ask of it.
 use mathlib.Core.Path.{sym, ◌∙◌}
-use Prim.Native.Nat.{◌+◌}
 use native.Mathlib.Omega.{arith}
 use Rattle.book_sound.proofs.Entries.{info-count, entry-foreign, entry-told, entry_other, entry-info}
 use Rattle.book_sound.proofs.entries_at.entry_sound.Goals as goal

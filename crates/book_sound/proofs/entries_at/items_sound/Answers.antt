@@ -1,6 +1,6 @@
 -- `book_sound::entries_at::items_sound` meets its contract: the highest of the senders before the i-th item is a member where each of them is.
 use mathlib.Core.Path.{◌≡◌, ap, ◌∙◌}
-use Prim.Native.Nat.{ℕ, ◌-◌}
+use Prim.Native.Nat.{ℕ}
 use native.Mathlib.Omega.{arith}
 use lib.Dec.{ltb}
 use lib.ListN.{get_or}

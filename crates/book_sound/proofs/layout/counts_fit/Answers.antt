@@ -1,8 +1,6 @@
 -- `book_sound::layout::counts_fit` meets its contract: one count that does not fit answers for all.
 use mathlib.Core.Path.{sym, ◌∙◌}
-use native.Mathlib.Omega.{arith}
 use borrow.Author.Tests.{le-leb, lt-leb}
-use Rattle.book_bytes.specs.Places.{opens_at}
 use Rattle.book_sound.specs.Parts.{counts_fit}
 use Rattle.rules.proofs.Truth.{stopped, four}
 use Rattle.book_sound.proofs.layout.counts_fit.Goals as goal

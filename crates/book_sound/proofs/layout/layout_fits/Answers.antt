@@ -2,7 +2,6 @@
 use mathlib.Core.Path.{sym, ◌∙◌}
 use native.Mathlib.Omega.{arith}
 use borrow.Author.Tests.{eq-eqb, ne_eqb}
-use Rattle.book_bytes.specs.Places.{outgoing_at}
 use Rattle.book_sound.proofs.Layouts.{layout-are, outgoing-few}
 use Rattle.book_sound.proofs.layout.layout_fits.Goals as goal
 

@@ -1,6 +1,5 @@
 -- `book_sound::record::tolds_fit` meets its contract: the counts of the members below q are within their limit, and past the places there is none.
 use mathlib.Core.Path.{◌≡◌, sym}
-use Prim.Native.Nat.{◌-◌}
 use native.Mathlib.Omega.{arith}
 use borrow.Author.Tests.{le-leb, lt-leb}
 use lib.ListN.{length, get_or}

@@ -1,7 +1,5 @@
 -- `record_steps::tests::all_noted` meets its contract: every member below q that is in the set is noted.
 use mathlib.Core.Path.{◌≡◌, sym, ◌∙◌}
-use mathlib.Core.Bool.{true}
-use Prim.Native.Nat.{◌-◌}
 use native.Mathlib.Omega.{arith}
 use Rattle.views.specs.Sets.{has}
 use Rattle.rules.proofs.Truth.{every-stop}

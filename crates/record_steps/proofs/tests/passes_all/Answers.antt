@@ -1,9 +1,8 @@
 -- `record_steps::tests::passes_all` meets its contract: the settled view passes and every open view before i, so the answer is that of what is left.
 use mathlib.Core.Path.{◌≡◌, refl, sym, ◌∙◌}
 use mathlib.Core.Bool.{true, false}
-use Prim.Native.Nat.{◌-◌}
 use native.Mathlib.Omega.{arith}
-use lib.ListN.{get_or, length-map, drop_of_length-le}
+use lib.ListN.{get_or, drop_of_length-le}
 use Rattle.views.specs.Sets.{one}
 use Rattle.views.specs.Lists.{list_of, no_view}
 use Rattle.views.proofs.PlaceLaws.{length-used}
