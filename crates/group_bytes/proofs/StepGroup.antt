@@ -43,6 +43,9 @@ pub pick-leaves : (P : Ranges → Next → Type 0) (k : ℕ) (r : Ranges) (l : L
 unfolding pick pick_ranges
 pick-leaves P zero r l m h = refuses
 pick-leaves P (suc k) r [] [] none = refuses
+pick-leaves P (suc k) r [] (y ∷ m) h = elim h [ ]
+pick-leaves P (suc zero) r (x ∷ l) [] h = elim h [ ]
+pick-leaves P (suc (suc k)) r (x ∷ l) [] h = elim h [ ]
 pick-leaves P (suc zero) r (x ∷ l) (y ∷ m) (next h t) = h
 pick-leaves P (suc (suc k)) r (x ∷ l) (y ∷ m) (next h t) = pick-leaves P (suc k) r l m t
 

@@ -13,7 +13,7 @@ use Rattle.views.specs.Sizes.{number_size}
 use Rattle.views.specs.Lists.{no_view}
 use Rattle.wire.specs.Format.{client_kind, info_kind, registered_kind, told_kind}
 use Rattle.wire.proofs.ReaderLaws.{length-views_in}
-use Rattle.wire.proofs.TripViews.{EachFits, AreBytes, get-fits, views-fit}
+use Rattle.wire.proofs.TripViews.{EachFits, ViewFits, AreBytes, get-fits, views-fit}
 use Rattle.rules.specs.Data.{Member, Message, client, info, registered, told, entry, Group}
 use Rattle.rules.specs.Alone.{views_of, info_of}
 use Rattle.rules.proofs.Sound.{EntrySound, told-sound}
@@ -30,7 +30,7 @@ pub record InWidths (m : Message) : Type 0 where
 
 info-widths : (l : List View) → length l ≤ max_views → EachFits l → InWidths (info_of l)
 info-widths [] few f =
-    let each : EachFits (no_view ∷ []) = λ j. elim j [ zero ↦ f 0 | suc k ↦ f k ] in
+    let each : EachFits (no_view ∷ []) = λ j. elim j as (λ k. ViewFits (get_or (no_view ∷ []) k no_view)) [ zero ↦ f 0 | suc k ↦ f k ] in
     record { message = info-fits no_view [] (omega arith) (λ j. (each j).id); sets = λ j. (each j).set }
 info-widths (v ∷ l) few f = record { message = info-fits v l (omega arith) (λ j. (f j).id); sets = λ j. (f j).set }
 

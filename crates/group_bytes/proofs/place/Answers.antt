@@ -1,17 +1,17 @@
 -- `group_bytes::place` meets its contract: no view from the i-th on has the identifier.
 use mathlib.Core.Path.{sym, ◌∙◌}
-use mathlib.Core.Logic.{⊎_elim}
 use Prim.Native.Nat.{◌-◌}
 use native.Mathlib.Omega.{arith}
 use Rattle.group_bytes.proofs.PlaceTurns.{none_more, none-past, place-found-at, place-of-none}
 use Rattle.group_bytes.proofs.place.Goals as goal
+use Rattle.group_bytes.proofs.place.Goals.{then-g-n, else-g-n}
 
 pub loop-i-init : goal.loop-i-init
 loop-i-init c =
     let a = c.args in
-    ⊎_elim (λ w. (omega arith, none-past a.list.now a.n c.requires.1 a.id.0 c.if-g-n.i (omega arith)))
-    (λ w. (omega arith, λ k l m s. omega arith))
-    c.if-g-n.branch
+    elim c.if-g-n.branch [
+    then-g-n w ↦ (omega arith, none-past a.list.now a.n c.requires.1 a.id.0 c.if-g-n.i (omega arith))
+    | else-g-n w ↦ (omega arith, λ k l m s. omega arith) ]
 
 pub get_number-requires : goal.get_number-requires
 get_number-requires c = (omega (arith, c.requires.0), omega arith)

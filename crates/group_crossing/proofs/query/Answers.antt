@@ -37,7 +37,7 @@ returns-then-not-fits c =
     let a = c11.args in
     let r = ranges a.list.now a.books.now a.queues.now in
     not_set r a.hold a.set _ c6.if-out-ne0.false (sym c5.sound.ensures ∙ not-false _ c4.if-not-sound.false-raw) _
-    (sym c.fits2.ensures ∙ not-true _ c.if-not-fits.true-raw) c.refuse-then-not-fits.ensures
+    (sym c.fits.ensures ∙ not-true _ c.if-not-fits.true-raw) c.refuse-then-not-fits.ensures
 
 pub bounds-queues-0 : goal.bounds-queues-0
 bounds-queues-0 c =
@@ -97,7 +97,7 @@ returns-then-out-k c =
     let a = c15.args in
     let r = ranges a.list.now a.books.now a.queues.now in
     not-room r a.hold a.set _ c10.if-out-ne0.false (sym c9.sound.ensures ∙ not-false _ c8.if-not-sound.false-raw)
-    (sym c6.fits2.ensures ∙ not-false _ c5.if-not-fits.false-raw) _ c3.get_number-marks.ensures.0 _ c.count-k.ensures _
+    (sym c6.fits.ensures ∙ not-false _ c5.if-not-fits.false-raw) _ c3.get_number-marks.ensures.0 _ c.count-k.ensures _
     c.if-out-k.true c.refuse-then-out-k.ensures
 
 pub lay-requires : goal.lay-requires
@@ -124,5 +124,5 @@ returns c =
     let a = c18.args in
     let r = ranges a.list.now a.books.now a.queues.now in
     answered r a.hold a.set _ c13.if-out-ne0.false (sym c12.sound.ensures ∙ not-false _ c11.if-not-sound.false-raw)
-    (sym c9.fits2.ensures ∙ not-false _ c8.if-not-fits.false-raw) _ c6.get_number-marks.ensures.0 _ c5.count-k.ensures _
+    (sym c9.fits.ensures ∙ not-false _ c8.if-not-fits.false-raw) _ c6.get_number-marks.ensures.0 _ c5.count-k.ensures _
     c4.if-out-k.false c.lay.ensures

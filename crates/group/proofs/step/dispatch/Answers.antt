@@ -7,6 +7,7 @@ use Rattle.group_bytes.proofs.RangesLaws.{RangesBytes}
 use Rattle.group.proofs.OperandLaws.{by-member, by-set}
 use Rattle.group.proofs.CarrierLaws.{create-went, join-went, pass-went, order-went, deliver-went, unknown-went, past-twelve}
 use Rattle.group.proofs.step.dispatch.Goals as goal
+use Rattle.group.proofs.step.dispatch.Goals.{in-0-1, in_default-1}
 
 pub register-requires : goal.register-requires
 register-requires c =
@@ -49,43 +50,43 @@ returns-in-1 c =
     let s = c in
     let r : Ranges = record { list = s.args.list.now; books = s.args.all.now; queues = s.args.queues.now } in
     let x = c.set in
-    rw c.match.keys1 (by-set r s.requires s.args.first s.args.second x.result x.ensures _ _ (create-went r s.requires s.args.first x.result _ _ _ c.create.ensures _ c.plain.ensures))
+    rw c.in-1.is (by-set r s.requires s.args.first s.args.second x.result x.ensures _ _ (create-went r s.requires s.args.first x.result _ _ _ c.create.ensures _ c.plain.ensures))
 
 pub returns-in-2 : goal.returns-in-2
 returns-in-2 c =
     let s = c in
     let r : Ranges = record { list = s.args.list.now; books = s.args.all.now; queues = s.args.queues.now } in
-    let p = c.member in
-    rw c.match.keys2 (by-member r s.requires 0 s.args.first s.args.second (omega arith) p.result.0 p.ensures _ _ (join-went r s.requires p.result.0 s.args.second _ _ c.join.ensures))
+    let p = c.member-p in
+    rw c.in-2.is (by-member r s.requires 0 s.args.first s.args.second (omega arith) p.result.0 p.ensures _ _ (join-went r s.requires p.result.0 s.args.second _ _ c.join.ensures))
 
 pub returns-in-3 : goal.returns-in-3
 returns-in-3 c =
     let s = c in
     let r : Ranges = record { list = s.args.list.now; books = s.args.all.now; queues = s.args.queues.now } in
-    let p = c.member in
-    rw c.match.keys3 (by-member r s.requires 1 s.args.first s.args.second (omega arith) p.result.0 p.ensures _ _ (pass-went r s.requires p.result.0 s.args.second _ _ _ c.pass.ensures _ c.plain-in-3.ensures))
+    let p = c.member-p in
+    rw c.in-3.is (by-member r s.requires 1 s.args.first s.args.second (omega arith) p.result.0 p.ensures _ _ (pass-went r s.requires p.result.0 s.args.second _ _ _ c.pass.ensures _ c.plain-in-3.ensures))
 
 pub returns-in-4 : goal.returns-in-4
 returns-in-4 c =
     let s = c in
     let r : Ranges = record { list = s.args.list.now; books = s.args.all.now; queues = s.args.queues.now } in
-    let p = c.member in
-    rw c.match.keys4 (by-member r s.requires 2 s.args.first s.args.second (omega arith) p.result.0 p.ensures _ _ (order-went r s.requires p.result.0 s.args.second _ _ c.order.ensures _ c.plain-in-4.ensures))
+    let p = c.member-p in
+    rw c.in-4.is (by-member r s.requires 2 s.args.first s.args.second (omega arith) p.result.0 p.ensures _ _ (order-went r s.requires p.result.0 s.args.second _ _ c.order.ensures _ c.plain-in-4.ensures))
 
 pub returns-in-5 : goal.returns-in-5
 returns-in-5 c =
     let s = c in
     let r : Ranges = record { list = s.args.list.now; books = s.args.all.now; queues = s.args.queues.now } in
-    let p = c.member in
-    rw c.match.keys5 (by-member r s.requires 3 s.args.first s.args.second (omega arith) p.result.0 p.ensures _ _ (deliver-went r s.requires p.result.0 s.args.second _ _ c.deliver.ensures))
+    let p = c.member-p in
+    rw c.in-5.is (by-member r s.requires 3 s.args.first s.args.second (omega arith) p.result.0 p.ensures _ _ (deliver-went r s.requires p.result.0 s.args.second _ _ c.deliver.ensures))
 
 pub returns-in-6 : goal.returns-in-6
 returns-in-6 c =
     let s = c in
     let r : Ranges = record { list = s.args.list.now; books = s.args.all.now; queues = s.args.queues.now } in
-    let p = c.member in
-    let bytes : RangesBytes r = record { list = λ j. omega (arith, c.slice-known.given j); books = λ j. omega (arith, c.slice-known2.given j); queues = λ j. omega (arith, c.slice-known3.given j) } in
-    rw c.match.keys6 (by-member r s.requires 4 s.args.first s.args.second (omega arith) p.result.0 p.ensures _ _ (attempt-went r s.requires p.result.0 s.args.second _ _ _ bytes c.attempt.ensures))
+    let p = c.member-p in
+    let bytes : RangesBytes r = record { list = λ j. omega (arith, c.slice_known-1.given j); books = λ j. omega (arith, c.slice_known-2-1.given j); queues = λ j. omega (arith, c.slice_known-3-1.given j) } in
+    rw c.in-6.is (by-member r s.requires 4 s.args.first s.args.second (omega arith) p.result.0 p.ensures _ _ (attempt-went r s.requires p.result.0 s.args.second _ _ _ bytes c.attempt.ensures))
 
 pub returns-in-7 : goal.returns-in-7
 returns-in-7 c =
@@ -132,4 +133,6 @@ returns-in-12 c =
 pub returns-in-0 : goal.returns-in-0
 returns-in-0 c =
     let a = c.args in
-    unknown-went (record { list = a.list.now; books = a.all.now; queues = a.queues.now }) c.requires (asked a.kind a.first a.second) (⊎_elim (λ z. inl z.keys13) (λ z. inr (past-twelve a.kind z.rest.1 z.rest.0.0.0.0.0.0.0.0.0.0.0.0.1 z.rest.0.0.0.0.0.0.0.0.0.0.0.1 z.rest.0.0.0.0.0.0.0.0.0.0.1 z.rest.0.0.0.0.0.0.0.0.0.1 z.rest.0.0.0.0.0.0.0.0.1 z.rest.0.0.0.0.0.0.0.1 z.rest.0.0.0.0.0.0.1 z.rest.0.0.0.0.0.1 z.rest.0.0.0.0.1 z.rest.0.0.0.1 z.rest.0.0.1 z.rest.0.1)) c.in-0-1.branch) _ c.refuse.ensures
+    let r : Ranges = record { list = a.list.now; books = a.all.now; queues = a.queues.now } in
+    unknown-went r c.requires (asked a.kind a.first a.second)
+        (elim c.in-0-1.branch [ in-0-1 w ↦ inl (omega arith) | in_default-1 w ↦ inr (omega arith) ]) _ c.refuse.ensures

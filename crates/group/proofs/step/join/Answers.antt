@@ -16,5 +16,5 @@ pub returns-then-x-ge-IDENTIFIERS : goal.returns-then-x-ge-IDENTIFIERS
 returns-then-x-ge-IDENTIFIERS c =
     let s = c in
     let r : Ranges = record { list = s.args.list.now; books = s.args.all.now; queues = s.args.queues.now } in
-    let bytes : AreBytes r.list = λ j. omega (arith, c.shared-slice-known.given j) in
-    join-wide r bytes s.args.p.0 s.args.x c.if1.true c.no_view-why.result c.no_view-why.ensures _ c.refuse.ensures
+    let bytes : AreBytes r.list = λ j. omega (arith, c.type_inv.list j) in
+    join-wide r bytes s.args.p.0 s.args.x c.if-x-ge-IDENTIFIERS.true c.no_view-why.result c.no_view-why.ensures _ c.refuse.ensures

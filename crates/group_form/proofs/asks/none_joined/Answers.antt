@@ -1,6 +1,5 @@
 -- `group_form::asks::none_joined` meets its contract: g is the carrier view of no member below p.
 use mathlib.Core.Path.{sym}
-use mathlib.Core.Logic.{⊎_elim}
 use Prim.Native.Nat.{◌-◌}
 use native.Mathlib.Omega.{arith}
 use lib.ListN.{length-take, length-drop}
@@ -9,6 +8,7 @@ use Rattle.group_sound.proofs.Walks.{below_none, below_more, below_end}
 use Rattle.group_form.specs.Parts.{none_at}
 use Rattle.group_form.proofs.AskLaws.{is-joined, other-joined, none-there}
 use Rattle.group_form.proofs.asks.none_joined.Goals as goal
+use Rattle.group_form.proofs.asks.none_joined.Goals.{then-seat+else-seat-id, else-seat}
 
 pub loop-p-init : goal.loop-p-init
 loop-p-init c = below_none _
@@ -48,9 +48,9 @@ loop-p-preserved c =
     let l = c.loop-p in
     let seat = c.load_seat-seat in
     below_more _ l.p l.invariant
-    (⊎_elim (λ w. other-joined a.all.now l.p a.id.0 seat.result seat.ensures w.0.taken w.3.left)
-    (λ w. none-there a.all.now l.p a.id.0 seat.result seat.ensures w.left)
-    c.if-seat.branch)
+    (elim c.if-seat.branch [
+    then-seat+else-seat-id w ↦ other-joined a.all.now l.p a.id.0 seat.result seat.ensures w.if-seat.true w.if-seat-id.false
+    | else-seat w ↦ none-there a.all.now l.p a.id.0 seat.result seat.ensures w.if-seat.false ])
 
 pub returns : goal.returns
 unfolding none_at

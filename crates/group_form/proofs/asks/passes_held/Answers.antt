@@ -1,6 +1,5 @@
 -- `group_form::asks::passes_held` meets its contract: the view passes against what each of its servers below p holds.
 use mathlib.Core.Path.{sym, ◌∙◌}
-use mathlib.Core.Logic.{⊎_elim}
 use Prim.Native.Nat.{◌-◌}
 use native.Mathlib.Omega.{arith}
 use borrow.Author.Tests.{not-true, not-false}
@@ -11,6 +10,7 @@ use Rattle.group_sound.proofs.Walks.{below_none, below_more, below_end}
 use Rattle.group_form.specs.Parts.{passes_at}
 use Rattle.group_form.proofs.AskLaws.{passed, part-passed}
 use Rattle.group_form.proofs.asks.passes_held.Goals as goal
+use Rattle.group_form.proofs.asks.passes_held.Goals.{then-contains+else-not-passes_book, else-contains}
 
 pub loop-p-init : goal.loop-p-init
 loop-p-init c = below_none _
@@ -52,12 +52,11 @@ loop-p-preserved c =
     let l = c.loop-p in
     let inside = sym c.contains.ensures in
     below_more _ l.p l.invariant
-    (⊎_elim
-    (λ w.
-    let met = part-passed a.all.now l.p a.v ∙ sym w.2.ensures ∙ not-false _ w.3.left in
-    asked-met a.v.set (passed a.all.now a.v) l.p (inside ∙ w.0.taken) met)
-    (λ w. unasked a.v.set (passed a.all.now a.v) l.p (inside ∙ w.left))
-    c.if-contains.branch)
+    (elim c.if-contains.branch [
+    then-contains+else-not-passes_book w ↦
+        (let met = part-passed a.all.now l.p a.v ∙ sym w.passes_book.ensures ∙ not-false _ w.if-not-passes_book.false-raw in
+        asked-met a.v.set (passed a.all.now a.v) l.p (inside ∙ w.if-contains.true) met)
+    | else-contains w ↦ unasked a.v.set (passed a.all.now a.v) l.p (inside ∙ w.if-contains.false) ])
 
 pub returns : goal.returns
 unfolding passes_at

@@ -1,13 +1,13 @@
 -- `group_sound::listed::views_known` meets its contract: the views before the i-th stand before place j of the list, so the answer is that of the rest of
 -- both.
 use mathlib.Core.Path.{◌≡◌, sym, ap, ◌∙◌}
-use mathlib.Core.Logic.{⊎_elim}
 use Prim.Native.Nat.{◌+◌, ◌-◌, ◌<◌}
 use native.Mathlib.Omega.{arith}
 use Rattle.views.specs.declared.View.{View}
 use Rattle.views.specs.Lists.{id_of}
 use Rattle.group_sound.proofs.ListedLaws.{one-view, all_known_from, walk_end, walk-past, walk_start, walk-skip, walk-stop, walk-on}
 use Rattle.group_sound.proofs.listed.views_known.Goals as goal
+use Rattle.group_sound.proofs.listed.views_known.Goals.{then-v-w+else-v-w-2+else-v-w-3, else-v-w}
 
 pub load_view-first-requires : goal.load_view-first-requires
 load_view-first-requires c = omega (arith, c.requires.1, c.requires.3)
@@ -64,14 +64,13 @@ loop-i-preserved c =
     let more : l.i < e.args.count = c.loop-i-test.true in
     let v = c.load_view-v in
     let w = c.load_view-w in
-    ⊎_elim
-    (λ x.
-    let next : c.if-v-w.i ≡ l.i + 1 = x.7 in
-    (omega (arith, next, more), l.invariant.1 ∙ walk-on e.args.list.now e.args.made e.args.b.now e.args.from e.args.count l.j l.i room more e.requires.2 _ _ v.ensures w.ensures (one-view _ _ x.3.left x.6.left) ∙ ap known (sym next)))
-    (λ x.
-    let same : c.if-v-w.i ≡ l.i = x.1 in
-    (omega (arith, same, more), l.invariant.1 ∙ walk-skip e.args.list.now e.args.made e.args.b.now e.args.from e.args.count l.j l.i room more e.requires.2 _ _ v.ensures w.ensures x.0.left ∙ ap known (sym same)))
-    c.if-v-w.branch
+    elim c.if-v-w.branch [
+    then-v-w+else-v-w-2+else-v-w-3 x ↦
+        (let next : c.if-v-w.i ≡ l.i + 1 = x.i-is in
+        (omega (arith, next, more), l.invariant.1 ∙ walk-on e.args.list.now e.args.made e.args.b.now e.args.from e.args.count l.j l.i room more e.requires.2 _ _ v.ensures w.ensures (one-view _ _ x.if-v-w-2.false x.if-v-w-3.false) ∙ ap known (sym next)))
+    | else-v-w x ↦
+        (let same : c.if-v-w.i ≡ l.i = x.i-is in
+        (omega (arith, same, more), l.invariant.1 ∙ walk-skip e.args.list.now e.args.made e.args.b.now e.args.from e.args.count l.j l.i room more e.requires.2 _ _ v.ensures w.ensures x.if-v-w.false ∙ ap known (sym same))) ]
 
 pub returns : goal.returns
 returns c =

@@ -35,8 +35,8 @@ pub returns-then-not-seat : goal.returns-then-not-seat
 returns-then-not-seat c =
     let s = c in
     let r : Ranges = record { list = s.args.list.now; books = s.args.all.now; queues = s.args.queues.now } in
-    let seat : c.load_seat-seat.result ≡ seat_in (book_bytes s.args.all.now s.args.p.0) carrier_at = c.load_seat-seat.ensures ∙ part-seat s.args.all.now s.args.p.0 c.if1.false (book_size * s.args.p.0 + book_size - book_size * s.args.p.0) (omega arith) in
-    deliver-no-carrier r s.args.p.0 s.requires c.if1.false (sym (ap (λ (x : Seat). x.there) seat) ∙ not-true _ c.if-not-seat.true) _ c.refuse-then-not-seat.ensures
+    let seat : c.load_seat-seat.result ≡ seat_in (book_bytes s.args.all.now s.args.p.0) carrier_at = c.load_seat-seat.ensures ∙ part-seat s.args.all.now s.args.p.0 c.if-all-p.false (book_size * s.args.p.0 + book_size - book_size * s.args.p.0) (omega arith) in
+    deliver-no-carrier r s.args.p.0 s.requires c.if-all-p.false (sym (ap (λ (x : Seat). x.there) seat) ∙ not-true _ c.if-not-seat.true) _ c.refuse-then-not-seat.ensures
 
 pub next-requires : goal.next-requires
 next-requires c =

@@ -19,7 +19,7 @@ overflow_shl-i c =
     let s = c7 in
     let l = views_in s.args.list.now 0 (get_or s.args.queues.now 0 0) in
     let g = s.args.id.0 in
-    omega (arith, c3.place.ensures, place-most g l, length-views_in s.args.list.now 0 (get_or s.args.queues.now 0 0), s.requires.1)
+    omega (arith, c3.place-i.ensures, place-most g l, length-views_in s.args.list.now 0 (get_or s.args.queues.now 0 0), s.requires.1)
 
 pub returns : goal.returns
 unfolding marked with_member
@@ -30,6 +30,6 @@ returns c =
     let made = get_or s.args.queues.now 0 0 in
     let l = views_in s.args.list.now 0 made in
     let g = s.args.id.0 in
-    let few : c6.place.result ≤ max_views
-    = omega (arith, c6.place.ensures, place-most g l, length-views_in s.args.list.now 0 made, s.requires.1) in
-    c.put_number.ensures ∙ rw (mark-fits c6.place.result few, c4.get_number-marks.ensures.0, c6.place.ensures)
+    let few : c6.place-i.result ≤ max_views
+    = omega (arith, c6.place-i.ensures, place-most g l, length-views_in s.args.list.now 0 made, s.requires.1) in
+    c.put_number.ensures ∙ rw (mark-fits c6.place-i.result few, c4.get_number-marks.ensures.0, c6.place-i.ensures)

@@ -22,7 +22,7 @@ pub returns-then-not-fits : goal.returns-then-not-fits
 returns-then-not-fits c =
     let a = c.args in
     let r : Ranges = record { list = a.list.now; books = a.all.now; queues = a.queues.now } in
-    create-refused r a.id.0 a.set SetUnfit (unfit r a.id.0 a.set (sym c.fits2.ensures ∙ not-true _ c.if-not-fits.true-raw))
+    create-refused r a.id.0 a.set SetUnfit (unfit r a.id.0 a.set (sym c.fits.ensures ∙ not-true _ c.if-not-fits.true-raw))
 
 pub bounds-queues-0 : goal.bounds-queues-0
 bounds-queues-0 c =
@@ -43,7 +43,7 @@ returns-then-not-above c =
     let l = c in
     let a = l.args in
     let r : Ranges = record { list = a.list.now; books = a.all.now; queues = a.queues.now } in
-    let t : fits (members_of r) a.set ≡ true = sym l.fits2.ensures ∙ not-false _ l.if1.false in
+    let t : fits (members_of r) a.set ≡ true = sym l.fits.ensures ∙ not-false _ l.if-not-fits.false-raw in
     create-refused r a.id.0 a.set IdentifierNotAbove (not-above r a.id.0 a.set t (sym l.above.ensures ∙ not-true _ c.if-not-above.true-raw))
 
 pub overflow_cast-made : goal.overflow_cast-made
@@ -53,7 +53,7 @@ overflow_cast-made c =
     let r : Ranges = record { list = a.list.now; books = a.all.now; queues = a.queues.now } in
     let h = l.requires in
     let f = ranged r h in
-    let t : fits (members_of r) a.set ≡ true = sym l.fits2.ensures ∙ not-false _ l.if1.false in
+    let t : fits (members_of r) a.set ≡ true = sym l.fits.ensures ∙ not-false _ l.if-not-fits.false-raw in
     omega (arith, f.made.1, f.room.1)
 
 pub returns-then-list-made : goal.returns-then-list-made
@@ -61,7 +61,7 @@ returns-then-list-made c =
     let l = c in
     let a = l.args in
     let r : Ranges = record { list = a.list.now; books = a.all.now; queues = a.queues.now } in
-    let t : fits (members_of r) a.set ≡ true = sym l.fits2.ensures ∙ not-false _ l.if1.false in
+    let t : fits (members_of r) a.set ≡ true = sym l.fits.ensures ∙ not-false _ l.if-not-fits.false-raw in
     let k : all_below a.id.0 (views_made r) ≡ true = sym l.above.ensures ∙ not-false _ c.if-not-above.false-raw in
     create-refused r a.id.0 a.set ListFull (list_full r a.id.0 a.set t k c.if-list-made.true)
 
@@ -72,7 +72,7 @@ make-requires c =
     let r : Ranges = record { list = a.list.now; books = a.all.now; queues = a.queues.now } in
     let h = l.requires in
     let f = ranged r h in
-    let t : fits (members_of r) a.set ≡ true = sym l.fits2.ensures ∙ not-false _ l.if1.false in
+    let t : fits (members_of r) a.set ≡ true = sym l.fits.ensures ∙ not-false _ l.if-not-fits.false-raw in
     let k : all_below a.id.0 (views_made r) ≡ true = sym l.above.ensures ∙ not-false _ c.if-not-above.false-raw in
     let x = made-says r a.id.0 a.set t k c.if-list-made.false f in
     (omega (arith, f.room.1, c.if-list-made.false), x.place, x.table)
@@ -82,6 +82,6 @@ returns c =
     let l = c in
     let a = l.args in
     let r : Ranges = record { list = a.list.now; books = a.all.now; queues = a.queues.now } in
-    let t : fits (members_of r) a.set ≡ true = sym l.fits2.ensures ∙ not-false _ l.if1.false in
+    let t : fits (members_of r) a.set ≡ true = sym l.fits.ensures ∙ not-false _ l.if-not-fits.false-raw in
     let k : all_below a.id.0 (views_made r) ≡ true = sym l.above.ensures ∙ not-false _ c.if-not-above.false-raw in
     create-accepted r a.id.0 a.set t k c.if-list-made.false _ _ c.make.ensures.0 c.make.ensures.1

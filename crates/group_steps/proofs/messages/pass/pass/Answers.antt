@@ -53,7 +53,7 @@ returns-then-not-carrier c =
     let r : Ranges = record { list = a.list.now; books = a.all.now; queues = a.queues.now } in
     let h = l.requires in
     let p = a.p.0 in
-    let m = l.if1.false in
+    let m = l.if-all-p.false in
     let b = book_bytes r.books p in
     let s : l.load_seat-carrier.result ≡ (record_in b).carrier = place_is r.books p (book_size * p + book_size - book_size * p) (omega arith) _ l.load_seat-carrier.ensures in
     pass-refused r p NoCarrierView (no-carrier r p h m (sym (ap (λ (z : Seat). z.there) s) ∙ not-true _ c.if-not-carrier.true))
@@ -65,7 +65,7 @@ bounds-all-a c =
     let r : Ranges = record { list = a.list.now; books = a.all.now; queues = a.queues.now } in
     let h = l.requires in
     let f = ranged r h in
-    let m = l.if1.false in
+    let m = l.if-all-p.false in
     omega (arith, f.books, f.members.1)
 
 pub returns-then-all-a-eq0 : goal.returns-then-all-a-eq0
@@ -75,7 +75,7 @@ returns-then-all-a-eq0 c =
     let r : Ranges = record { list = a.list.now; books = a.all.now; queues = a.queues.now } in
     let h = l.requires in
     let p = a.p.0 in
-    let m = l.if1.false in
+    let m = l.if-all-p.false in
     let b = book_bytes r.books p in
     let s : l.load_seat-carrier.result ≡ (record_in b).carrier = place_is r.books p (book_size * p + book_size - book_size * p) (omega arith) _ l.load_seat-carrier.ensures in
     let t : (record_in b).carrier.there ≡ true = sym (ap (λ (z : Seat). z.there) s) ∙ not-false _ c.if-not-carrier.false in
@@ -88,7 +88,7 @@ bounds-queues-0 c =
     let r : Ranges = record { list = a.list.now; books = a.all.now; queues = a.queues.now } in
     let h = l.requires in
     let f = ranged r h in
-    let m = l.if1.false in
+    let m = l.if-all-p.false in
     omega (arith, f.queues)
 
 pub place-i-requires : goal.place-i-requires

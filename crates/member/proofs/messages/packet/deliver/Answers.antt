@@ -17,7 +17,7 @@ returns-then-not-sound c = let a = c.args in packet-refused a.bytes.now a.q.0 a.
 pub loop-at-init : goal.loop-at-init
 loop-at-init c =
     let a = c.args in
-    let bytes : AreBytes a.b.now = λ j. omega (arith, c.slice-known.given j) in
+    let bytes : AreBytes a.b.now = λ j. omega (arith, c.slice_known-1.given j) in
     (underway-begins a.b.now a.bytes.now a.q.0 bytes (sym c.sound.ensures ∙ not-false _ c.if-not-sound.false-raw), refl)
 
 pub deliver_front-f-requires : goal.deliver_front-f-requires
@@ -28,7 +28,7 @@ returns-in_default c =
     let a = c.args in
     let l = c.loop-at in
     let s = a.bytes.now in
-    let bytes : AreBytes s = λ j. omega (arith, c.shared-slice-known.given j) in
+    let bytes : AreBytes s = λ j. omega (arith, c.type_inv.bytes j) in
     let gave = rw (take_all (length s - l.at) (drop l.at s) (omega (arith, length-drop l.at s))) at c.deliver_front-f.ensures in
     underway-stops a.b.now s a.q.0 l.b l.at l.count bytes l.invariant.0 (omega arith) _ _ gave
     (sym c.sound.ensures ∙ not-false _ c.if-not-sound.false-raw) _ c.in_default.is
@@ -38,7 +38,7 @@ overflow_add-at c =
     let a = c.args in
     let l = c.loop-at in
     let s = a.bytes.now in
-    let bytes : AreBytes s = λ j. omega (arith, c.shared-slice-known.given j) in
+    let bytes : AreBytes s = λ j. omega (arith, c.type_inv.bytes j) in
     let gave = rw (take_all (length s - l.at) (drop l.at s) (omega (arith, length-drop l.at s))) at c.deliver_front-f.ensures in
     let (low, high) = underway-takes a.b.now s a.q.0 l.b l.at l.count bytes l.invariant.0 (omega arith) _ _ gave c.in-Accepted.is in
     omega (arith, low, high, l.invariant.0.few)
@@ -48,7 +48,7 @@ overflow_add-count c =
     let a = c.args in
     let l = c.loop-at in
     let s = a.bytes.now in
-    let bytes : AreBytes s = λ j. omega (arith, c.shared-slice-known.given j) in
+    let bytes : AreBytes s = λ j. omega (arith, c.type_inv.bytes j) in
     let gave = rw (take_all (length s - l.at) (drop l.at s) (omega (arith, length-drop l.at s))) at c.deliver_front-f.ensures in
     let (low, high) = underway-takes a.b.now s a.q.0 l.b l.at l.count bytes l.invariant.0 (omega arith) _ _ gave c.in-Accepted.is in
     omega (arith, low, high, l.invariant.0.few)
@@ -58,7 +58,7 @@ loop-at-smaller c =
     let a = c.args in
     let l = c.loop-at in
     let s = a.bytes.now in
-    let bytes : AreBytes s = λ j. omega (arith, c.shared-slice-known.given j) in
+    let bytes : AreBytes s = λ j. omega (arith, c.type_inv.bytes j) in
     let gave = rw (take_all (length s - l.at) (drop l.at s) (omega (arith, length-drop l.at s))) at c.deliver_front-f.ensures in
     let (low, high) = underway-takes a.b.now s a.q.0 l.b l.at l.count bytes l.invariant.0 (omega arith) _ _ gave c.in-Accepted.is in
     omega (arith, low, high, l.invariant.0.few)
@@ -68,7 +68,7 @@ loop-at-preserved c =
     let a = c.args in
     let l = c.loop-at in
     let s = a.bytes.now in
-    let bytes : AreBytes s = λ j. omega (arith, c.shared-slice-known.given j) in
+    let bytes : AreBytes s = λ j. omega (arith, c.type_inv.bytes j) in
     let gave = rw (take_all (length s - l.at) (drop l.at s) (omega (arith, length-drop l.at s))) at c.deliver_front-f.ensures in
     (underway-goes a.b.now s a.q.0 l.b l.at l.count bytes l.invariant.0 (omega arith) _ _ gave c.in-Accepted.is, search rules)
 
