@@ -21,16 +21,14 @@ returns-then-not-above c =
 
 pub returns-then-room-used : goal.returns-then-room-used
 returns-then-room-used c =
-    let s = c in
-    let a = s.args in
-    let z : length a.l.at ≡ 32 = s.well_formed.0.1.1.1.0.1.0.1 in
+    let a = c.args in
+    let z : length a.l.at ≡ 32 = c.well_formed.0.1.1.1.0.1.0.1 in
     let n : length (list_of a.l) ≡ min a.l.count max_views = length-used a.l.count a.l.at z in
     list_full a.members a.room _ a.id.0 a.set (sym c.fits.ensures ∙ c.if-not-fits.false) (sym c.above.ensures ∙ c.if-not-above.false) (omega (arith, n, c.used.ensures, c.if-room-used.true))
 
 pub returns : goal.returns
 returns c =
-    let s = c in
-    let a = s.args in
-    let z : length a.l.at ≡ 32 = s.well_formed.0.1.1.1.0.1.0.1 in
+    let a = c.args in
+    let z : length a.l.at ≡ 32 = c.well_formed.0.1.1.1.0.1.0.1 in
     let n : length (list_of a.l) ≡ min a.l.count max_views = length-used a.l.count a.l.at z in
     made-next a.members a.room _ a.id.0 a.set (sym c.fits.ensures ∙ c.if-not-fits.false) (sym c.above.ensures ∙ c.if-not-above.false) (omega (arith, n, c.used.ensures, c.if-room-used.false))

@@ -11,8 +11,6 @@ returns-then-not-sound c =
 
 pub returns : goal.returns
 returns c =
-    let e = c in
-    let s = e in
-    let a = s.args in
-    let z : length a.l.at ≡ 32 = s.well_formed.0.1.1.1.0.1.0.1 in
-    c.asked.ensures ∙ by-sound a.members a.made a.l a.id.0 a.set z (sym e.sound.ensures ∙ e.if-not-sound.false) c.first-views.result c.first-views.ensures
+    let a = c.args in
+    let z : length a.l.at ≡ 32 = c.well_formed.0.1.1.1.0.1.0.1 in
+    c.asked.ensures ∙ by-sound a.members a.made a.l a.id.0 a.set z (sym c.sound.ensures ∙ c.if-not-sound.false) c.first-views.result c.first-views.ensures
