@@ -1,5 +1,5 @@
 -- The views of a list by value are within their widths, as its type says.
-use mathlib.Core.List.{List, [], ◌∷◌, map}
+use mathlib.Core.List.{List, [], ◌∷◌}
 use Prim.Native.Nat.{zero, suc}
 use lib.Dec.{lit<}
 use mir.Val.{Val}
@@ -22,7 +22,7 @@ view-fits v w g =
     let f = LL.owed T.the_type T'.the_laws v _ g in
     record { id = (LL.owed I.the_type I'.the_laws v.id _ f.0).0.1; set = f.1.0.1 }
 
-each_fits : (xs : List View) (us : List Val) → shadow (each (T.the_field).row.Denot (T.the_field).row.own_val (map (T.the_type).to xs) us) → EachFits xs
+each_fits : (xs : List View) (us : List Val) → shadow (each (T.the_row).Denot (T.the_row).own_val xs us) → EachFits xs
 each_fits [] [] g j = record { id = lit< tt; set = lit< tt }
 each_fits [] (u ∷ us) g j = absurd g
 each_fits (x ∷ xs) [] g j = absurd g

@@ -1,5 +1,3 @@
-pub mod Again
-pub mod Share
 pub mod SliceLaws
 pub mod CreateLaws
 pub mod BytesLaws

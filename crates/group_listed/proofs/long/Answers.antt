@@ -1,18 +1,16 @@
 -- `group_listed::long` meets its contract.
 use mathlib.Core.Path.{◌≡◌}
 use native.Mathlib.Omega.{arith}
-use lib.ListN.{length, length-map}
+use lib.ListN.{length}
 use Rattle.group_listed.proofs.BytesLaws.{short-length, long-length}
 use Rattle.group_listed.proofs.long.Goals as goal
 
 pub returns-then-n-gt-VIEWS : goal.returns-then-n-gt-VIEWS
 returns-then-n-gt-VIEWS c =
-    let a = c in
-    let z : length a.args.l.at ≡ 32 = simp length-map at a.well_formed.0.1.1.1.0.1.0.1 in
-    long-length a.args.l z c.if-n-gt-VIEWS.true
+    let z : length c.args.l.at ≡ 32 = c.well_formed.0.1.1.1.0.1.0.1 in
+    long-length c.args.l z c.if-n-gt-VIEWS.true
 
 pub returns : goal.returns
 returns c =
-    let a = c in
-    let z : length a.args.l.at ≡ 32 = simp length-map at a.well_formed.0.1.1.1.0.1.0.1 in
-    short-length a.args.l z (omega (arith, c.if-n-gt-VIEWS.false))
+    let z : length c.args.l.at ≡ 32 = c.well_formed.0.1.1.1.0.1.0.1 in
+    short-length c.args.l z (omega (arith, c.if-n-gt-VIEWS.false))

@@ -14,9 +14,6 @@ pub returns-then-queues-le-MADE : goal.returns-then-queues-le-MADE
 unfolding next_of
 returns-then-queues-le-MADE c = rw (le-ltb _ _ c.if-n-gt-VIEWS.false) (sym (get_or-eq_default c.args.queues.now 0 c.if-queues-le-MADE.true))
 
-pub overflow_cast-result : goal.overflow_cast-result
-overflow_cast-result c = omega (arith, c.shared_slice_known-1.given 0)
-
 pub returns : goal.returns
 unfolding next_of
 returns c = rw (le-ltb _ _ c.if-n-gt-VIEWS.false)

@@ -2,11 +2,9 @@ use Rattle.group_listed.proofs.BytesLaws.{part_in, part_end}
 use Rattle.group_listed.proofs.StepLaws.{begun-by}
 use Rattle.group_listed.proofs.start_by.Goals as goal
 
--- src/calls.rt:120:39
 pub slice_bounds-bytes-end : goal.slice_bounds-bytes-end
 slice_bounds-bytes-end c = part_end _ _ _ c.long-e.ensures c.spread-bytes.ensures
 
--- src/calls.rt:115:1
 pub returns : goal.returns
 returns c =
     let a = c.args in

@@ -2,8 +2,7 @@
 use mathlib.Core.Path.{refl, sym, ◌∙◌}
 use Prim.Native.Nat.{◌-◌}
 use native.Mathlib.Omega.{arith}
-use borrow.Author.Tests.{not-true, not-false}
-use lib.ListN.{length-map, drop_of_length-le}
+use lib.ListN.{drop_of_length-le}
 use Rattle.views.specs.Lists.{list_of}
 use Rattle.views.proofs.PlaceLaws.{length-used}
 use Rattle.rules.specs.Member.{all}
@@ -23,13 +22,13 @@ pub returns-then-not-fits : goal.returns-then-not-fits
 returns-then-not-fits c =
     let l = c.loop-i in
     let a = c.args in
-    sym (l.invariant.3 ∙ not-fit a.l.count a.l.at l.i (omega arith) a.members (sym c.fits2.ensures ∙ not-true _ c.if-not-fits.true-raw))
+    sym (l.invariant.3 ∙ not-fit a.l.count a.l.at l.i (omega arith) a.members (sym c.fits.ensures ∙ c.if-not-fits.true))
 
 pub loop-i-preserved : goal.loop-i-preserved
 loop-i-preserved c =
     let l = c.loop-i in
     let a = c.args in
-    (l.invariant.0, l.invariant.1, omega arith, l.invariant.3 ∙ fit_on a.l.count a.l.at l.i (omega arith) a.members (sym c.fits2.ensures ∙ not-false _ c.if-not-fits.false-raw))
+    (l.invariant.0, l.invariant.1, omega arith, l.invariant.3 ∙ fit_on a.l.count a.l.at l.i (omega arith) a.members (sym c.fits.ensures ∙ c.if-not-fits.false))
 
 pub returns : goal.returns
 unfolding all
