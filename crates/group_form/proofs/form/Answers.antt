@@ -9,16 +9,16 @@ pub returns-then-not-sound : goal.returns-then-not-sound
 returns-then-not-sound c = unsound-formed (ranges c.args.list.now c.args.all.now c.args.queues.now) c.args.id.0 _ _ (sym c.sound.ensures ∙ not-true _ c.if-not-sound.true-raw) c.refuse.ensures
 
 pub ask-a-requires : goal.ask-a-requires
-ask-a-requires c = sym c.sound.ensures ∙ not-false _ c.if1.false
+ask-a-requires c = sym c.sound.ensures ∙ not-false _ c.if-not-sound.false-raw
 
 pub whole-requires : goal.whole-requires
 whole-requires c =
-    (sym c.sound.ensures ∙ not-false _ c.if1.false, c.ask-a.ensures.fresh c.in-Accepted.is)
+    (sym c.sound.ensures ∙ not-false _ c.if-not-sound.false-raw, c.ask-a.ensures.fresh c.in-Accepted.is)
 
 pub returns-in-Refused : goal.returns-in-Refused
 returns-in-Refused c =
-    asked-refused (ranges c.args.list.now c.args.all.now c.args.queues.now) c.args.id.0 (sym c.sound.ensures ∙ not-false _ c.if1.false) _ c.ask-a.ensures _ c.in-Refused.is _ _ c.refuse-in-Refused.ensures
+    asked-refused (ranges c.args.list.now c.args.all.now c.args.queues.now) c.args.id.0 (sym c.sound.ensures ∙ not-false _ c.if-not-sound.false-raw) _ c.ask-a.ensures _ c.in-Refused.is _ _ c.refuse-in-Refused.ensures
 
 pub returns-in-Accepted : goal.returns-in-Accepted
 returns-in-Accepted c =
-    all-formed (ranges c.args.list.now c.args.all.now c.args.queues.now) c.args.id.0 (sym c.sound.ensures ∙ not-false _ c.if1.false) _ c.ask-a.ensures c.in-Accepted.is _ _ _ c.whole.ensures
+    all-formed (ranges c.args.list.now c.args.all.now c.args.queues.now) c.args.id.0 (sym c.sound.ensures ∙ not-false _ c.if-not-sound.false-raw) _ c.ask-a.ensures c.in-Accepted.is _ _ _ c.whole.ensures

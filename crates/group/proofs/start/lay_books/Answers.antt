@@ -25,7 +25,7 @@ pub loop-p-preserved : goal.loop-p-preserved
 loop-p-preserved c =
     let a = c.args in
     let l = c.loop-p in
-    let same : length (put_mid (book_size * l.p) (book_size * l.p + book_size - book_size * l.p) l.all c.book.new.0) ≡ length l.all = search rules in (
+    let same : length (put_mid (book_size * l.p) (book_size * l.p + book_size - book_size * l.p) l.all c.book.new.b) ≡ length l.all = search rules in (
       omega arith,
       same ∙ l.invariant.1,
       l.invariant.2,

@@ -1,13 +1,13 @@
 -- `group_form::drive::each` meets its contract. The invariant: the steps of the servers below p are done, and what they left leads to where all of them lead.
 use mathlib.Core.Path.{refl, sym, ◌∙◌}
 use mathlib.Core.Bool.{true}
-use mathlib.Core.Logic.{⊎_elim}
 use Prim.Native.Nat.{◌-◌}
 use native.Mathlib.Omega.{arith}
 use borrow.Author.Rules.{rules}
 use Rattle.group_bytes.specs.Groups.{ranges}
 use Rattle.group_form.proofs.Driving.{eaches-begin, eaches-end, eaches-pass, eaches-go, eaches-stop}
 use Rattle.group_form.proofs.drive.each.Goals as goal
+use Rattle.group_form.proofs.drive.each.Goals.{then-contains+in-Accepted, else-contains}
 
 pub loop-p-init : goal.loop-p-init
 loop-p-init c =
@@ -34,11 +34,11 @@ loop-p-preserved c =
     let r = ranges a.list.now a.all.now a.queues.now in
     let d = ranges l.list l.all l.queues in
     let inside = sym c.contains.ensures in
-    ⊎_elim
-    (λ w. rw (w.13, w.14, w.15)
-    (eaches-go r a.kind a.k a.v d l.p l.invariant.0 (omega arith) (inside ∙ w.0.taken) _ _ w.4.ensures w.12.given.1, search rules, search rules, search rules, λ k. w.4.ensures.stays (l.invariant.4 k)))
-    (λ w. rw (w.1, w.2, w.3) (eaches-pass r a.kind a.k a.v d l.p l.invariant.0 (omega arith) (inside ∙ w.0.left), l.invariant.1, l.invariant.2, l.invariant.3, l.invariant.4))
-    c.if-contains.branch
+    elim c.if-contains.branch [
+    then-contains+in-Accepted w ↦ rw (w.list-is, w.all-is, w.queues-is)
+        (eaches-go r a.kind a.k a.v d l.p l.invariant.0 (omega arith) (inside ∙ w.if-contains.true) _ _ w.repeat-x.ensures w.in-Accepted.is, search rules, search rules, search rules, λ k. w.repeat-x.ensures.stays (l.invariant.4 k))
+    | else-contains w ↦ rw (w.list-is, w.all-is, w.queues-is)
+        (eaches-pass r a.kind a.k a.v d l.p l.invariant.0 (omega arith) (inside ∙ w.if-contains.false), l.invariant.1, l.invariant.2, l.invariant.3, l.invariant.4) ]
 
 pub returns : goal.returns
 returns c =

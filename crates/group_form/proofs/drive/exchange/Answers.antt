@@ -11,9 +11,7 @@ unfolding exchange_steps
 returns-in_default c = drove-stops c.each-passed.ensures c.in_default.is _
 
 pub each-ordered-requires : goal.each-ordered-requires
-each-ordered-requires c k =
-    let one = c.before.before.before in
-    one.before.before.before.before.before.before.before.before.each.ensures.stays (one.before.before.before.before.before.before.before.before.before.before.before.before.before.before.before.requires k)
+each-ordered-requires c k = c.each-passed.ensures.stays (c.requires k)
 
 pub returns-in_default-ordered : goal.returns-in_default-ordered
 unfolding exchange_steps
@@ -26,10 +24,7 @@ pub overflow_cast-k : goal.overflow_cast-k
 overflow_cast-k c = omega (arith, ones-le max_members _ c.struct_known-1.given.1.0.fits)
 
 pub each-requires : goal.each-requires
-each-requires c k =
-    let two = c.before.before.before.before in
-    let one = two.before.before.before.before.before.before.before.before.before.before.before.before in
-    two.before.before.before.before.before.before.before.before.each2.ensures.stays (one.before.before.before.before.before.before.before.before.each.ensures.stays (one.before.before.before.before.before.before.before.before.before.before.before.before.before.before.before.requires k))
+each-requires c k = c.each-ordered.ensures.stays (c.each-passed.ensures.stays (c.requires k))
 
 pub returns : goal.returns
 unfolding exchange_steps

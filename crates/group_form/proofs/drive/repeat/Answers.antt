@@ -16,7 +16,7 @@ loop-i-init c =
     (repeats-begin (ranges a.list.now a.all.now a.queues.now) (asked a.kind a.p.0 a.id.0) a.k, refl, refl, refl, c.requires)
 
 pub next-x-requires : goal.next-x-requires
-next-x-requires c k = sound-now _ (c.before.before.before.before.before.before.loop.invariant.4 k)
+next-x-requires c k = sound-now _ (c.loop-i.invariant.4 k)
 
 pub returns-in_default : goal.returns-in_default
 returns-in_default c =

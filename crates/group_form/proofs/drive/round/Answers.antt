@@ -8,9 +8,7 @@ unfolding round_steps
 returns-in_default c = drove-stops c.each-begun.ensures c.in_default.is _
 
 pub exchange-exchanged-requires : goal.exchange-exchanged-requires
-exchange-exchanged-requires c k =
-    let one = c.before.before.before in
-    one.before.before.before.before.before.before.before.before.each.ensures.stays (one.before.before.before.before.before.before.before.before.before.before.before.before.before.before.before.requires k)
+exchange-exchanged-requires c k = c.each-begun.ensures.stays (c.requires k)
 
 pub returns-in_default-exchanged : goal.returns-in_default-exchanged
 unfolding round_steps
@@ -20,10 +18,7 @@ returns-in_default-exchanged c =
     (drove-stops c.exchange-exchanged.ensures c.in_default-exchanged.is _)
 
 pub each-requires : goal.each-requires
-each-requires c k =
-    let two = c.before.before.before in
-    let one = two.before.before.before.before.before.before.before.before.before.before.before.before in
-    two.before.before.before.before.before.before.before.before.exchange.ensures.stays (one.before.before.before.before.before.before.before.before.each.ensures.stays (one.before.before.before.before.before.before.before.before.before.before.before.before.before.before.before.requires k))
+each-requires c k = c.exchange-exchanged.ensures.stays (c.each-begun.ensures.stays (c.requires k))
 
 pub returns : goal.returns
 unfolding round_steps

@@ -8,9 +8,7 @@ unfolding form_steps
 returns-in_default c = drove-stops c.round-attempted.ensures c.in_default.is _
 
 pub round-requires : goal.round-requires
-round-requires c k =
-    let one = c.before.before.before in
-    one.before.before.before.before.before.before.before.before.round.ensures.stays (one.before.before.before.before.before.before.before.before.before.before.before.before.before.before.before.requires k)
+round-requires c k = c.round-attempted.ensures.stays (c.requires k)
 
 pub returns : goal.returns
 unfolding form_steps

@@ -31,10 +31,10 @@ steps-requires c =
     let r : Ranges = ranges o.args.list.now o.args.all.now o.args.queues.now in
     let bytes : RangesBytes r = record {
       list = λ j. omega (arith, early.slice_known-1.given j);
-      books = λ j. omega (arith, early.slice-known2.given j);
-      queues = λ j. omega (arith, early.slice-known3.given j);
+      books = λ j. omega (arith, early.slice_known-2-1.given j);
+      queues = λ j. omega (arith, early.slice_known-3-1.given j);
     } in
-    λ _. stays-sound r bytes o.requires.0.sound (sym c.none_above.ensures ∙ not-false _ c.if1.false)
+    λ _. stays-sound r bytes o.requires.0.sound (sym c.none_above.ensures ∙ not-false _ c.if-not-none_above.false-raw)
 
 pub returns : goal.returns
 returns c =
@@ -44,9 +44,9 @@ returns c =
     let r : Ranges = ranges o.args.list.now o.args.all.now o.args.queues.now in
     let bytes : RangesBytes r = record {
       list = λ j. omega (arith, early.slice_known-1.given j);
-      books = λ j. omega (arith, early.slice-known2.given j);
-      queues = λ j. omega (arith, early.slice-known3.given j);
+      books = λ j. omega (arith, early.slice_known-2-1.given j);
+      queues = λ j. omega (arith, early.slice_known-3-1.given j);
     } in
-    let below : none_above r.books ≡ true = sym at.none_above.ensures ∙ not-false _ at.if1.false in
+    let below : none_above r.books ≡ true = sym at.none_above.ensures ∙ not-false _ at.if-not-none_above.false-raw in
     let calm = sym at.untouched.ensures ∙ not-false _ at.if-not-untouched.false-raw in
     all-taken o.requires.0 c.steps.ensures (none-refused r bytes o.args.v o.args.i o.requires.0 o.requires.1 below o.requires.2 calm)

@@ -15,13 +15,13 @@ copy-requires c = (omega (arith, length-replicate {A = ℕ} 41872 0), omega (ari
 pub copy-requires-in_default : goal.copy-requires-in_default
 copy-requires-in_default c =
     let s = c.requires in
-    let bytes : RangesBytes (ranges c.args.list.now c.args.all.now c.args.queues.now) = record { list = λ j. omega (arith, c.slice-known.given j); books = λ j. omega (arith, c.slice-known2.given j); queues = λ j. omega (arith, c.slice-known3.given j) } in
+    let bytes : RangesBytes (ranges c.args.list.now c.args.all.now c.args.queues.now) = record { list = λ j. omega (arith, c.slice_known-1.given j); books = λ j. omega (arith, c.slice_known-2-1.given j); queues = λ j. omega (arith, c.slice_known-3-1.given j) } in
     (omega (arith, books-long s bytes c.keeping_queues-x.ensures), omega (arith, ap length (c.copy.ensures ∙ copied (replicate 41872 0) c.args.all.now 41872 (length-replicate {A = ℕ} 41872 0) (stands-books s)), stands-books s))
 
 pub returns-in_default : goal.returns-in_default
 returns-in_default c =
-    let bytes : RangesBytes (ranges c.args.list.now c.args.all.now c.args.queues.now) = record { list = λ j. omega (arith, c.slice-known.given j); books = λ j. omega (arith, c.slice-known2.given j); queues = λ j. omega (arith, c.slice-known3.given j) } in
-    books-put-back c.requires bytes c.keeping_queues-x.ensures c.in_default.is (replicate 41872 0) c.copy.new.0 c.copy-in_default.new.0 (length-replicate {A = ℕ} 41872 0) c.copy.ensures c.copy-in_default.ensures
+    let bytes : RangesBytes (ranges c.args.list.now c.args.all.now c.args.queues.now) = record { list = λ j. omega (arith, c.slice_known-1.given j); books = λ j. omega (arith, c.slice_known-2-1.given j); queues = λ j. omega (arith, c.slice_known-3-1.given j) } in
+    books-put-back c.requires bytes c.keeping_queues-x.ensures c.in_default.is (replicate 41872 0) c.copy.new.out c.copy-in_default.new.out (length-replicate {A = ℕ} 41872 0) c.copy.ensures c.copy-in_default.ensures
 
 pub returns : goal.returns
 returns c = books-taken c.requires c.keeping_queues-x.ensures c.in-Accepted.is

@@ -26,7 +26,7 @@ restore-requires c =
 
 pub returns-in_default : goal.returns-in_default
 returns-in_default c =
-    let bytes : RangesBytes (ranges c.args.list.now c.args.all.now c.args.queues.now) = record { list = λ j. omega (arith, c.slice-known.given j); books = λ j. omega (arith, c.slice-known2.given j); queues = λ j. omega (arith, c.slice-known3.given j) } in
+    let bytes : RangesBytes (ranges c.args.list.now c.args.all.now c.args.queues.now) = record { list = λ j. omega (arith, c.slice_known-1.given j); books = λ j. omega (arith, c.slice_known-2-1.given j); queues = λ j. omega (arith, c.slice_known-3-1.given j) } in
     queues-put-back c.requires bytes c.steps-x.ensures c.in_default.is _ _ c.save.ensures c.restore.ensures
 
 pub returns : goal.returns
