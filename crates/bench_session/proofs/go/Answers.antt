@@ -8,10 +8,9 @@ returns-then-not-running c =
     rw (not-true a.running c.if-not-running.true-raw, c.unread.ensures) (idle-answers (record { list = a.list.now; books = a.all.now; queues = a.queues.now }) a.kind a.first a.second)
 
 pub next-reply-requires : goal.next-reply-requires
-next-reply-requires c k = c.before.before.before.before.before.before.before.requires k (not-false _ c.before.before.before.if1.false)
+next-reply-requires c k = c.requires k (not-false _ c.if-not-running.false-raw)
 
 pub returns : goal.returns
 returns c =
     let a = c.args in
-    let early = c in
-    rw (not-false a.running early.if-not-running.false-raw) (step-answers (record { list = a.list.now; books = a.all.now; queues = a.queues.now }) a.kind a.first a.second _ _ early.next-reply.ensures)
+    rw (not-false a.running c.if-not-running.false-raw) (step-answers (record { list = a.list.now; books = a.all.now; queues = a.queues.now }) a.kind a.first a.second _ _ c.next-reply.ensures)
