@@ -3,7 +3,7 @@ use mathlib.Core.Path.{◌≡◌, refl, sym, ◌∙◌}
 use mathlib.Core.Bool.{true, false}
 use mathlib.Core.List.{List, [], ◌∷◌, ◌++◌}
 use Prim.Native.Nat.{ℕ}
-use lib.ListN.{take, drop}
+use lib.ListN.{take}
 use Rattle.bench_lines.specs.declared.lines.names.Form.{Form}
 use Rattle.bench_lines.specs.Words.{same}
 use Rattle.bench_lines.specs.Lines.{Row, row, table, form_of}

@@ -1,6 +1,5 @@
 -- The word and the numbers so far stand at the front.
 use mathlib.Core.Path.{refl, ◌∙◌}
-use Prim.Native.Nat.{◌-◌}
 use native.Mathlib.Omega.{arith}
 use lib.ListN.{get_or, length-set}
 use Rattle.bench_lines.proofs.DecimalLaws.{decimal-length}
