@@ -11,6 +11,7 @@ ghost use Rattle.group_bytes.specs.Groups.{ranges};
 ghost use Rattle.bench_session.specs.NextParts.{BenchStaysSound};
 
 use bench_session::showing::Bench;
+use std::env::{Env, FillError};
 
 // The bench lends 8 view records, and the books and queues that go with them.
 const ROOM: usize = 8;
@@ -19,42 +20,62 @@ const LIST: usize = group_bytes::VIEW * ROOM;
 
 const QUEUES: usize = group_bytes::HEAD + group_bytes::TABLE * ROOM;
 
+// As many bytes are read at once, and written at once.
+const PIECE: usize = 65536;
+
 // With an argument it only says what it is for.
-fn main() {
-    if os::arg_count() > 1 {
-        crate::words::help();
+fn main(rt: HostRuntime) {
+    if has_argument(&rt) {
+        crate::words::help(&rt);
         return;
     }
     let mut list = [0u8; LIST];
     let mut all = [0u8; group_bytes::BOOKS];
     let mut queues = [0u8; QUEUES];
-    let mut input = io::large_buffer();
-    let mut out = io::large_buffer();
-    run(&mut list, &mut all, &mut queues, &mut input, &mut out);
+    let mut input = [0u8; PIECE];
+    let mut out = [0u8; PIECE];
+    run(&rt, &mut list, &mut all, &mut queues, &mut input, &mut out);
+}
+
+// Whether there is an argument behind the program's name, of whatever bytes and length.
+fn has_argument(rt: &impl Env) -> bool {
+    let mut first = [0u8; 1];
+    match rt.arg(1, &mut first) {
+        Err(FillError::NotPresent) => false,
+        _ => true,
+    }
 }
 
 // Round after round until the input ends, or something could not be read or written. A proved loop has to end, so it
 // counts down from a number that no run uses up.
-fn run(list: &mut [u8], all: &mut [u8], queues: &mut [u8], input: &mut [u8], out: &mut [u8])
+fn run(
+    rt: &(impl Input + Print + Eprint),
+    list: &mut [u8],
+    all: &mut [u8],
+    queues: &mut [u8],
+    input: &mut [u8],
+    out: &mut [u8],
+)
     requires { longest_reply ≤ length out.old }
 {
+    let mut reader = rt.reader();
     let mut bench = bench_session::showing::idle();
     let mut held: usize = 0;
     let mut turns = u64::MAX;
     while turns > 0 {
-        let got = crate::pieces::fill(input, held);
+        let got = crate::pieces::fill(&mut reader, input, held);
         if got.failed {
-            crate::words::unread();
+            crate::words::unread(rt);
             return;
         }
         let n = got.count;
         if n == held {
-            finish(list, all, queues, bench, &input[..n], out);
+            finish(rt, list, all, queues, bench, &input[..n], out);
             return;
         }
-        let t = answer_all(list, all, queues, bench, &input[..n], out);
+        let t = answer_all(rt, list, all, queues, bench, &input[..n], out);
         if t.failed {
-            crate::words::unwritten();
+            crate::words::unwritten(rt);
             return;
         }
         bench = t.bench;
@@ -65,6 +86,7 @@ fn run(list: &mut [u8], all: &mut [u8], queues: &mut [u8], input: &mut [u8], out
 
 // Bytes behind the last byte 10 are a line, if there are any.
 fn finish(
+    rt: &(impl Print + Eprint),
     list: &mut [u8],
     all: &mut [u8],
     queues: &mut [u8],
@@ -83,9 +105,9 @@ fn finish(
         return;
     }
     let reply = h.reply;
-    let said = crate::pieces::say(out, 0, reply);
-    if !crate::pieces::send(out, said.filled) {
-        crate::words::unwritten();
+    let said = crate::pieces::say(rt, out, 0, reply);
+    if !crate::pieces::send(rt, out, said.filled) {
+        crate::words::unwritten(rt);
     }
 }
 
@@ -99,6 +121,7 @@ struct Turn {
 
 // Every line of the input that has its end is answered, and what is shown of it is written.
 fn answer_all(
+    rt: &impl Print,
     list: &mut [u8],
     all: &mut [u8],
     queues: &mut [u8],
@@ -123,7 +146,7 @@ fn answer_all(
         bench = h.bench;
         if h.shown {
             let reply = h.reply;
-            let said = crate::pieces::say(out, filled, reply);
+            let said = crate::pieces::say(rt, out, filled, reply);
             if said.failed {
                 return Turn {
                     bench,
@@ -135,7 +158,7 @@ fn answer_all(
         }
         at = crate::pieces::line_after(input, end);
     }
-    let sent = crate::pieces::send(out, filled);
+    let sent = crate::pieces::send(rt, out, filled);
     Turn {
         bench,
         at,

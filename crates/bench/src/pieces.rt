@@ -4,7 +4,7 @@ ghost use Rattle.bench_lines.specs.ReplyLines.{reply_line, longest_reply};
 ghost use Rattle.bench.specs.PieceParts.{Filled, Kept, Behind};
 
 use events::Reply;
-use libc::{STDIN_FILENO, STDOUT_FILENO};
+use std::io::Read;
 
 // A line longer than the longest that is read is unreadable whatever follows: so many bytes of an unfinished one tell.
 const KEPT: usize = bench_lines::lines::LONGEST_LINE + 1;
@@ -17,20 +17,19 @@ pub struct Got {
 }
 
 // One read behind the bytes that are held.
-pub fn fill(input: &mut [u8], held: usize) -> Got
+pub fn fill(reader: &mut impl Read, input: &mut [u8], held: usize) -> Got
     requires { held ≤ length input.old }
     ensures { Filled held input.old input.new result.count result.failed }
 {
-    let got = libc::read(STDIN_FILENO, &mut input[held..]);
-    if got < 0 {
-        return Got {
+    match reader.read(&mut input[held..]) {
+        Ok(n) => Got {
+            count: held + n,
+            failed: false,
+        },
+        Err(_) => Got {
             count: held,
             failed: true,
-        };
-    }
-    Got {
-        count: held + io::count(got, &input[held..]),
-        failed: false,
+        },
     }
 }
 
@@ -61,10 +60,10 @@ pub fn keep(input: &mut [u8], at: usize, n: usize) -> usize
 }
 
 // The first bytes of the buffer are written, or not all of them, which is false.
-pub fn send(out: &[u8], filled: usize) -> bool
+pub fn send(rt: &impl Print, out: &[u8], filled: usize) -> bool
     requires { filled ≤ length out.now }
 {
-    io::write_all(STDOUT_FILENO, &out[..filled])
+    rt.write_all(&out[..filled]).is_ok()
 }
 
 // How many bytes of the buffer are filled, and whether a write before that failed.
@@ -75,12 +74,12 @@ pub struct Said {
 }
 
 // A reply's line goes behind the bytes that are filled; those are written first where there is no room for every reply.
-pub fn say(out: &mut [u8], filled: usize, r: Reply) -> Said
+pub fn say(rt: &impl Print, out: &mut [u8], filled: usize, r: Reply) -> Said
     requires { (filled ≤ length out.old) × (longest_reply ≤ length out.old) }
     ensures { Behind (reply_line r) filled out.old out.new result.filled }
 {
     if out.len() - filled < bench_lines::replies::LONGEST_REPLY {
-        let sent = send(out, filled);
+        let sent = send(rt, out, filled);
         let w = bench_lines::replies::write(out, r);
         return Said {
             filled: w.length,

@@ -1,34 +1,22 @@
-// What the bench says besides its replies.
-use libc::{STDERR_FILENO, STDOUT_FILENO};
+// What the bench says besides its replies. Where even that cannot be written, nothing more is to be done.
 
 // To whoever starts it with an argument.
-pub fn help() {
-    io::write_all(STDOUT_FILENO, b"usage: bench < lines\n\n");
-    io::write_all(
-        STDOUT_FILENO,
+pub fn help(rt: &impl Print) {
+    let _ = rt.write_all(b"usage: bench < lines\n\n");
+    let _ = rt.write_all(
         b"Runs one group: a reply to each accepted line of standard input, and to refused ones too\n",
     );
-    io::write_all(
-        STDOUT_FILENO,
+    let _ = rt.write_all(
         b"where the very first line is all. The next is group N S, members and first set, and\n",
     );
-    io::write_all(
-        STDOUT_FILENO,
-        b"every other a step and its operands, as send 0 5.\n",
-    );
-    io::write_all(
-        STDOUT_FILENO,
-        b"docs/SPEC.md, 'The bench', has the whole language.\n",
-    );
+    let _ = rt.write_all(b"every other a step and its operands, as send 0 5.\n");
+    let _ = rt.write_all(b"docs/SPEC.md, 'The bench', has the whole language.\n");
 }
 
-pub fn unread() {
-    io::write_all(STDERR_FILENO, b"bench: standard input could not be read\n");
+pub fn unread(rt: &impl Eprint) {
+    let _ = rt.eprintln("bench: standard input could not be read");
 }
 
-pub fn unwritten() {
-    io::write_all(
-        STDERR_FILENO,
-        b"bench: standard output could not be written\n",
-    );
+pub fn unwritten(rt: &impl Eprint) {
+    let _ = rt.eprintln("bench: standard output could not be written");
 }

@@ -15,13 +15,13 @@ idle-stays : (b : Bench) → b ≡ idle → (r : Ranges) → BenchStaysSound b r
 idle-stays b e r h = absurd (true≢false (sym h ∙ ap (λ (x : Bench). x.running) e))
 
 pub loop-turns-init : goal.loop-turns-init
-loop-turns-init c = (idle-stays _ c.idle-bench.ensures _, search rules)
+loop-turns-init g c = (idle-stays _ c.idle-bench.ensures _, search rules)
 
 pub slice_bounds-finish-end-then-n-held : goal.slice_bounds-finish-end-then-n-held
-slice_bounds-finish-end-then-n-held c = sym (length-take-le _ _ (omega arith))
+slice_bounds-finish-end-then-n-held g c = sym (length-take-le _ _ (omega arith))
 
 pub slice_bounds-answer_all-end-in-loop-turns : goal.slice_bounds-answer_all-end-in-loop-turns
-slice_bounds-answer_all-end-in-loop-turns c = sym (length-take-le _ _ (omega arith))
+slice_bounds-answer_all-end-in-loop-turns g c = sym (length-take-le _ _ (omega arith))
 
 pub loop-turns-preserved : goal.loop-turns-preserved
-loop-turns-preserved c = (c.answer_all-t.ensures.1, search rules)
+loop-turns-preserved g c = (c.answer_all-t.ensures.1, search rules)

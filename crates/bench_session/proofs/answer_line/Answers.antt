@@ -13,11 +13,9 @@ returns-in-Unreadable c =
 pub returns-in-Group : goal.returns-in-Group
 returns-in-Group c =
     let a = c.args in
-    let early = c in
-    read-answers a.running (record { list = a.list.now; books = a.all.now; queues = a.queues.now }) _ _ (sym early.read-asked.ensures ∙ early.in-Group.is) _ _ early.begin.ensures
+    read-answers a.running (record { list = a.list.now; books = a.all.now; queues = a.queues.now }) _ _ (sym c.read-asked.ensures ∙ c.in-Group.is) _ _ c.begin.ensures
 
 pub returns-in-Step : goal.returns-in-Step
 returns-in-Step c =
     let a = c.args in
-    let early = c in
-    read-answers a.running (record { list = a.list.now; books = a.all.now; queues = a.queues.now }) _ _ (sym early.read-asked.ensures ∙ early.in-Step.is) _ _ early.go.ensures
+    read-answers a.running (record { list = a.list.now; books = a.all.now; queues = a.queues.now }) _ _ (sym c.read-asked.ensures ∙ c.in-Step.is) _ _ c.go.ensures

@@ -1,17 +1,15 @@
-use borrow.Author.Tests.{not-true, not-false}
 use Rattle.bench_session.proofs.AnswerLaws.{idle-answers, step-answers}
 use Rattle.bench_session.proofs.go.Goals as goal
 
 pub returns-then-not-running : goal.returns-then-not-running
 returns-then-not-running c =
     let a = c.args in
-    rw (not-true a.running c.if-not-running.true-raw, c.unread.ensures) (idle-answers (record { list = a.list.now; books = a.all.now; queues = a.queues.now }) a.kind a.first a.second)
+    rw (c.if-not-running.true, c.unread.ensures) (idle-answers (record { list = a.list.now; books = a.all.now; queues = a.queues.now }) a.kind a.first a.second)
 
 pub next-reply-requires : goal.next-reply-requires
-next-reply-requires c k = c.before.before.before.before.before.before.before.requires k (not-false _ c.before.before.before.if1.false)
+next-reply-requires c k = c.requires k c.if-not-running.false
 
 pub returns : goal.returns
 returns c =
     let a = c.args in
-    let early = c in
-    rw (not-false a.running early.if-not-running.false-raw) (step-answers (record { list = a.list.now; books = a.all.now; queues = a.queues.now }) a.kind a.first a.second _ _ early.next-reply.ensures)
+    rw c.if-not-running.false (step-answers (record { list = a.list.now; books = a.all.now; queues = a.queues.now }) a.kind a.first a.second _ _ c.next-reply.ensures)

@@ -11,20 +11,20 @@ use Rattle.bench.proofs.PieceLaws.{place-behind, place-front, put-place, part-al
 use Rattle.bench.proofs.pieces.say.Goals as goal
 
 pub returns-then-out-filled-lt-LONGEST_REPLY : goal.returns-then-out-filled-lt-LONGEST_REPLY
-returns-then-out-filled-lt-LONGEST_REPLY c =
+returns-then-out-filled-lt-LONGEST_REPLY g c =
     let z : Sized c.args.r.event = record { member = omega arith; identifier = omega arith; set = omega arith; sender = omega arith; entry = omega arith } in
     let l : length (reply_line c.args.r) ≤ longest_reply = reply-fits c.args.r z in
     put-place _ c.args.out.now _ 0 _ _ (place-front c.args.filled c.args.out.now (omega arith)) (wrote-put _ c.args.out.now _ _ (omega arith) c.write-w.ensures)
 
 pub overflow_add-result : goal.overflow_add-result
-overflow_add-result c =
+overflow_add-result g c =
     let z : Sized c.args.r.event = record { member = omega arith; identifier = omega arith; set = omega arith; sender = omega arith; entry = omega arith } in
     let l : length (reply_line c.args.r) ≤ longest_reply = reply-fits c.args.r z in
     let p = wrote-put _ _ _ _ (omega (arith, ap length (part-all c.args.out.now c.args.filled), length-drop c.args.filled c.args.out.now)) c.write-w-2.ensures in
     omega (arith, p.next)
 
 pub returns : goal.returns
-returns c =
+returns g c =
     let z : Sized c.args.r.event = record { member = omega arith; identifier = omega arith; set = omega arith; sender = omega arith; entry = omega arith } in
     let l : length (reply_line c.args.r) ≤ longest_reply = reply-fits c.args.r z in
     put-place _ c.args.out.now _ c.args.filled _ _ (place-behind c.args.filled c.args.out.now (omega arith)) (put-part _ c.args.out.now _ c.args.filled _ (wrote-put _ _ _ _ (omega (arith, ap length (part-all c.args.out.now c.args.filled), length-drop c.args.filled c.args.out.now)) c.write-w-2.ensures))

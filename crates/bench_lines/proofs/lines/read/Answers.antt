@@ -11,17 +11,15 @@ pub returns-then-line-gt-LONGEST_LINE : goal.returns-then-line-gt-LONGEST_LINE
 returns-then-line-gt-LONGEST_LINE c = sym (line-long c.args.line.now c.if-line-gt-LONGEST_LINE.true)
 
 pub slice_bounds-form_of-end : goal.slice_bounds-form_of-end
-slice_bounds-form_of-end c = sym (length-take-le c.find.result c.args.line.now (omega (arith, find-le 32 c.args.line.now 0)))
+slice_bounds-form_of-end c = sym (length-take-le c.find-end.result c.args.line.now (omega (arith, find-le 32 c.args.line.now 0)))
 
 pub returns-then-form-eq-UNKNOWN : goal.returns-then-form-eq-UNKNOWN
 returns-then-form-eq-UNKNOWN c =
-    let early = c in
-    sym (line-unknown early.args.line.now _ _ early.if1.false early.find.ensures c.form_of-form.ensures c.if-form-eq-UNKNOWN.true)
+    sym (line-unknown c.args.line.now _ _ c.if-line-gt-LONGEST_LINE.false c.find-end.ensures c.form_of-form.ensures c.if-form-eq-UNKNOWN.true)
 
 pub returns-then-end-line : goal.returns-then-end-line
 returns-then-end-line c =
-    let early = c in
-    sym (line-bare early.args.line.now _ _ early.if1.false early.find.ensures c.form_of-form.ensures c.if-form-eq-UNKNOWN.false c.if-end-line.true)
+    sym (line-bare c.args.line.now _ _ c.if-line-gt-LONGEST_LINE.false c.find-end.ensures c.form_of-form.ensures c.if-form-eq-UNKNOWN.false c.if-end-line.true)
 
 pub overflow_add-from : goal.overflow_add-from
 overflow_add-from c = omega (arith, find-le 32 c.args.line.now 0)
@@ -37,5 +35,4 @@ read-requires c = rw c.form_of-form.ensures (form-fits _)
 
 pub returns : goal.returns
 returns c =
-    let early = c in
-    sym (line-whole early.args.line.now _ _ _ early.if1.false early.find.ensures early.form_of-form.ensures c.if-form-eq-UNKNOWN.false c.if-end-line.false c.read.ensures)
+    sym (line-whole c.args.line.now _ _ _ c.if-line-gt-LONGEST_LINE.false c.find-end.ensures c.form_of-form.ensures c.if-form-eq-UNKNOWN.false c.if-end-line.false c.read.ensures)

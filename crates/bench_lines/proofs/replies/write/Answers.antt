@@ -9,9 +9,8 @@ pub slice_bounds-line-end : goal.slice_bounds-line-end
 slice_bounds-line-end c = put-le _ _ _ _ c.put_reply-n.ensures
 
 pub slice_bounds-put_front-end : goal.slice_bounds-put_front-end
-slice_bounds-put_front-end c = sym (length-take-le c.put_reply-n.result c.put_reply-n.new.0 (put-le _ _ _ _ c.put_reply-n.ensures))
+slice_bounds-put_front-end c = sym (length-take-le c.put_reply-n.result c.put_reply-n.new.text (put-le _ _ _ _ c.put_reply-n.ensures))
 
 pub returns : goal.returns
 returns c =
-    let early = c in
-    wrote-same _ _ early.args.out.now _ _ (put-take _ _ _ _ early.put_reply-n.ensures) c.put_front.ensures
+    wrote-same _ _ c.args.out.now _ _ (put-take _ _ _ _ c.put_reply-n.ensures) c.put_front.ensures

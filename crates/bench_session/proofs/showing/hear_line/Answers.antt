@@ -6,6 +6,5 @@ answer_line-a-requires c = c.requires
 
 pub returns : goal.returns
 returns c =
-    let early = c in
-    let a = early.args in
-    answer-heard a.bench (record { list = a.list.now; books = a.all.now; queues = a.queues.now }) a.line.now _ _ early.answer_line-a.ensures _ c.shows-shown.ensures _ c.decided_by-decided.ensures
+    let a = c.args in
+    answer-heard a.bench (record { list = a.list.now; books = a.all.now; queues = a.queues.now }) a.line.now _ _ c.answer_line-a.ensures _ c.shows-shown.ensures _ c.decided_by-decided.ensures

@@ -4,10 +4,8 @@ use Rattle.bench_session.proofs.StaysSoundLines.{hears-next}
 use Rattle.bench_session.proofs.showing.hear_next.Goals as goal
 
 pub hear_line-requires : goal.hear_line-requires
-hear_line-requires c k e = sound-now _ (c.before.before.before.before.before.before.before.requires e)
+hear_line-requires c k e = sound-now _ (c.requires e)
 
 pub returns : goal.returns
 returns c =
-    let early = c in
-    let o = early in
-    hears-next o.args.bench (record { list = o.args.list.now; books = o.args.all.now; queues = o.args.queues.now }) o.args.line.now _ _ o.requires early.hear_line.ensures
+    hears-next c.args.bench (record { list = c.args.list.now; books = c.args.all.now; queues = c.args.queues.now }) c.args.line.now _ _ c.requires c.hear_line.ensures

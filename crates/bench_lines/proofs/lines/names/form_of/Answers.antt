@@ -1,88 +1,66 @@
 -- The rows are tried in the order of the table.
-use mathlib.Core.Path.{◌≡◌, sym, ◌∙◌}
-use lib.ListN.{drop}
-use Rattle.bench_lines.specs.Lines.{table, form_of}
+use mathlib.Core.Path.{◌≡◌, refl, sym, ◌∙◌}
+use mathlib.Core.Bool.{true, false}
+use mathlib.Core.List.{List, [], ◌∷◌, ◌++◌}
+use Prim.Native.Nat.{ℕ}
+use lib.ListN.{take}
+use Rattle.bench_lines.specs.declared.lines.names.Form.{Form}
+use Rattle.bench_lines.specs.Words.{same}
+use Rattle.bench_lines.specs.Lines.{Row, row, table, form_of}
 use Rattle.bench_lines.proofs.LineLaws.{row-found, row_other}
 use Rattle.bench_lines.proofs.lines.names.form_of.Goals as goal
 
-passed-1 : (c : goal.Else-is) → form_of table c.args.word.now ≡ form_of (drop 1 table) c.args.word.now
-passed-1 c = row_other _ _ _ _ (sym c.is.ensures ∙ c.if-is.false)
+-- the word is the name of none of these rows
+abbrev Passed : List Row → List ℕ → Type 0
+Passed [] w = Unit
+Passed (row n f ∷ rows) w = (same w n ≡ false) × Passed rows w
 
-passed-2 : (c : goal.Else-is-2) → form_of table c.args.word.now ≡ form_of (drop 2 table) c.args.word.now
-passed-2 c = passed-1 c.before.before.before ∙ row_other _ _ _ _ (sym c.is-2.ensures ∙ c.if-is-2.false)
+passed : (rows rest : List Row) (w : List ℕ) → Passed rows w → form_of (rows ++ rest) w ≡ form_of rest w
+passed [] rest w p = refl
+passed (row n f ∷ rows) rest w p = row_other w n f (rows ++ rest) p.0 ∙ passed rows rest w p.1
 
-passed-3 : (c : goal.Else-is-3) → form_of table c.args.word.now ≡ form_of (drop 3 table) c.args.word.now
-passed-3 c = passed-2 c.before.before.before ∙ row_other _ _ _ _ (sym c.is-3.ensures ∙ c.if-is-3.false)
-
-passed-4 : (c : goal.Else-is-4) → form_of table c.args.word.now ≡ form_of (drop 4 table) c.args.word.now
-passed-4 c = passed-3 c.before.before.before ∙ row_other _ _ _ _ (sym c.is-4.ensures ∙ c.if-is-4.false)
-
-passed-5 : (c : goal.Else-is-5) → form_of table c.args.word.now ≡ form_of (drop 5 table) c.args.word.now
-passed-5 c = passed-4 c.before.before.before ∙ row_other _ _ _ _ (sym c.is-5.ensures ∙ c.if-is-5.false)
-
-passed-6 : (c : goal.Else-is-6) → form_of table c.args.word.now ≡ form_of (drop 6 table) c.args.word.now
-passed-6 c = passed-5 c.before.before.before ∙ row_other _ _ _ _ (sym c.is-6.ensures ∙ c.if-is-6.false)
-
-passed-7 : (c : goal.Else-is-7) → form_of table c.args.word.now ≡ form_of (drop 7 table) c.args.word.now
-passed-7 c = passed-6 c.before.before.before ∙ row_other _ _ _ _ (sym c.is-7.ensures ∙ c.if-is-7.false)
-
-passed-8 : (c : goal.Else-is-8) → form_of table c.args.word.now ≡ form_of (drop 8 table) c.args.word.now
-passed-8 c = passed-7 c.before.before.before ∙ row_other _ _ _ _ (sym c.is-8.ensures ∙ c.if-is-8.false)
-
-passed-9 : (c : goal.Else-is-9) → form_of table c.args.word.now ≡ form_of (drop 9 table) c.args.word.now
-passed-9 c = passed-8 c.before.before.before ∙ row_other _ _ _ _ (sym c.is-9.ensures ∙ c.if-is-9.false)
-
-passed-10 : (c : goal.Else-is-10) → form_of table c.args.word.now ≡ form_of (drop 10 table) c.args.word.now
-passed-10 c = passed-9 c.before.before.before ∙ row_other _ _ _ _ (sym c.is-10.ensures ∙ c.if-is-10.false)
-
-passed-11 : (c : goal.Else-is-11) → form_of table c.args.word.now ≡ form_of (drop 11 table) c.args.word.now
-passed-11 c = passed-10 c.before.before.before ∙ row_other _ _ _ _ (sym c.is-11.ensures ∙ c.if-is-11.false)
-
-passed-12 : (c : goal.Else-is-12) → form_of table c.args.word.now ≡ form_of (drop 12 table) c.args.word.now
-passed-12 c = passed-11 c.before.before.before ∙ row_other _ _ _ _ (sym c.is-12.ensures ∙ c.if-is-12.false)
-
-passed-13 : (c : goal.Else-is-13) → form_of table c.args.word.now ≡ form_of (drop 13 table) c.args.word.now
-passed-13 c = passed-12 c.before.before.before ∙ row_other _ _ _ _ (sym c.is-13.ensures ∙ c.if-is-13.false)
+found : (rows rest : List Row) (w n : List ℕ) (f : Form) → Passed rows w → same w n ≡ true → form_of (rows ++ (row n f ∷ rest)) w ≡ f
+found rows rest w n f p e = passed rows (row n f ∷ rest) w p ∙ row-found w n f rest e
 
 pub returns-then-is : goal.returns-then-is
-returns-then-is c = c.with_operands.ensures ∙ sym (row-found _ _ _ _ (sym c.is.ensures ∙ c.if-is.true))
+returns-then-is c = c.with_operands.ensures ∙ sym (found (take 0 table) _ c.args.word.now _ _ tt (cc))
 
 pub returns-then-is-2 : goal.returns-then-is-2
-returns-then-is-2 c = c.with_operands-then-is-2.ensures ∙ sym (passed-1 c.before.before.before.before ∙ row-found _ _ _ _ (sym c.is-2.ensures ∙ c.if-is-2.true))
+returns-then-is-2 c = c.with_operands-then-is-2.ensures ∙ sym (found (take 1 table) _ c.args.word.now _ _ (cc, tt) (cc))
 
 pub returns-then-is-3 : goal.returns-then-is-3
-returns-then-is-3 c = c.with_operands-then-is-3.ensures ∙ sym (passed-2 c.before.before.before.before ∙ row-found _ _ _ _ (sym c.is-3.ensures ∙ c.if-is-3.true))
+returns-then-is-3 c = c.with_operands-then-is-3.ensures ∙ sym (found (take 2 table) _ c.args.word.now _ _ (cc, (cc, tt)) (cc))
 
 pub returns-then-is-4 : goal.returns-then-is-4
-returns-then-is-4 c = c.with_operands-then-is-4.ensures ∙ sym (passed-3 c.before.before.before.before ∙ row-found _ _ _ _ (sym c.is-4.ensures ∙ c.if-is-4.true))
+returns-then-is-4 c = c.with_operands-then-is-4.ensures ∙ sym (found (take 3 table) _ c.args.word.now _ _ (cc, (cc, (cc, tt))) (cc))
 
 pub returns-then-is-5 : goal.returns-then-is-5
-returns-then-is-5 c = c.with_operands-then-is-5.ensures ∙ sym (passed-4 c.before.before.before.before ∙ row-found _ _ _ _ (sym c.is-5.ensures ∙ c.if-is-5.true))
+returns-then-is-5 c = c.with_operands-then-is-5.ensures ∙ sym (found (take 4 table) _ c.args.word.now _ _ (cc, (cc, (cc, (cc, tt)))) (cc))
 
 pub returns-then-is-6 : goal.returns-then-is-6
-returns-then-is-6 c = c.with_operands-then-is-6.ensures ∙ sym (passed-5 c.before.before.before.before ∙ row-found _ _ _ _ (sym c.is-6.ensures ∙ c.if-is-6.true))
+returns-then-is-6 c = c.with_operands-then-is-6.ensures ∙ sym (found (take 5 table) _ c.args.word.now _ _ (cc, (cc, (cc, (cc, (cc, tt))))) (cc))
 
 pub returns-then-is-7 : goal.returns-then-is-7
-returns-then-is-7 c = c.with_operands-then-is-7.ensures ∙ sym (passed-6 c.before.before.before.before ∙ row-found _ _ _ _ (sym c.is-7.ensures ∙ c.if-is-7.true))
+returns-then-is-7 c = c.with_operands-then-is-7.ensures ∙ sym (found (take 6 table) _ c.args.word.now _ _ (cc, (cc, (cc, (cc, (cc, (cc, tt)))))) (cc))
 
 pub returns-then-is-8 : goal.returns-then-is-8
-returns-then-is-8 c = c.with_operands-then-is-8.ensures ∙ sym (passed-7 c.before.before.before.before ∙ row-found _ _ _ _ (sym c.is-8.ensures ∙ c.if-is-8.true))
+returns-then-is-8 c = c.with_operands-then-is-8.ensures ∙ sym (found (take 7 table) _ c.args.word.now _ _ (cc, (cc, (cc, (cc, (cc, (cc, (cc, tt))))))) (cc))
 
 pub returns-then-is-9 : goal.returns-then-is-9
-returns-then-is-9 c = c.with_operands-then-is-9.ensures ∙ sym (passed-8 c.before.before.before.before ∙ row-found _ _ _ _ (sym c.is-9.ensures ∙ c.if-is-9.true))
+returns-then-is-9 c = c.with_operands-then-is-9.ensures ∙ sym (found (take 8 table) _ c.args.word.now _ _ (cc, (cc, (cc, (cc, (cc, (cc, (cc, (cc, tt)))))))) (cc))
 
 pub returns-then-is-10 : goal.returns-then-is-10
-returns-then-is-10 c = c.with_operands-then-is-10.ensures ∙ sym (passed-9 c.before.before.before.before ∙ row-found _ _ _ _ (sym c.is-10.ensures ∙ c.if-is-10.true))
+returns-then-is-10 c = c.with_operands-then-is-10.ensures ∙ sym (found (take 9 table) _ c.args.word.now _ _ (cc, (cc, (cc, (cc, (cc, (cc, (cc, (cc, (cc, tt))))))))) (cc))
 
 pub returns-then-is-11 : goal.returns-then-is-11
-returns-then-is-11 c = c.with_operands-then-is-11.ensures ∙ sym (passed-10 c.before.before.before.before ∙ row-found _ _ _ _ (sym c.is-11.ensures ∙ c.if-is-11.true))
+returns-then-is-11 c = c.with_operands-then-is-11.ensures ∙ sym (found (take 10 table) _ c.args.word.now _ _ (cc, (cc, (cc, (cc, (cc, (cc, (cc, (cc, (cc, (cc, tt)))))))))) (cc))
 
 pub returns-then-is-12 : goal.returns-then-is-12
-returns-then-is-12 c = c.with_operands-then-is-12.ensures ∙ sym (passed-11 c.before.before.before.before ∙ row-found _ _ _ _ (sym c.is-12.ensures ∙ c.if-is-12.true))
+returns-then-is-12 c = c.with_operands-then-is-12.ensures ∙ sym (found (take 11 table) _ c.args.word.now _ _ (cc, (cc, (cc, (cc, (cc, (cc, (cc, (cc, (cc, (cc, (cc, tt))))))))))) (cc))
 
 pub returns-then-is-13 : goal.returns-then-is-13
-returns-then-is-13 c = c.with_operands-then-is-13.ensures ∙ sym (passed-12 c.before.before.before.before ∙ row-found _ _ _ _ (sym c.is-13.ensures ∙ c.if-is-13.true))
+returns-then-is-13 c = c.with_operands-then-is-13.ensures ∙ sym (found (take 12 table) _ c.args.word.now _ _ (cc, (cc, (cc, (cc, (cc, (cc, (cc, (cc, (cc, (cc, (cc, (cc, tt)))))))))))) (cc))
 
 pub returns : goal.returns
 unfolding form_of
-returns c = c.with_operands-2.ensures ∙ sym (passed-13 c.before)
+returns c = c.with_operands-2.ensures ∙ sym (passed table [] c.args.word.now (cc, (cc, (cc, (cc, (cc, (cc, (cc, (cc, (cc, (cc, (cc, (cc, (cc, tt))))))))))))))

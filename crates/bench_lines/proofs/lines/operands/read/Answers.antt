@@ -25,7 +25,7 @@ pub overflow_add-from : goal.overflow_add-from
 overflow_add-from c = omega (arith, find-le 32 c.args.rest.now 0)
 
 pub slice_bounds-read_numeral-end : goal.slice_bounds-read_numeral-end
-slice_bounds-read_numeral-end c = sym (length-take-le c.find.result c.args.rest.now (omega (arith, find-le 32 c.args.rest.now 0)))
+slice_bounds-read_numeral-end c = sym (length-take-le c.find-end.result c.args.rest.now (omega (arith, find-le 32 c.args.rest.now 0)))
 
 pub slice_bounds-read_numeral-count : goal.slice_bounds-read_numeral-count
 slice_bounds-read_numeral-count c = omega (arith, find-le 32 c.args.rest.now 0)
@@ -35,11 +35,9 @@ slice_bounds-read_numeral-start c = omega (arith, find-le 32 c.args.rest.now 0)
 
 pub make-requires-2 : goal.make-requires-2
 make-requires-2 c =
-    let early = c in
-    fits-two early.args.form _ _ _ _ early.requires c.read_numeral-first.ensures c.read_numeral-second.ensures
+    fits-two c.args.form _ _ _ _ c.requires c.read_numeral-first.ensures c.read_numeral-second.ensures
 
 pub returns : goal.returns
 returns c =
     let a = c.args in
-    let early = c in
-    c.make-2.ensures ∙ sym (operands-two a.form a.rest.now _ _ _ early.if1.false early.find.ensures early.if2.false c.read_numeral-first.ensures c.read_numeral-second.ensures)
+    c.make-2.ensures ∙ sym (operands-two a.form a.rest.now _ _ _ c.if-form-eq0.false c.find-end.ensures c.if-end-rest.false c.read_numeral-first.ensures c.read_numeral-second.ensures)

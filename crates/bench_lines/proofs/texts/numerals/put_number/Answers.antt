@@ -27,15 +27,15 @@ loop-rest-preserved c =
     )
 
 pub slice_bounds-put-end : goal.slice_bounds-put-end
-slice_bounds-put-end c = omega (arith, length-set c.loop.digits c.loop.i (48 + c.loop.rest))
+slice_bounds-put-end c = omega (arith, length-set c.loop-rest.digits c.loop-rest.i (48 + c.loop-rest.rest))
 
 pub put-requires : goal.put-requires
 put-requires c =
-    let l = c.loop in
+    let l = c.loop-rest in
     let e = number-end c.args.x l.rest l.i l.digits (omega arith) (omega arith) l.invariant.4 l.invariant.1 in
     rw e (omega (arith, decimal-length c.args.x))
 
 pub returns : goal.returns
 returns c =
-    let l = c.loop in
+    let l = c.loop-rest in
     put_same _ (decimal c.args.x) c.args.text.now _ c.args.at _ (number-end c.args.x l.rest l.i l.digits (omega arith) (omega arith) l.invariant.4 l.invariant.1) c.put.ensures

@@ -1,16 +1,14 @@
 -- What the digits so far and the rest of the word say is what the word says.
 use mathlib.Core.Path.{sym, ◌∙◌}
-use Prim.Native.Nat.{◌-◌}
 use native.Mathlib.Omega.{arith}
-use borrow.Author.Tests.{not-true, not-false}
 use Rattle.bench_lines.proofs.NumeralLaws.{numeral-unbegun, numeral-begun, turn_low, turn-high, turn-digit, turn-large, turn_end}
 use Rattle.bench_lines.proofs.texts.numerals.read_numeral.Goals as goal
 
 pub returns-then-not-well_begun : goal.returns-then-not-well_begun
-returns-then-not-well_begun c = sym (numeral-unbegun c.args.max c.args.word.now (sym c.well_begun.ensures ∙ not-true _ c.if-not-well_begun.true-raw))
+returns-then-not-well_begun c = sym (numeral-unbegun c.args.max c.args.word.now (sym c.well_begun.ensures ∙ c.if-not-well_begun.true))
 
 pub loop-i-init : goal.loop-i-init
-loop-i-init c = (omega arith, omega arith, numeral-begun c.args.max c.args.word.now (sym c.well_begun.ensures ∙ not-false _ c.if-not-well_begun.false-raw))
+loop-i-init c = (omega arith, omega arith, numeral-begun c.args.max c.args.word.now (sym c.well_begun.ensures ∙ c.if-not-well_begun.false))
 
 pub returns-then-c-lt48 : goal.returns-then-c-lt48
 returns-then-c-lt48 c = sym (c.loop-i.invariant.2 ∙ turn_low c.args.max c.loop-i.x c.loop-i.i c.args.word.now (omega arith) (omega arith))

@@ -1,6 +1,5 @@
 -- What is looked for from the place so far on is what was looked for.
 use mathlib.Core.Path.{sym, ◌∙◌}
-use Prim.Native.Nat.{◌-◌}
 use borrow.Author.Rules.{rules}
 use Rattle.bench_lines.proofs.WordLaws.{find-hit, find-miss, find_none}
 use Rattle.bench_lines.proofs.texts.words.find.Goals as goal

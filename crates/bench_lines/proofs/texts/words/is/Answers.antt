@@ -1,6 +1,5 @@
 -- The two are the same as far as they were compared.
 use mathlib.Core.Path.{refl, sym, ◌∙◌}
-use Prim.Native.Nat.{◌-◌}
 use native.Mathlib.Omega.{arith}
 use Rattle.bench_lines.proofs.WordLaws.{same_turn, same_differs, same_length, same_end}
 use Rattle.bench_lines.proofs.texts.words.is.Goals as goal
