@@ -1,6 +1,5 @@
 // A list of views that the host lends as a slice of records: one view of it read or put, the whole list by value, and a
-// list laid afresh. A function that takes such a slice is proved by a walk of its own; what can be done by value is
-// done in others.
+// list laid afresh.
 ghost use Rattle.std.specs.Prelude.{◌≡◌, ◌-◌, get_or, set};
 ghost use Rattle.views.specs.Lists.{no_view, placed};
 ghost use Rattle.views.specs.Limits.{max_views};

@@ -1,6 +1,5 @@
 -- `group_listed::next` meets its contract.
 use mathlib.Core.Path.{sym}
-use native.Mathlib.Omega.{arith}
 use lib.ListN.{get_or-eq_default}
 use borrow.Author.Tests.{lt-ltb, le-ltb}
 use Rattle.group_listed.specs.Parts.{next_of}

@@ -15,4 +15,5 @@ returns c =
     let a = c.args in
     let long = c.long-e.ensures in
     let spread = c.spread-bytes.ensures in
-    stepped_by a.l _ _ _ _ _ _ _ _ _ _ _ (part_in a.l _ _ long spread) c.step-reply.ensures c.next-at.ensures (part_left a.l _ _ long spread _ _ c.step-reply.auto.list) c.view_in-view.ensures
+    stepped_by a.l _ _ _ _ _ _ _ _ _ _ _ (part_in a.l _ _ long spread) c.step-reply.ensures
+    c.next-at.ensures (part_left a.l _ _ long spread _ _ c.step-reply.auto.list) c.view_in-view.ensures

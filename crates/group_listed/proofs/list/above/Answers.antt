@@ -2,7 +2,7 @@
 use mathlib.Core.Path.{refl, sym, ◌∙◌}
 use Prim.Native.Nat.{◌-◌}
 use native.Mathlib.Omega.{arith}
-use lib.ListN.{length-map, drop_of_length-le}
+use lib.ListN.{drop_of_length-le}
 use Rattle.views.specs.Lists.{list_of}
 use Rattle.views.proofs.PlaceLaws.{length-used}
 use Rattle.rules.specs.Member.{all}
