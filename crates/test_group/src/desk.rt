@@ -3,6 +3,7 @@ ghost use Rattle.std.specs.Prelude.{◌≤◌, min, ◌≡◌};
 ghost use Rattle.test_group.specs.DeskParts.{longest, fresh_desk, with_lent, with_view};
 
 use crate::listed::LONGEST;
+use std::io;
 use views::{View, ViewId};
 
 #[derive(Clone, Copy)]
@@ -64,26 +65,26 @@ pub fn put(d: Desk, line: &[u8]) -> Desk
 }
 
 // One record: its identifier and its set.
-fn record(v: View) {
-    test_script::show::also(v.id.0 as u64);
-    test_script::show::also(v.set as u64);
+fn record(rt: &impl Print, v: View) -> io::Result<()> {
+    test_script::show::also(rt, v.id.0 as u64)?;
+    test_script::show::also(rt, v.set as u64)
 }
 
 // The view that a lookup found.
-pub fn found(v: View) {
-    io::write_all(1, b"found");
-    record(v);
+pub fn found(rt: &impl Print, v: View) -> io::Result<()> {
+    rt.write_all(b"found")?;
+    record(rt, v)
 }
 
 // The records that are lent.
-pub fn show(d: Desk) {
-    io::write_all(1, b"list");
+pub fn show(rt: &impl Print, d: Desk) -> io::Result<()> {
+    rt.write_all(b"list")?;
     let n = room(d);
     let mut i: usize = 0;
     while i < n {
         let v = d.list[i];
-        record(v);
+        record(rt, v)?;
         i += 1;
     }
-    test_script::show::end();
+    test_script::show::end(rt)
 }

@@ -9,6 +9,7 @@ mod word;
 
 use crate::desk::Desk;
 use crate::word::Word;
+use std::io;
 use views::list::Lookup;
 use views::{ViewId, limits};
 
@@ -18,72 +19,95 @@ const INPUT: usize = 1048576;
 // The queues of the longest list.
 pub const QUEUES: usize = group_bytes::HEAD + group_bytes::TABLE * limits::VIEWS;
 
-fn main() {
-    let mut input = [0u8; INPUT];
+fn main(rt: HostRuntime) -> io::Result<()> {
+    let mut input = vec![in rt.alloc(); 0u8; INPUT]?;
     let mut books = [0u8; group_bytes::BOOKS];
     let mut queues = [0u8; QUEUES];
-    table(&mut input, &mut books, &mut queues);
+    table(&rt, &mut input, &mut books, &mut queues)
 }
 
-fn table(input: &mut [u8; INPUT], books: &mut [u8; group_bytes::BOOKS], queues: &mut [u8; QUEUES]) {
-    read(input, books, queues);
+fn table(
+    rt: &(impl Input + Print),
+    input: &mut [u8],
+    books: &mut [u8; group_bytes::BOOKS],
+    queues: &mut [u8; QUEUES],
+) -> io::Result<()> {
+    read(rt, input, books, queues)
 }
 
-fn read(input: &mut [u8], books: &mut [u8], queues: &mut [u8]) {
-    let n = io::read_full(0, input);
-    lines(&input[..n], books, queues);
+fn read(
+    rt: &(impl Input + Print),
+    input: &mut [u8],
+    books: &mut [u8],
+    queues: &mut [u8],
+) -> io::Result<()> {
+    let n = test_script::input::read_full(rt, input)?;
+    lines(rt, &input[..n], books, queues)
 }
 
 // One answer to each line.
-fn lines(s: &[u8], books: &mut [u8], queues: &mut [u8]) {
+fn lines(rt: &impl Print, s: &[u8], books: &mut [u8], queues: &mut [u8]) -> io::Result<()> {
     let mut d = crate::desk::fresh();
     let mut at: usize = 0;
     while at < s.len() {
         let end = test_script::parse::line_end(s, at);
-        d = answer(&s[at..end], books, queues, d);
+        d = answer(rt, &s[at..end], books, queues, d)?;
         at = test_script::parse::line_after(s, end);
     }
+    Ok(())
 }
 
-fn answer(line: &[u8], books: &mut [u8], queues: &mut [u8], d: Desk) -> Desk {
+fn answer(
+    rt: &impl Print,
+    line: &[u8],
+    books: &mut [u8],
+    queues: &mut [u8],
+    d: Desk,
+) -> io::Result<Desk> {
     let w = crate::word::of(line);
     match w {
         Word::Unknown => {
-            test_script::show::unreadable();
-            d
+            test_script::show::unreadable(rt)?;
+            Ok(d)
         }
         Word::Comment => {
-            test_script::reply::same(line);
-            d
+            test_script::reply::same(rt, line)?;
+            Ok(d)
         }
         Word::Lend => {
-            test_script::reply::ok();
-            crate::desk::lend(d, line)
+            test_script::reply::ok(rt)?;
+            Ok(crate::desk::lend(d, line))
         }
         Word::List => {
-            crate::desk::show(d);
-            d
+            crate::desk::show(rt, d)?;
+            Ok(d)
         }
-        Word::Group => start(line, books, queues, d),
-        Word::Step => step(line, books, queues, d),
+        Word::Group => start(rt, line, books, queues, d),
+        Word::Step => step(rt, line, books, queues, d),
         Word::Put => {
-            test_script::reply::ok();
-            crate::desk::put(d, line)
+            test_script::reply::ok(rt)?;
+            Ok(crate::desk::put(d, line))
         }
-        Word::Create => create(line, d),
+        Word::Create => create(rt, line, d),
         Word::Lookup => {
-            lookup(line, d);
-            d
+            lookup(rt, line, d)?;
+            Ok(d)
         }
         Word::Run => {
-            crate::run::run(line, crate::desk::room(d));
-            d
+            crate::run::run(rt, line, crate::desk::room(d))?;
+            Ok(d)
         }
     }
 }
 
 // A group of so many members with a first set.
-fn start(line: &[u8], books: &mut [u8], queues: &mut [u8], d: Desk) -> Desk {
+fn start(
+    rt: &impl Print,
+    line: &[u8],
+    books: &mut [u8],
+    queues: &mut [u8],
+    d: Desk,
+) -> io::Result<Desk> {
     let room = crate::desk::room(d);
     let f = crate::run::queues_lent(queues, room);
     let members = test_script::operand::byte(line, 1);
@@ -91,13 +115,19 @@ fn start(line: &[u8], books: &mut [u8], queues: &mut [u8], d: Desk) -> Desk {
     let list = d.list;
     let r = crate::listed::start(list, room, books, &mut queues[..f], members, first);
     let v = r.verdict;
-    test_script::reply::reply(group::step::plain(v));
+    test_script::reply::reply(rt, group::step::plain(v))?;
     let after = r.list;
-    crate::desk::with_list(d, after)
+    Ok(crate::desk::with_list(d, after))
 }
 
 // A step of any kind number and operands.
-fn step(line: &[u8], books: &mut [u8], queues: &mut [u8], d: Desk) -> Desk {
+fn step(
+    rt: &impl Print,
+    line: &[u8],
+    books: &mut [u8],
+    queues: &mut [u8],
+    d: Desk,
+) -> io::Result<Desk> {
     let room = crate::desk::room(d);
     let f = crate::run::queues_lent(queues, room);
     let kind = test_script::operand::byte(line, 1);
@@ -106,13 +136,13 @@ fn step(line: &[u8], books: &mut [u8], queues: &mut [u8], d: Desk) -> Desk {
     let list = d.list;
     let r = crate::listed::step(list, room, books, &mut queues[..f], kind, first, second);
     let x = r.reply;
-    test_script::reply::reply(x);
+    test_script::reply::reply(rt, x)?;
     let after = r.list;
-    crate::desk::with_list(d, after)
+    Ok(crate::desk::with_list(d, after))
 }
 
 // A create of the list by itself.
-fn create(line: &[u8], d: Desk) -> Desk {
+fn create(rt: &impl Print, line: &[u8], d: Desk) -> io::Result<Desk> {
     let made = test_script::operand::byte(line, 1) as usize;
     let id = ViewId(test_script::operand::identifier(line, 2));
     let set = test_script::operand::byte(line, 3);
@@ -120,22 +150,22 @@ fn create(line: &[u8], d: Desk) -> Desk {
     let list = d.list;
     let r = crate::listed::create(list, crate::desk::room(d), made, id, set, members);
     let v = r.verdict;
-    test_script::reply::reply(group::step::plain(v));
+    test_script::reply::reply(rt, group::step::plain(v))?;
     let after = r.list;
-    crate::desk::with_list(d, after)
+    Ok(crate::desk::with_list(d, after))
 }
 
 // A lookup in the list by itself: the view that is found.
-fn lookup(line: &[u8], d: Desk) {
+fn lookup(rt: &impl Print, line: &[u8], d: Desk) -> io::Result<()> {
     let made = test_script::operand::byte(line, 1) as usize;
     let id = ViewId(test_script::operand::identifier(line, 2));
     let list = d.list;
     let l = crate::listed::lookup(list, crate::desk::room(d), made, id);
     match l {
-        Lookup::Found(v) => crate::desk::found(v),
+        Lookup::Found(v) => crate::desk::found(rt, v)?,
         Lookup::Missing => {
-            io::write_all(1, b"missing");
+            rt.write_all(b"missing")?;
         }
     }
-    test_script::show::end();
+    test_script::show::end(rt)
 }

@@ -11,7 +11,10 @@ use lib.ListN.{length, get_or, set, take, drop, length-set, length-drop, take-ap
 use lib.Seq.{drop-cons, drop-drop, drop-set-lt, take-suc-set, length-take-le}
 use borrow.Author.Tests.{eq-eqb, ne_eqb, lt-ltb, le-ltb, le-leb, lt-leb}
 use Rattle.views.proofs.SetLaws.{known}
-use Rattle.test_script.specs.ParseParts.{bytes_before, line_end, word_start, pushed, number_from, nibble_of, unhexed, Fronted}
+use Rattle.test_script.specs.ParseParts.{bytes_before, line_end, word_start, pushed, number_from, nibble_of, unhexed, Fronted, IsPrefixLen}
+
+pub prefix_len_of_le : (n : ℕ) (xs : List ℕ) → n ≤ length xs → IsPrefixLen n xs
+prefix_len_of_le n xs h = (h, sym (length-take-le n xs h))
 
 pub drop-none : (s : List ℕ) (i : ℕ) → length s ≤ i → drop i s ≡ []
 drop-none [] zero h = refl

@@ -1,8 +1,7 @@
 // Lines taken apart: words with single spaces between them, decimal numbers, bytes in hexadecimal.
 ghost use Rattle.std.specs.Prelude.{◌<◌, ◌+◌, ◌≤◌, max, min, ◌≡◌, length, get_or, drop};
-ghost use Rattle.io.specs.Counts.{IsPrefixLen};
 ghost use Rattle.test_script.specs.ParseParts.{line_end, word_start, pushed, word_number};
-ghost use Rattle.test_script.specs.ParseParts.{nibble_of, unhexed, Fronted};
+ghost use Rattle.test_script.specs.ParseParts.{nibble_of, unhexed, Fronted, IsPrefixLen};
 
 // The byte at a place, 0 past the end.
 pub fn byte(s: &[u8], at: usize) -> u8

@@ -1,77 +1,78 @@
 // Answers of calls: ok, the event, the refusal; and a comment, which is answered by itself.
 use crate::show::{also, end, refused};
 use events::{Event, Reply, kinds};
+use std::io;
 use views::refusal::Verdict;
 
 // A comment is answered by itself.
-pub fn same(line: &[u8]) {
-    io::write_all(1, line);
-    end();
+pub fn same(rt: &impl Print, line: &[u8]) -> io::Result<()> {
+    rt.write_all(line)?;
+    end(rt)
 }
 
-pub fn ok() {
-    io::write_all(1, b"ok");
-    end();
+pub fn ok(rt: &impl Print) -> io::Result<()> {
+    rt.write_all(b"ok")?;
+    end(rt)
 }
 
 // What a call gave.
-pub fn reply(r: Reply) {
+pub fn reply(rt: &impl Print, r: Reply) -> io::Result<()> {
     let v = r.verdict;
     match v {
         Verdict::Refused(x) => {
-            refused(x);
-            end();
+            refused(rt, x)?;
+            end(rt)
         }
         Verdict::Accepted => {
             let e = r.event;
-            event(e);
+            event(rt, e)
         }
     }
 }
 
 // The event by its step's kind, 0 for none.
-fn event(e: Event) {
+fn event(rt: &impl Print, e: Event) -> io::Result<()> {
     let kind = e.kind;
     match kind {
-        kinds::ATTEMPT => attempt(e),
-        kinds::REGISTER => register(e),
-        kinds::SEND => send(e),
-        kinds::HAND => item(b"hand", e),
-        kinds::SAFE => item(b"safe", e),
-        _ => ok(),
+        kinds::ATTEMPT => attempt(rt, e),
+        kinds::REGISTER => register(rt, e),
+        kinds::SEND => send(rt, e),
+        kinds::HAND => item(rt, b"hand", e),
+        kinds::SAFE => item(rt, b"safe", e),
+        _ => ok(rt),
     }
 }
 
 // Whose event it is, and of which view.
-fn whose(e: Event) {
-    also(e.member.0 as u64);
-    also(e.view.id.0 as u64);
+fn whose(rt: &impl Print, e: Event) -> io::Result<()> {
+    also(rt, e.member.0 as u64)?;
+    also(rt, e.view.id.0 as u64)
 }
 
-fn attempt(e: Event) {
-    io::write_all(1, b"attempt");
-    whose(e);
-    also(e.view.set as u64);
-    end();
+fn attempt(rt: &impl Print, e: Event) -> io::Result<()> {
+    rt.write_all(b"attempt")?;
+    whose(rt, e)?;
+    also(rt, e.view.set as u64)?;
+    end(rt)
 }
 
-fn register(e: Event) {
-    io::write_all(1, b"register");
-    whose(e);
-    end();
+fn register(rt: &impl Print, e: Event) -> io::Result<()> {
+    rt.write_all(b"register")?;
+    whose(rt, e)?;
+    end(rt)
 }
 
-fn send(e: Event) {
-    io::write_all(1, b"send");
-    whose(e);
-    also(e.entry);
-    end();
+fn send(rt: &impl Print, e: Event) -> io::Result<()> {
+    rt.write_all(b"send")?;
+    whose(rt, e)?;
+    also(rt, e.entry)?;
+    end(rt)
 }
 
-fn item(name: &[u8], e: Event) {
-    io::write_all(1, name);
-    whose(e);
-    also(e.sender.0 as u64);
-    also(e.entry);
-    end();
+fn item(rt: &impl Print, name: &[u8], e: Event) -> io::Result<()> {
+    rt.write_all(name)?;
+    whose(rt, e)?;
+    also(rt, e.sender.0 as u64)?;
+    also(rt, e.entry)?;
+    end(rt)
 }

@@ -1,33 +1,34 @@
 // Answers to standard output: numbers, bytes in hexadecimal, refusals.
 ghost use Rattle.std.specs.Prelude.{◌<◌, ◌/◌, ◌%◌, ◌≡◌};
-ghost use Rattle.io.specs.Digits.{hex_digit_ascii};
+ghost use Rattle.test_script.specs.ShowParts.{hex_digit_ascii};
 
+use std::io;
 use views::refusal::Refusal;
 
-pub fn number(x: u64) {
-    io::print_decimal(1, x);
+pub fn number(rt: &impl Print, x: u64) -> io::Result<()> {
+    print!(rt; "{x}")
 }
 
 // One number more on the line.
-pub fn also(x: u64) {
-    io::write_all(1, b" ");
-    number(x);
+pub fn also(rt: &impl Print, x: u64) -> io::Result<()> {
+    rt.write_all(b" ")?;
+    number(rt, x)
 }
 
-pub fn refused(r: Refusal) {
-    io::write_all(1, b"refused");
-    also(views::refusal::number(r) as u64);
+pub fn refused(rt: &impl Print, r: Refusal) -> io::Result<()> {
+    rt.write_all(b"refused")?;
+    also(rt, views::refusal::number(r) as u64)
 }
 
 // No word of the program's.
-pub fn unreadable() {
-    io::write_all(1, b"unreadable");
-    end();
+pub fn unreadable(rt: &impl Print) -> io::Result<()> {
+    rt.write_all(b"unreadable")?;
+    end(rt)
 }
 
 // The line ends.
-pub fn end() {
-    io::write_all(1, b"\n");
+pub fn end(rt: &impl Print) -> io::Result<()> {
+    rt.write_all(b"\n")
 }
 
 fn digit(x: u8) -> u8
@@ -50,12 +51,13 @@ fn low(c: u8) -> u8
 }
 
 // Bytes in hexadecimal.
-pub fn hex(b: &[u8]) {
+pub fn hex(rt: &impl Print, b: &[u8]) -> io::Result<()> {
     let mut i: usize = 0;
     while i < b.len() {
         let c = b[i];
         let pair = [high(c), low(c)];
-        io::write_all(1, &pair);
+        rt.write_all(&pair)?;
         i += 1;
     }
+    Ok(())
 }

@@ -14,33 +14,44 @@ ghost use Rattle.test_script.specs.OperandParts.{byte_word};
 
 use crate::desk::{BOOKS, Desk, ROOM, SLIP};
 use crate::word::Word;
+use std::io;
 use views::Member;
 
 // How many bytes of standard input are read.
 const INPUT: usize = 1048576;
 
-fn main() {
-    let mut input = [0u8; INPUT];
+fn main(rt: HostRuntime) -> io::Result<()> {
+    let mut input = vec![in rt.alloc(); 0u8; INPUT]?;
     let mut books = [0u8; BOOKS * ROOM];
     let mut slips = [0u8; BOOKS * SLIP];
-    table(&mut input, &mut books, &mut slips);
+    table(&rt, &mut input, &mut books, &mut slips)
 }
 
 // The books lie behind each other, and so do the slips: what each book last passed.
-fn table(input: &mut [u8; INPUT], books: &mut [u8; BOOKS * ROOM], slips: &mut [u8; BOOKS * SLIP]) {
-    run(input, books, slips);
+fn table(
+    rt: &(impl Input + Print),
+    input: &mut [u8],
+    books: &mut [u8; BOOKS * ROOM],
+    slips: &mut [u8; BOOKS * SLIP],
+) -> io::Result<()> {
+    run(rt, input, books, slips)
 }
 
-fn run(input: &mut [u8], books: &mut [u8], slips: &mut [u8])
+fn run(
+    rt: &(impl Input + Print),
+    input: &mut [u8],
+    books: &mut [u8],
+    slips: &mut [u8],
+) -> io::Result<()>
     requires books_len { length books.old ≡ 20960 }
     requires slips_len { length slips.old ≡ 800 }
 {
-    let n = io::read_full(0, input);
-    lines(&input[..n], books, slips);
+    let n = test_script::input::read_full(rt, input)?;
+    lines(rt, &input[..n], books, slips)
 }
 
 // One answer to each line.
-fn lines(s: &[u8], books: &mut [u8], slips: &mut [u8])
+fn lines(rt: &impl Print, s: &[u8], books: &mut [u8], slips: &mut [u8]) -> io::Result<()>
     requires books_len { length books.old ≡ 20960 }
     requires slips_len { length slips.old ≡ 800 }
 {
@@ -48,12 +59,19 @@ fn lines(s: &[u8], books: &mut [u8], slips: &mut [u8])
     let mut at = 0;
     while at < s.len() {
         let end = test_script::parse::line_end(s, at);
-        d = answer(&s[at..end], books, slips, d);
+        d = answer(rt, &s[at..end], books, slips, d)?;
         at = test_script::parse::line_after(s, end);
     }
+    Ok(())
 }
 
-fn answer(line: &[u8], books: &mut [u8], slips: &mut [u8], d: Desk) -> Desk
+fn answer(
+    rt: &impl Print,
+    line: &[u8],
+    books: &mut [u8],
+    slips: &mut [u8],
+    d: Desk,
+) -> io::Result<Desk>
     requires books_len { length books.old ≡ 20960 }
     requires slips_len { length slips.old ≡ 800 }
 {
@@ -61,39 +79,39 @@ fn answer(line: &[u8], books: &mut [u8], slips: &mut [u8], d: Desk) -> Desk
     let w = crate::word::of(line);
     match w {
         Word::Unknown => {
-            test_script::show::unreadable();
-            d
+            test_script::show::unreadable(rt)?;
+            Ok(d)
         }
         Word::Comment => {
-            test_script::reply::same(line);
-            d
+            test_script::reply::same(rt, line)?;
+            Ok(d)
         }
         Word::Lend => {
-            test_script::reply::ok();
-            crate::desk::lend(d, k, line)
+            test_script::reply::ok(rt)?;
+            Ok(crate::desk::lend(d, k, line))
         }
         Word::Poke => {
-            poke(books, k, line);
-            d
+            poke(rt, books, k, line)?;
+            Ok(d)
         }
-        Word::Start => start(books, k, line, d),
-        Word::Pass => pass(books, slips, k, line, d),
+        Word::Start => start(rt, books, k, line, d),
+        Word::Pass => pass(rt, books, slips, k, line, d),
         Word::Packet => {
-            packet(books, k, line, d);
-            d
+            packet(rt, books, k, line, d)?;
+            Ok(d)
         }
         Word::Relay => {
-            relay(books, slips, k, line, d);
-            d
+            relay(rt, books, slips, k, line, d)?;
+            Ok(d)
         }
         Word::Step(kind) => {
-            step(books, k, line, d, kind);
-            d
+            step(rt, books, k, line, d, kind)?;
+            Ok(d)
         }
     }
 }
 
-fn poke(books: &mut [u8], k: usize, line: &[u8])
+fn poke(rt: &impl Print, books: &mut [u8], k: usize, line: &[u8]) -> io::Result<()>
     requires k_bound { k < 4 }
     requires books_len { length books.old ≡ 20960 }
     ensures { books.new ≡ set books.old
@@ -101,21 +119,28 @@ fn poke(books: &mut [u8], k: usize, line: &[u8])
 {
     let at = k * ROOM + test_script::operand::upto(line, 2, ROOM - 1);
     books[at] = test_script::operand::byte(line, 3);
-    test_script::reply::ok();
+    test_script::reply::ok(rt)
 }
 
-fn start(books: &mut [u8], k: usize, line: &[u8], d: Desk) -> Desk
+fn start(rt: &impl Print, books: &mut [u8], k: usize, line: &[u8], d: Desk) -> io::Result<Desk>
     requires k_bound { k < 4 }
     requires books_len { length books.old ≡ 20960 }
 {
     let from = k * ROOM;
     let to = from + crate::desk::lent(d, k);
     let r = crate::call::start(&mut books[from..to], line);
-    test_script::reply::reply(r);
-    crate::desk::started(d, k, line, r)
+    test_script::reply::reply(rt, r)?;
+    Ok(crate::desk::started(d, k, line, r))
 }
 
-fn pass(books: &mut [u8], slips: &mut [u8], k: usize, line: &[u8], d: Desk) -> Desk
+fn pass(
+    rt: &impl Print,
+    books: &mut [u8],
+    slips: &mut [u8],
+    k: usize,
+    line: &[u8],
+    d: Desk,
+) -> io::Result<Desk>
     requires k_bound { k < 4 }
     requires books_len { length books.old ≡ 20960 }
     requires slips_len { length slips.old ≡ 800 }
@@ -125,12 +150,19 @@ fn pass(books: &mut [u8], slips: &mut [u8], k: usize, line: &[u8], d: Desk) -> D
     let at = k * SLIP;
     let end = at + test_script::operand::upto(line, 2, SLIP);
     let p = member::messages::pass::pass(&mut books[from..to], &mut slips[at..end]);
-    crate::show::passed(p, &slips[at..end]);
-    crate::desk::passed(d, k, p)
+    crate::show::passed(rt, p, &slips[at..end])?;
+    Ok(crate::desk::passed(d, k, p))
 }
 
 // What one book last passed is delivered to another.
-fn relay(books: &mut [u8], slips: &mut [u8], k: usize, line: &[u8], d: Desk)
+fn relay(
+    rt: &impl Print,
+    books: &mut [u8],
+    slips: &mut [u8],
+    k: usize,
+    line: &[u8],
+    d: Desk,
+) -> io::Result<()>
     requires k_bound { k < 4 }
     requires books_len { length books.old ≡ 20960 }
     requires slips_len { length slips.old ≡ 800 }
@@ -145,25 +177,32 @@ fn relay(books: &mut [u8], slips: &mut [u8], k: usize, line: &[u8], d: Desk)
         &slips[at..end],
         Member(crate::desk::own(d, j)),
     );
-    test_script::reply::reply(r);
+    test_script::reply::reply(rt, r)
 }
 
-fn step(books: &mut [u8], k: usize, line: &[u8], d: Desk, kind: u8)
+fn step(
+    rt: &impl Print,
+    books: &mut [u8],
+    k: usize,
+    line: &[u8],
+    d: Desk,
+    kind: u8,
+) -> io::Result<()>
     requires k_bound { k < 4 }
     requires books_len { length books.old ≡ 20960 }
 {
     let from = k * ROOM;
     let to = from + crate::desk::lent(d, k);
     let r = crate::call::step(&mut books[from..to], line, kind);
-    test_script::reply::reply(r);
+    test_script::reply::reply(rt, r)
 }
 
-fn packet(books: &mut [u8], k: usize, line: &[u8], d: Desk)
+fn packet(rt: &impl Print, books: &mut [u8], k: usize, line: &[u8], d: Desk) -> io::Result<()>
     requires k_bound { k < 4 }
     requires books_len { length books.old ≡ 20960 }
 {
     let from = k * ROOM;
     let to = from + crate::desk::lent(d, k);
     let r = crate::call::packet(&mut books[from..to], line);
-    crate::show::delivered(r);
+    crate::show::delivered(rt, r)
 }

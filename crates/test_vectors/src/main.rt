@@ -11,68 +11,73 @@ ghost use Rattle.std.specs.Prelude.{◌≡◌, length};
 ghost use Rattle.views.specs.Refusals.{left};
 ghost use Rattle.wire.specs.Writer.{frame_bytes, write_verdict, overwritten};
 
+use std::io;
 use wire::Frame;
 
-fn main() {
-    let mut input = io::large_buffer();
-    let n = io::read_full(0, &mut input);
-    run(&input[..n]);
+// How many bytes of standard input are read.
+const INPUT: usize = 65536;
+
+fn main(rt: HostRuntime) -> io::Result<()> {
+    let mut input = vec![in rt.alloc(); 0u8; INPUT]?;
+    let n = test_script::input::read_full(&rt, &mut input)?;
+    run(&rt, &input[..n])
 }
 
 // One answer to each line.
-fn run(s: &[u8]) {
+fn run(rt: &impl Print, s: &[u8]) -> io::Result<()> {
     let mut at = 0;
     while at < s.len() {
         let end = test_script::parse::line_end(s, at);
-        answer(&s[at..end]);
+        answer(rt, &s[at..end])?;
         at = test_script::parse::line_after(s, end);
     }
+    Ok(())
 }
 
 // The first letter tells the word.
-fn answer(line: &[u8]) {
+fn answer(rt: &impl Print, line: &[u8]) -> io::Result<()> {
     let letter = test_script::parse::byte(line, 0);
     if letter == b'r' {
-        read_line(line);
+        read_line(rt, line)
     } else if letter == b'f' {
-        front_line(line);
+        front_line(rt, line)
     } else if letter == b'w' {
-        write_line(line);
+        write_line(rt, line)
     } else {
-        test_script::show::unreadable();
+        test_script::show::unreadable(rt)
     }
 }
 
-fn read_line(line: &[u8]) {
+fn read_line(rt: &impl Print, line: &[u8]) -> io::Result<()> {
     let mut bytes = [0u8; 256];
     let n = test_script::parse::unhex(line, 5, &mut bytes);
     let r = wire::single::read(&bytes[..n]);
-    crate::show::reading(r);
+    crate::show::reading(rt, r)
 }
 
-fn front_line(line: &[u8]) {
+fn front_line(rt: &impl Print, line: &[u8]) -> io::Result<()> {
     let mut bytes = [0u8; 256];
     let n = test_script::parse::unhex(line, 6, &mut bytes);
     let r = wire::reader::read_front(&bytes[..n]);
-    crate::show::reading(r);
+    crate::show::reading(rt, r)
 }
 
-fn write_line(line: &[u8]) {
+fn write_line(rt: &impl Print, line: &[u8]) -> io::Result<()> {
     let mut xs = [0u64; 640];
     let n = crate::parse::numbers(line, 6, &mut xs);
     let f = crate::parse::frame(&xs, n);
     let mut buffer = [238u8; 200];
     let room = test_script::parse::front(xs[0], &buffer);
-    write_frame(&mut buffer[..room], f);
+    write_frame(rt, &mut buffer[..room], f)
 }
 
 // The whole buffer is shown, so that what lies behind the message is seen to stay.
-fn write_frame(b: &mut [u8], f: Frame)
+fn write_frame(rt: &impl Print, b: &mut [u8], f: Frame) -> io::Result<()>
     ensures { b.new ≡ left (write_verdict f (length b.old))
         (overwritten (frame_bytes f) b.old) b.old }
 {
     let w = wire::writer::write(b, f);
-    crate::show::written(w);
-    test_script::show::hex(b);
-    test_script::show::end();
+    crate::show::written(rt, w)?;
+    test_script::show::hex(rt, b)?;
+    test_script::show::end(rt)
 }

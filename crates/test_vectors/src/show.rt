@@ -1,81 +1,83 @@
 // Answers: the verdict, or the message in words and decimal numbers.
+use std::io;
 use test_script::show::{also, number, refused};
 use views::View;
 use views::list::Views;
 use views::refusal::Verdict;
 use wire::{Frame, Message, Reading, Written};
 
-fn view(v: View) {
-    also(v.id.0 as u64);
-    io::write_all(1, b":");
-    number(v.set as u64);
+fn view(rt: &impl Print, v: View) -> io::Result<()> {
+    also(rt, v.id.0 as u64)?;
+    rt.write_all(b":")?;
+    number(rt, v.set as u64)
 }
 
-fn all(list: Views) {
+fn all(rt: &impl Print, list: Views) -> io::Result<()> {
     let n = views::list::used(list.count);
     let mut i = 0;
     while i < n {
         let v = list.at[i];
-        view(v);
+        view(rt, v)?;
         i += 1;
     }
+    Ok(())
 }
 
-fn frame(f: Frame) {
+fn frame(rt: &impl Print, f: Frame) -> io::Result<()> {
     let g = f.view.0 as u64;
     let list = f.views;
     let m = f.message;
     match m {
         Message::Client(x) => {
-            io::write_all(1, b"client");
-            also(g);
-            also(x);
+            rt.write_all(b"client")?;
+            also(rt, g)?;
+            also(rt, x)
         }
         Message::Info => {
-            io::write_all(1, b"info");
-            also(g);
-            all(list);
+            rt.write_all(b"info")?;
+            also(rt, g)?;
+            all(rt, list)
         }
         Message::Registered => {
-            io::write_all(1, b"registered");
-            also(g);
+            rt.write_all(b"registered")?;
+            also(rt, g)
         }
         Message::Told(k) => {
-            io::write_all(1, b"told");
-            also(g);
-            also(k as u64);
+            rt.write_all(b"told")?;
+            also(rt, g)?;
+            also(rt, k as u64)
         }
     }
 }
 
 // What reading gave.
-pub fn reading(r: Reading) {
+pub fn reading(rt: &impl Print, r: Reading) -> io::Result<()> {
     let verdict = r.verdict;
     match verdict {
         Verdict::Refused(x) => {
-            refused(x);
+            refused(rt, x)?;
         }
         Verdict::Accepted => {
             let f = r.frame;
-            frame(f);
-            io::write_all(1, b" taken");
-            also(r.taken as u64);
+            frame(rt, f)?;
+            rt.write_all(b" taken")?;
+            also(rt, r.taken as u64)?;
         }
     }
-    test_script::show::end();
+    test_script::show::end(rt)
 }
 
 // What writing gave, before the buffer.
-pub fn written(w: Written) {
+pub fn written(rt: &impl Print, w: Written) -> io::Result<()> {
     let verdict = w.verdict;
     match verdict {
         Verdict::Refused(x) => {
-            refused(x);
+            refused(rt, x)?;
         }
         Verdict::Accepted => {
-            io::write_all(1, b"wrote");
-            also(w.length as u64);
+            rt.write_all(b"wrote")?;
+            also(rt, w.length as u64)?;
         }
     }
-    io::write_all(1, b" ");
+    rt.write_all(b" ")
 }

@@ -5,7 +5,7 @@ use lib.ListN.{length}
 use Rattle.test_group.proofs.lines.Given as goal
 
 abbrev pub invariant-loop-at : goal.invariant-loop-at
-invariant-loop-at l = (l.at ≤ length l.s) × (length l.books ≡ length l.initial.books) × (length l.queues ≡ length l.initial.queues)
+invariant-loop-at g l = (l.at ≤ length l.s) × (length l.books ≡ length l.initial.books) × (length l.queues ≡ length l.initial.queues)
 
 abbrev pub decreases-loop-at : goal.decreases-loop-at
-decreases-loop-at l = length l.s - l.at
+decreases-loop-at g l = length l.s - l.at

@@ -3,4 +3,4 @@ use mathlib.Core.Path.{refl}
 use Rattle.test_stories.proofs.poke.Goals as goal
 
 pub returns : goal.returns
-returns c = rw (c.upto.ensures, c.byte.ensures) refl
+returns g c = rw (c.upto.ensures, c.byte.ensures) refl

@@ -1,6 +1,7 @@
 -- By the first letter.
 use mathlib.Core.Path.{◌≡◌, refl, sym, ap, ◌∙◌}
 use Prim.Native.Nat.{ℕ}
+use native.Mathlib.Omega.{arith}
 use borrow.Author.Tests.{ne_eqb}
 use Rattle.test_group.specs.declared.word.Word.TheVariants.{Unknown}
 use Rattle.test_group.specs.WordParts.{with_l, by_letters}
@@ -40,4 +41,4 @@ unfolding by_letters
 returns-in-99 c = let e = sym c.byte-first.ensures ∙ c.in-99.is in rw e refl
 
 pub returns-in_default : goal.returns-in_default
-returns-in_default c = none _ _ _ c.byte-first.ensures c.in_default.rest.0.0.0.0.0.0.1 c.in_default.rest.0.0.0.0.0.1 c.in_default.rest.0.0.0.0.1 c.in_default.rest.0.0.0.1 c.in_default.rest.0.0.1 c.in_default.rest.0.1 c.in_default.rest.1
+returns-in_default c = none _ _ _ c.byte-first.ensures (omega arith) (omega arith) (omega arith) (omega arith) (omega arith) (omega arith) (omega arith)

@@ -1,5 +1,6 @@
 -- By the second letter.
 use mathlib.Core.Path.{refl}
+use native.Mathlib.Omega.{arith}
 use borrow.Author.Tests.{ne_eqb}
 use Rattle.test_group.specs.WordParts.{with_l}
 use Rattle.test_group.proofs.word.with_l.Goals as goal
@@ -18,4 +19,4 @@ returns-in-111 c = rw c.in-111.is refl
 
 pub returns-in_default : goal.returns-in_default
 unfolding with_l
-returns-in_default c = rw (ne_eqb c.args.second 101 c.in_default.rest.0.0.1, ne_eqb c.args.second 105 c.in_default.rest.0.1, ne_eqb c.args.second 111 c.in_default.rest.1) refl
+returns-in_default c = rw (ne_eqb c.args.second 101 (omega arith), ne_eqb c.args.second 105 (omega arith), ne_eqb c.args.second 111 (omega arith)) refl

@@ -1,6 +1,6 @@
 -- The number so far, with the digits that are left behind it, is the number of the word.
 use mathlib.Core.Path.{sym, ap, ◌∙◌}
-use Prim.Native.Nat.{ℕ, ◌+◌, ◌-◌}
+use Prim.Native.Nat.{ℕ, ◌+◌}
 use native.Mathlib.Omega.{arith}
 use lib.ListN.{drop}
 use Rattle.test_script.specs.ParseParts.{word_number, number_from}

@@ -1,4 +1,5 @@
 -- By the number of the kind.
+use native.Mathlib.Omega.{arith}
 use Rattle.test_stories.specs.CallParts.{step_call, step_bytes}
 use Rattle.test_stories.proofs.StoryLaws.{join-said, send-said, collect-said}
 use Rattle.test_stories.proofs.call.step.Goals as goal
@@ -34,4 +35,4 @@ unfolding step_call step_bytes
 returns-in-11 c = rw c.in-11.is c.safe.ensures
 
 pub returns-in_default : goal.returns-in_default
-returns-in_default c = collect-said c.args.kind c.args.line.now c.args.b.now _ _ c.in_default.rest.0.0.0.0.0.0.0.1 c.in_default.rest.0.0.0.0.0.0.1 c.in_default.rest.0.0.0.0.0.1 c.in_default.rest.0.0.0.0.1 c.in_default.rest.0.0.0.1 c.in_default.rest.0.0.1 c.in_default.rest.0.1 c.in_default.rest.1 c.collect.ensures
+returns-in_default c = collect-said c.args.kind c.args.line.now c.args.b.now _ _ (omega arith) (omega arith) (omega arith) (omega arith) (omega arith) (omega arith) (omega arith) (omega arith) c.collect.ensures

@@ -1,5 +1,6 @@
 -- By the first letter.
 use mathlib.Core.Path.{refl, sym, ap, ◌∙◌}
+use native.Mathlib.Omega.{arith}
 use Rattle.test_stories.specs.WordParts.{with_p, with_r, with_s, by_letters}
 use Rattle.test_stories.proofs.StoryLaws.{letters-none}
 use Rattle.test_stories.proofs.word.of.Goals as goal
@@ -49,4 +50,4 @@ unfolding by_letters
 returns-in-115 c = let e = sym c.byte-first.ensures ∙ c.in-115.is in c.with_s.ensures ∙ rw e (ap with_s c.byte-second.ensures)
 
 pub returns-in_default : goal.returns-in_default
-returns-in_default c = letters-none _ _ _ _ c.byte-first.ensures c.in_default.rest.0.0.0.0.0.0.0.0.0.0.1 c.in_default.rest.0.0.0.0.0.0.0.0.0.1 c.in_default.rest.0.0.0.0.0.0.0.0.1 c.in_default.rest.0.0.0.0.0.0.0.1 c.in_default.rest.0.0.0.0.0.0.1 c.in_default.rest.0.0.0.0.0.1 c.in_default.rest.0.0.0.0.1 c.in_default.rest.0.0.0.1 c.in_default.rest.0.0.1 c.in_default.rest.0.1 c.in_default.rest.1
+returns-in_default c = letters-none _ _ _ _ c.byte-first.ensures (omega arith) (omega arith) (omega arith) (omega arith) (omega arith) (omega arith) (omega arith) (omega arith) (omega arith) (omega arith) (omega arith)

@@ -1,5 +1,6 @@
 -- By the third letter.
 use mathlib.Core.Path.{refl}
+use native.Mathlib.Omega.{arith}
 use borrow.Author.Tests.{ne_eqb}
 use Rattle.test_stories.specs.WordParts.{with_p}
 use Rattle.test_stories.proofs.word.with_p.Goals as goal
@@ -18,4 +19,4 @@ returns-in-107 c = rw c.in-107.is refl
 
 pub returns-in_default : goal.returns-in_default
 unfolding with_p
-returns-in_default c = rw (ne_eqb c.args.third 115 c.in_default.rest.0.0.1, ne_eqb c.args.third 99 c.in_default.rest.0.1, ne_eqb c.args.third 107 c.in_default.rest.1) refl
+returns-in_default c = rw (ne_eqb c.args.third 115 (omega arith), ne_eqb c.args.third 99 (omega arith), ne_eqb c.args.third 107 (omega arith)) refl

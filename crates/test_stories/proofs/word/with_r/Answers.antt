@@ -1,5 +1,6 @@
 -- By the third letter.
 use mathlib.Core.Path.{refl}
+use native.Mathlib.Omega.{arith}
 use borrow.Author.Tests.{ne_eqb}
 use Rattle.test_stories.specs.WordParts.{with_r}
 use Rattle.test_stories.proofs.word.with_r.Goals as goal
@@ -14,4 +15,4 @@ returns-in-108 c = rw c.in-108.is refl
 
 pub returns-in_default : goal.returns-in_default
 unfolding with_r
-returns-in_default c = rw (ne_eqb c.args.third 103 c.in_default.rest.0.1, ne_eqb c.args.third 108 c.in_default.rest.1) refl
+returns-in_default c = rw (ne_eqb c.args.third 103 (omega arith), ne_eqb c.args.third 108 (omega arith)) refl

@@ -1,5 +1,6 @@
 -- By the second letter.
 use mathlib.Core.Path.{refl}
+use native.Mathlib.Omega.{arith}
 use borrow.Author.Tests.{ne_eqb}
 use Rattle.test_stories.specs.WordParts.{with_s}
 use Rattle.test_stories.proofs.word.with_s.Goals as goal
@@ -18,4 +19,4 @@ returns-in-97 c = rw c.in-97.is refl
 
 pub returns-in_default : goal.returns-in_default
 unfolding with_s
-returns-in_default c = rw (ne_eqb c.args.second 116 c.in_default.rest.0.0.1, ne_eqb c.args.second 101 c.in_default.rest.0.1, ne_eqb c.args.second 97 c.in_default.rest.1) refl
+returns-in_default c = rw (ne_eqb c.args.second 116 (omega arith), ne_eqb c.args.second 101 (omega arith), ne_eqb c.args.second 97 (omega arith)) refl

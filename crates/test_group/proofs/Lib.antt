@@ -1,2 +1,0 @@
-pub mod LocalList
-pub mod Front

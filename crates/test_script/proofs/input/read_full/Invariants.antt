@@ -1,0 +1,9 @@
+-- The bytes read so far stand at the front of the buffer.
+use Rattle.std.specs.Prelude.{◌-◌, ◌≤◌, length}
+use Rattle.test_script.proofs.input.read_full.Given as goal
+
+abbrev pub invariant-loop-done : goal.invariant-loop-done
+invariant-loop-done g l = l.done ≤ length l.bytes
+
+abbrev pub decreases-loop-done : goal.decreases-loop-done
+decreases-loop-done g l = length l.bytes - l.done
