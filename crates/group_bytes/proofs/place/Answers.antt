@@ -10,8 +10,9 @@ pub loop-i-init : goal.loop-i-init
 loop-i-init c =
     let a = c.args in
     elim c.if-g-n.branch [
-    then-g-n w ↦ (omega arith, none-past a.list.now a.n c.requires.1 a.id.0 c.if-g-n.i (omega arith))
-    | else-g-n w ↦ (omega arith, λ k l m s. omega arith) ]
+      | then-g-n w ↦ (omega arith, none-past a.list.now a.n c.requires.1 a.id.0 c.if-g-n.i (omega arith))
+      | else-g-n w ↦ (omega arith, λ k l m s. omega arith)
+    ]
 
 pub get_number-requires : goal.get_number-requires
 get_number-requires c = (omega (arith, c.requires.0), omega arith)

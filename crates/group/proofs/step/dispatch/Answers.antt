@@ -135,4 +135,4 @@ returns-in-0 c =
     let a = c.args in
     let r : Ranges = record { list = a.list.now; books = a.all.now; queues = a.queues.now } in
     unknown-went r c.requires (asked a.kind a.first a.second)
-        (elim c.in-0-1.branch [ in-0-1 w ↦ inl (omega arith) | in_default-1 w ↦ inr (omega arith) ]) _ c.refuse.ensures
+    (elim c.in-0-1.branch [ in-0-1 w ↦ inl (omega arith) | in_default-1 w ↦ inr (omega arith) ]) _ c.refuse.ensures

@@ -49,8 +49,9 @@ loop-p-preserved c =
     let seat = c.load_seat-seat in
     below_more _ l.p l.invariant
     (elim c.if-seat.branch [
-    then-seat+else-seat-id w ↦ other-joined a.all.now l.p a.id.0 seat.result seat.ensures w.if-seat.true w.if-seat-id.false
-    | else-seat w ↦ none-there a.all.now l.p a.id.0 seat.result seat.ensures w.if-seat.false ])
+      | then-seat+else-seat-id w ↦ other-joined a.all.now l.p a.id.0 seat.result seat.ensures w.if-seat.true w.if-seat-id.false
+      | else-seat w ↦ none-there a.all.now l.p a.id.0 seat.result seat.ensures w.if-seat.false
+    ])
 
 pub returns : goal.returns
 unfolding none_at

@@ -53,10 +53,11 @@ loop-p-preserved c =
     let inside = sym c.contains.ensures in
     below_more _ l.p l.invariant
     (elim c.if-contains.branch [
-    then-contains+else-not-passes_book w ↦
-        (let met = part-passed a.all.now l.p a.v ∙ sym w.passes_book.ensures ∙ not-false _ w.if-not-passes_book.false-raw in
-        asked-met a.v.set (passed a.all.now a.v) l.p (inside ∙ w.if-contains.true) met)
-    | else-contains w ↦ unasked a.v.set (passed a.all.now a.v) l.p (inside ∙ w.if-contains.false) ])
+      | then-contains+else-not-passes_book w ↦
+          (let met = part-passed a.all.now l.p a.v ∙ sym w.passes_book.ensures ∙ not-false _ w.if-not-passes_book.false-raw in
+          asked-met a.v.set (passed a.all.now a.v) l.p (inside ∙ w.if-contains.true) met)
+      | else-contains w ↦ unasked a.v.set (passed a.all.now a.v) l.p (inside ∙ w.if-contains.false)
+    ])
 
 pub returns : goal.returns
 unfolding passes_at

@@ -35,10 +35,11 @@ loop-p-preserved c =
     let d = ranges l.list l.all l.queues in
     let inside = sym c.contains.ensures in
     elim c.if-contains.branch [
-    then-contains+in-Accepted w ↦ rw (w.list-is, w.all-is, w.queues-is)
-        (eaches-go r a.kind a.k a.v d l.p l.invariant.0 (omega arith) (inside ∙ w.if-contains.true) _ _ w.repeat-x.ensures w.in-Accepted.is, search rules, search rules, search rules, λ k. w.repeat-x.ensures.stays (l.invariant.4 k))
-    | else-contains w ↦ rw (w.list-is, w.all-is, w.queues-is)
-        (eaches-pass r a.kind a.k a.v d l.p l.invariant.0 (omega arith) (inside ∙ w.if-contains.false), l.invariant.1, l.invariant.2, l.invariant.3, l.invariant.4) ]
+      | then-contains+in-Accepted w ↦ rw (w.list-is, w.all-is, w.queues-is)
+          (eaches-go r a.kind a.k a.v d l.p l.invariant.0 (omega arith) (inside ∙ w.if-contains.true) _ _ w.repeat-x.ensures w.in-Accepted.is, search rules, search rules, search rules, λ k. w.repeat-x.ensures.stays (l.invariant.4 k))
+      | else-contains w ↦ rw (w.list-is, w.all-is, w.queues-is)
+          (eaches-pass r a.kind a.k a.v d l.p l.invariant.0 (omega arith) (inside ∙ w.if-contains.false), l.invariant.1, l.invariant.2, l.invariant.3, l.invariant.4)
+    ]
 
 pub returns : goal.returns
 returns c =

@@ -65,12 +65,13 @@ loop-i-preserved c =
     let v = c.load_view-v in
     let w = c.load_view-w in
     elim c.if-v-w.branch [
-    then-v-w+else-v-w-2+else-v-w-3 x ↦
-        (let next : c.if-v-w.i ≡ l.i + 1 = x.i-is in
-        (omega (arith, next, more), l.invariant.1 ∙ walk-on e.args.list.now e.args.made e.args.b.now e.args.from e.args.count l.j l.i room more e.requires.2 _ _ v.ensures w.ensures (one-view _ _ x.if-v-w-2.false x.if-v-w-3.false) ∙ ap known (sym next)))
-    | else-v-w x ↦
-        (let same : c.if-v-w.i ≡ l.i = x.i-is in
-        (omega (arith, same, more), l.invariant.1 ∙ walk-skip e.args.list.now e.args.made e.args.b.now e.args.from e.args.count l.j l.i room more e.requires.2 _ _ v.ensures w.ensures x.if-v-w.false ∙ ap known (sym same))) ]
+      | then-v-w+else-v-w-2+else-v-w-3 x ↦
+          (let next : c.if-v-w.i ≡ l.i + 1 = x.i-is in
+          (omega (arith, next, more), l.invariant.1 ∙ walk-on e.args.list.now e.args.made e.args.b.now e.args.from e.args.count l.j l.i room more e.requires.2 _ _ v.ensures w.ensures (one-view _ _ x.if-v-w-2.false x.if-v-w-3.false) ∙ ap known (sym next)))
+      | else-v-w x ↦
+          (let same : c.if-v-w.i ≡ l.i = x.i-is in
+          (omega (arith, same, more), l.invariant.1 ∙ walk-skip e.args.list.now e.args.made e.args.b.now e.args.from e.args.count l.j l.i room more e.requires.2 _ _ v.ensures w.ensures x.if-v-w.false ∙ ap known (sym same)))
+    ]
 
 pub returns : goal.returns
 returns c =

@@ -28,12 +28,17 @@ loop-i-preserved-then-infos-info c =
     let few = infos-few q a.c l.i in
     let turn : l.i + 1 ≤ 128 = omega (arith, c.requires.1) in
     let worst = worst-is q a.c a.n l.i _ _ _ l.invariant.1 c.fault-wrong.ensures
-        (elim c.if-worst-wrong.branch [
-        then-worst-wrong w ↦ inl (w.if-worst-wrong.true, w.worst-is)
-        | else-worst-wrong w ↦ inr (w.if-worst-wrong.false, w.worst-is) ]) in
-    (omega arith, worst, elim c.if-kind-eq-INFO.branch [
-        then-kind-eq-INFO w ↦ omega (arith, w.info-is, infos-info q a.c l.i w.if-kind-eq-INFO.true)
-        | else-kind-eq-INFO w ↦ absurd (omega arith) ])
+    (elim c.if-worst-wrong.branch [
+      | then-worst-wrong w ↦ inl (w.if-worst-wrong.true, w.worst-is)
+      | else-worst-wrong w ↦ inr (w.if-worst-wrong.false, w.worst-is)
+    ]) in (
+      omega arith,
+      worst,
+      elim c.if-kind-eq-INFO.branch [
+        | then-kind-eq-INFO w ↦ omega (arith, w.info-is, infos-info q a.c l.i w.if-kind-eq-INFO.true)
+        | else-kind-eq-INFO w ↦ absurd (omega arith)
+      ],
+    )
 
 pub loop-i-preserved : goal.loop-i-preserved
 loop-i-preserved c =
@@ -43,12 +48,17 @@ loop-i-preserved c =
     let few = infos-few q a.c l.i in
     let turn : l.i + 1 ≤ 128 = omega (arith, c.requires.1) in
     let worst = worst-is q a.c a.n l.i _ _ _ l.invariant.1 c.fault-wrong.ensures
-        (elim c.if-worst-wrong.branch [
-        then-worst-wrong w ↦ inl (w.if-worst-wrong.true, w.worst-is)
-        | else-worst-wrong w ↦ inr (w.if-worst-wrong.false, w.worst-is) ]) in
-    (omega arith, worst, elim c.if-kind-eq-INFO.branch [
-        then-kind-eq-INFO w ↦ absurd (omega (arith, few, l.invariant.2))
-        | else-kind-eq-INFO w ↦ l.invariant.2 ∙ sym (infos-other q a.c l.i w.if-kind-eq-INFO.false) ])
+    (elim c.if-worst-wrong.branch [
+      | then-worst-wrong w ↦ inl (w.if-worst-wrong.true, w.worst-is)
+      | else-worst-wrong w ↦ inr (w.if-worst-wrong.false, w.worst-is)
+    ]) in (
+      omega arith,
+      worst,
+      elim c.if-kind-eq-INFO.branch [
+        | then-kind-eq-INFO w ↦ absurd (omega (arith, few, l.invariant.2))
+        | else-kind-eq-INFO w ↦ l.invariant.2 ∙ sym (infos-other q a.c l.i w.if-kind-eq-INFO.false)
+      ],
+    )
 
 pub overflow_cast-result : goal.overflow_cast-result
 overflow_cast-result c =
