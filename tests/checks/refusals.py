@@ -13,6 +13,7 @@ import sys
 ROOT = pathlib.Path(__file__).resolve().parents[2]
 LIST = 'docs/REFUSALS.md'
 WIDTH = 120
+OF_IMPORTS = 114  # their lines are a little shorter
 
 
 class Refusal:
@@ -79,7 +80,7 @@ def imports(now):
     """The imports of the variants, as many to a line as fit."""
     front, lines = now[:now.index('{') + 1], []
     for r in REFUSALS:
-        if not lines or len(lines[-1]) + len(r.name) + 3 > WIDTH:
+        if not lines or len(lines[-1]) + len(r.name) + 3 > OF_IMPORTS:
             lines.append(front + r.name)
         else:
             lines[-1] += ', ' + r.name
@@ -87,18 +88,9 @@ def imports(now):
 
 
 def proof_of_numbers():
-    """The proof of `number`: for each arm that it has its variant, and that the arm gives the variant's number."""
-    def suffix(i, dash='-'):
-        return '' if i == 1 else dash + str(i)
-    numbers = [r.number for r in REFUSALS]
-    text = ''
-    for i in numbers:
-        text += 'enum-told{0} : tie.Need-enum-told{0}\nenum-told{0} c = search needs\n\n'.format(suffix(i))
-    for i in numbers:
-        text += 'returns{0} : tie.Need-returns{0}\nreturns{0} c = sym (ap number_of (c .enum-told{1} .given .1))\n\n'.format(suffix(i), suffix(i, ''))
-    text += 'pub number-spec : {M : Type 1} → statement M\nnumber-spec =\n    tie.close\n    (tie.spec\n'
-    text += '\n'.join('    %s%s' % (need, suffix(i)) for need in ('enum-told', 'returns') for i in numbers)
-    return text + ')\n'
+    """The answers for `number`: in each arm the number is that of the arm's variant."""
+    goals = ('returns-in-' + r.name for r in REFUSALS)
+    return '\n'.join('pub {0} : goal.{0}\n{0} c = sym (ap number_of c.{1}.is)\n'.format(goal, goal[len('returns-'):]) for goal in goals)
 
 
 def c_header():
@@ -168,7 +160,7 @@ PARTS = [
     ('crates/*/src/**/refusal.rt', '    match r {\n', '    }\n', each('        Refusal::{r.name} => {r.number},\n')),
     ('crates/*/specs/**/Refusals.antt', '.Refusal.{Refusal}\n', 'use Rattle.views.specs.declared.refusal.Verdict.{Verdict}\n', imports),
     ('crates/*/specs/**/Refusals.antt', 'number_of : Refusal → ℕ\n', '\n-- 0 for accepted', each('number_of {r.name} = {r.number}\n')),
-    ('crates/*/proofs/**/refusal/number/Proof.antt', '.Tie as tie\n\n', WHOLE, proof_of_numbers()),
+    ('crates/*/proofs/**/refusal/number/Answers.antt', '.number.Goals as goal\n\n', WHOLE, proof_of_numbers()),
     ('crates/*/proofs/**/Numbers.antt', '.Refusal.{Refusal}\n', 'use Rattle.views.specs.Refusals.{number_of}\n', imports),
     ('crates/*/proofs/**/Numbers.antt', 'eqb (number_of r) 0 ≡ false\n', WHOLE, each('never-0 {r.name} = refl\n')),
     ('include/dvs_refusals.h', WHOLE, WHOLE, c_header()),
