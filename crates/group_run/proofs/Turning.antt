@@ -12,7 +12,7 @@ use Rattle.rules.specs.Data.{Step}
 use Rattle.events.specs.declared.Reply.{Reply}
 use Rattle.group_bytes.specs.Groups.{Ranges}
 use Rattle.group_bytes.specs.Steps.{step_ranges, step_reply, last_ranges, replies_of}
-use Rattle.group_bytes.specs.Promises.{Given, AllGiven}
+use Rattle.group_bytes.specs.Promises.{AllGiven}
 use Rattle.group_bytes.proofs.RangesLaws.{same-ranges}
 use Rattle.group_bytes.proofs.GivenSteps.{given-first}
 use Rattle.group.specs.StepCalls.{asked, Went}

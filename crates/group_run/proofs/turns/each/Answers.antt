@@ -1,6 +1,5 @@
 -- `group_run::turns::each` meets its contract. The invariant: i steps are done, and what they left leads to where all of them lead.
 use mathlib.Core.Path.{refl}
-use Prim.Native.Nat.{◌-◌}
 use borrow.Author.Rules.{rules}
 use native.Mathlib.Omega.{arith}
 use Rattle.group_bytes.specs.Groups.{ranges}
