@@ -9,7 +9,8 @@ use Rattle.events.specs.declared.Event.{Event}
 use Rattle.events.specs.declared.Reply.{Reply}
 use Rattle.events.specs.Replies.{happened}
 use Rattle.events.specs.Shown.{shown}
-use Rattle.c_answers.specs.Answers.{event_size, event_bytes, event_kind, event_member, event_view, event_sender, event_entry}
+use Rattle.c_answers.specs.Answers.{event_size, event_bytes, event_kind, event_member}
+use Rattle.c_answers.specs.Answers.{event_view, event_sender, event_entry}
 
 -- ---- steps: kind 1 byte, first operand as an identifier 4, second operand as an entry number 8
 

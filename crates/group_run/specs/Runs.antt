@@ -38,7 +38,8 @@ pub record Ran (n S : ℕ) (r : Ranges) (steps a : List ℕ) (d : Ranges) (e : L
   pub queues : d.queues
       ≡ (left (run_verdict n S r steps a) (last_ranges (start_ranges n S r) (steps_in steps)) r).queues
   -- each step's reply in its record
-  pub answers : e ≡ left (run_verdict n S r steps a) (answers_bytes (replies_of (start_ranges n S r) (steps_in steps))) a
+  pub answers : e
+      ≡ left (run_verdict n S r steps a) (answers_bytes (replies_of (start_ranges n S r) (steps_in steps))) a
   -- demand 3: the events that the answers show are those of a run of Figure 1, and attempted views intersect
   pub promise : v ≡ Accepted → Promised one S (events_in e)
   -- never wedged: the ranges are a sound group, which 4 does not refuse
