@@ -20,7 +20,7 @@ const INPUT: usize = 1048576;
 pub const QUEUES: usize = group_bytes::HEAD + group_bytes::TABLE * limits::VIEWS;
 
 fn main(rt: HostRuntime) -> io::Result<()> {
-    let mut input = vec![in rt.alloc(); 0u8; INPUT]?;
+    let mut input = [0u8; INPUT];
     let mut books = [0u8; group_bytes::BOOKS];
     let mut queues = [0u8; QUEUES];
     table(&rt, &mut input, &mut books, &mut queues)
@@ -28,7 +28,7 @@ fn main(rt: HostRuntime) -> io::Result<()> {
 
 fn table(
     rt: &(impl Input + Print),
-    input: &mut [u8],
+    input: &mut [u8; INPUT],
     books: &mut [u8; group_bytes::BOOKS],
     queues: &mut [u8; QUEUES],
 ) -> io::Result<()> {

@@ -21,7 +21,7 @@ use views::Member;
 const INPUT: usize = 1048576;
 
 fn main(rt: HostRuntime) -> io::Result<()> {
-    let mut input = vec![in rt.alloc(); 0u8; INPUT]?;
+    let mut input = [0u8; INPUT];
     let mut books = [0u8; BOOKS * ROOM];
     let mut slips = [0u8; BOOKS * SLIP];
     table(&rt, &mut input, &mut books, &mut slips)
@@ -30,7 +30,7 @@ fn main(rt: HostRuntime) -> io::Result<()> {
 // The books lie behind each other, and so do the slips: what each book last passed.
 fn table(
     rt: &(impl Input + Print),
-    input: &mut [u8],
+    input: &mut [u8; INPUT],
     books: &mut [u8; BOOKS * ROOM],
     slips: &mut [u8; BOOKS * SLIP],
 ) -> io::Result<()> {

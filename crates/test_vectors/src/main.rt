@@ -18,7 +18,7 @@ use wire::Frame;
 const INPUT: usize = 65536;
 
 fn main(rt: HostRuntime) -> io::Result<()> {
-    let mut input = vec![in rt.alloc(); 0u8; INPUT]?;
+    let mut input = [0u8; INPUT];
     let n = test_script::input::read_full(&rt, &mut input)?;
     run(&rt, &input[..n])
 }
