@@ -4,11 +4,11 @@ help:
 	@echo "make run       a group on the bench: a split in which one part goes on. The bench is proved first"
 	@echo "make lib       the library for C and C++, target/staticlib/libdvs.a, every proof of it first: 5 to 10 minutes"
 	@echo "make install   it, its headers and documents, to PREFIX"
-	@echo "make test      everything that has to hold: some 16 minutes"
+	@echo "make test      everything that has to hold: some 20 minutes, or 40 from nothing"
 	@echo "README.md has the other targets, CONTRIBUTING.md how a change is made."
 
-# The gate: everything that has to hold. Every proof, every must-fail edit and every program, a line for each; at the same time the tests from outside
-# and the wrong answers of the gate's list.
+# The gate: everything that has to hold. Every proof, every must-fail edit and every program, a line for each; then the tests from outside and the wrong
+# answers of the gate's list.
 test:
 	SHORT=1 .ci/run
 

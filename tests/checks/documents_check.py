@@ -88,7 +88,7 @@ for crate, path in host_functions():
     contract = function(crate, path)
     if not contract:
         faults.append('docs/DECISIONS.md names %s::%s, which is no public function' % (crate, path))
-    elif 'requires {' in contract:
+    elif re.search(r'\brequires(?: \w+)? \{', contract):
         faults.append('%s::%s, which a host may call, asks something of its caller' % (crate, path))
 
 

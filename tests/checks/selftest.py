@@ -59,7 +59,7 @@ def other_numbers(text):
 
 def other_theorems(text):
     """The text with the name of each theorem changed: a name in backquotes that has a hyphen, or that the table of theorems has."""
-    for found in re.finditer(r'(?<=`)(\w+(?:-\w+)+|packets|demand3|finality|cases)(?=`)', text):
+    for found in re.finditer(r'(?<=`)(\w+(?:-\w+)+|packets|demand3|finality|cases|all_shown|bytes_read)(?=`)', text):
         name = found[1] + 's' if not found[1].endswith('s') else found[1][:-1]
         yield text[:found.start()] + name + text[found.end():], '%s instead of %s' % (name, found[1])
 

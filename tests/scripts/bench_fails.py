@@ -2,7 +2,7 @@
 
     python3 tests/scripts/bench_fails.py CMD
 
-Its exit status says nothing of it: a program in Rattle has no other than 0.
+Its exit status says nothing of it: it is 0 whatever could not be read or written.
 """
 
 import os

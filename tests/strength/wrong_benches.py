@@ -20,8 +20,8 @@ TESTS = {
 }
 
 UNSHOWN = "    if !h.shown {\n        return;\n    }\n"
-LAST = "let h = bench_session::showing::hear(list, all, queues, bench, line);"
-SENT = "let sent = crate::pieces::send(out, filled);"
+LAST = "let h = bench_session::showing::hear_next(list, all, queues, bench, line);"
+SENT = "let sent = crate::pieces::send(rt, out, filled);"
 
 # For each file what is wrong, what stands there, and what is put in its place: it stands there once.
 FAULTS = {
@@ -34,7 +34,7 @@ FAULTS = {
         ("a last line without its byte 10 is always answered", UNSHOWN, ""),
         ("a last line without its byte 10 is never answered", UNSHOWN, UNSHOWN.replace("!h.shown", "h.shown || !h.shown")),
         ("every reply is shown", "if h.shown {\n            let reply", "if h.shown || !h.shown {\n            let reply"),
-        ("replies wait until there are some", SENT, "let sent = if filled > 64 { crate::pieces::send(out, filled) } else { true };"),
+        ("replies wait until there are some", SENT, "let sent = if filled > 64 { crate::pieces::send(rt, out, filled) } else { true };"),
         ("replies before an unshown last line are lost", "bench = h.bench;",
          "bench = h.bench; if end + 1 == input.len() && !h.shown { return Turn { bench, at: end + 1, failed: false }; }"),
         ("a failed write goes on", "failed: !sent,", "failed: sent && !sent,"),
@@ -59,9 +59,11 @@ FAULTS = {
 
 def noticed():
     """What sees a fault in the bench that stands in WORK: the prover, or else tests of what is built."""
-    proved = subprocess.run([WORK / ".ci" / "prove", "program", "bench"], stdin=subprocess.DEVNULL, stdout=subprocess.DEVNULL, stderr=subprocess.DEVNULL)
-    if proved.returncode:
+    proved = subprocess.run([WORK / ".ci" / "prove", "program", "bench"], stdin=subprocess.DEVNULL, stdout=subprocess.PIPE, stderr=subprocess.STDOUT, text=True)
+    if proved.returncode and "logic=not-proved" in proved.stdout:
         return ["the prover"]
+    if proved.returncode:
+        sys.exit("the bench was not built, and the prover did not refuse it:\n" + proved.stdout)
     return [name for name, words in TESTS.items()
             if subprocess.run([sys.executable, *words, str(BENCH)], cwd=ROOT, stdout=subprocess.DEVNULL, stderr=subprocess.DEVNULL).returncode]
 
