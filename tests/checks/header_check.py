@@ -80,11 +80,11 @@ def expected_constants():
     steps = constants('events/src/kinds.rt')
     arms = re.findall(r'^\s+kinds::(\w+) => (?:plain\()?[\w:]*?(\w+)\(\s*(?:list|all),', source('group/src/step.rt'), flags=re.M)
     wanted.update({'DVS_STEP_' + name.upper(): steps[kind] for kind, name in arms})
-    wanted['DVS_ACCEPTED'] = int(found(r'Verdict::Accepted => (\d+),', source('views/src/refusal.rt'), 'refusals'))
-    refusals = re.findall(r'Refusal::(\w+) => (\d+),', source('views/src/refusal.rt'))
+    wanted['DVS_ACCEPTED'] = int(found(r'Ok\(\(\)\) => (\d+),', source('views/src/refusal.rt'), 'refusals'))
+    refusals = re.findall(r'^    (\w+) = (\d+),$', source('views/src/refusal.rt'), flags=re.M)
     wanted.update({'DVS_REFUSED_' + screaming(name): int(number) for name, number in refusals})
     wanted['DVS_REFUSALS'] = len(refusals)
-    # whether every arm was matched: the dispatcher's last one begins where the steps end. The refusals' arms are held to their list by refusals.py
+    # whether every arm was matched: the dispatcher's last one begins where the steps end. The refusals are held to their list by refusals.py
     beyond = int(found(r'0 \| (\d+)\.\.=255 =>', source('group/src/step.rt'), 'steps'))
     if [steps[kind] for kind, _ in arms] != list(range(1, beyond)):
         sys.exit('steps %s in the sources, where this program looks for 1 to %d' % (', '.join(kind for kind, _ in arms), beyond - 1))

@@ -20,7 +20,7 @@ inward, line, wire = constants('slots/src/inward.rt'), constants('slots/src/orde
 event, record, run = constants('c_answers/src/lib.rt'), constants('wire/src/record.rt'), constants('group_run/src/lib.rt')
 sizes, limits, steps = constants('views/src/sizes.rt'), constants('views/src/limits.rt'), constants('events/src/kinds.rt')
 library = constants('dvs/src/library.rt')
-refusal = {name: int(number) for name, number in re.findall(r'Refusal::(\w+) => (\d+),', source('views/src/refusal.rt'))}
+refusal = {name: int(number) for name, number in re.findall(r'^    (\w+) = (\d+),$', source('views/src/refusal.rt'), re.M)}
 view, number, identifier = sizes['VIEW'], sizes['NUMBER'], sizes['IDENTIFIER']
 members, views, ordered, longest = limits['MEMBERS'], limits['VIEWS'], limits['ORDERED'], limits['LONGEST']
 

@@ -62,17 +62,17 @@ def rows(items):
 
 
 def variants(now):
-    """The variants of the enum. A comment before one stays; the first of a section has the section's name where it has none."""
+    """The variants of the enum with their numbers. A comment before one stays; the first of a section has the section's name where it has none."""
     comments, above = {}, ''
     for line in now.splitlines(keepends=True):
         if line.lstrip().startswith('//'):
             above += line
         else:
-            comments[line.strip(' ,\n')], above = above, ''
+            comments[line.split('=')[0].strip(' ,\n')], above = above, ''
     text = ''
     for r in REFUSALS:
         heading = '    // %s\n' % (r.section[0].lower() + r.section[1:]) if r.section else ''
-        text += (comments.get(r.name) or heading) + '    %s,\n' % r.name
+        text += (comments.get(r.name) or heading) + '    %s = %d,\n' % (r.name, r.number)
     return text
 
 
@@ -85,12 +85,6 @@ def imports(now):
         else:
             lines[-1] += ', ' + r.name
     return ''.join(line + '}\n' for line in lines)
-
-
-def proof_of_numbers():
-    """The answers for `number`: in each arm the number is that of the arm's variant."""
-    goals = ('returns-in-' + r.name for r in REFUSALS)
-    return '\n'.join('pub {0} : goal.{0}\n{0} c = sym (ap number_of c.{1}.is)\n'.format(goal, goal[len('returns-'):]) for goal in goals)
 
 
 def c_header():
@@ -157,10 +151,8 @@ WHOLE = ''  # before, or behind, all of the file
 # A file, what stands before and behind the part of it that the list makes, and that part.
 PARTS = [
     ('crates/*/src/**/refusal.rt', 'pub enum Refusal {\n', '}\n', variants),
-    ('crates/*/src/**/refusal.rt', '    match r {\n', '    }\n', each('        Refusal::{r.name} => {r.number},\n')),
-    ('crates/*/specs/**/Refusals.antt', '.Refusal.{Refusal}\n', 'use Rattle.views.specs.declared.refusal.Verdict.{Verdict}\n', imports),
-    ('crates/*/specs/**/Refusals.antt', 'number_of : Refusal → ℕ\n', '\n-- 0 for accepted', each('number_of {r.name} = {r.number}\n')),
-    ('crates/*/proofs/**/refusal/number/Answers.antt', '.number.Goals as goal\n\n', WHOLE, proof_of_numbers()),
+    ('crates/*/specs/**/Refusals.antt', '.Refusal.{Refusal}\n', '\nabbrev pub number_of', imports),
+    ('crates/*/specs/**/Refusals.antt', 'number_of : Refusal → ℕ\n', '\n-- what every call answers', each('number_of {r.name} = {r.number}\n')),
     ('crates/*/proofs/**/Numbers.antt', '.Refusal.{Refusal}\n', 'use Rattle.views.specs.Refusals.{number_of}\n', imports),
     ('crates/*/proofs/**/Numbers.antt', 'eqb (number_of r) 0 ≡ false\n', WHOLE, each('never-0 {r.name} = refl\n')),
     ('include/dvs_refusals.h', WHOLE, WHOLE, c_header()),

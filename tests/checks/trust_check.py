@@ -13,7 +13,7 @@ from documents import ROOT, TRUST, files_of, function, host_functions, source
 
 SPECS = re.compile(r'`(crates/\w+/specs/[\w/]+\.antt)`')
 # what the language itself knows; 'now' is what a reference refers to
-GIVEN = {'Unit', '⊥', 'now'}
+GIVEN = {'Unit', 'tt', '⊥', 'now'}
 rows = TRUST.read_text().split('\n')
 listed = {path for row in rows if re.match(r'\| `crates/\w+/specs/', row) for path in files_of(row.split(' | ')[0])}
 outright = {ROOT / name for row in rows if 'are given outright by' in row for name in SPECS.findall(row)}

@@ -1,20 +1,19 @@
 -- Laws of lines kept and of replies put behind each other.
-use mathlib.Core.Path.{◌≡◌, refl, sym, ap, ◌∙◌}
+use mathlib.Core.Path.{◌≡◌, sym, ap, ◌∙◌}
 use mathlib.Core.Logic.{⊎_elim}
 use mathlib.Core.Bool.{true, false}
 use mathlib.Core.List.{List, [], ◌++◌, append-nil}
-use Prim.Native.Nat.{ℕ, suc, ◌+◌, ◌-◌, ◌<◌, ◌≤◌}
-use native.Mathlib.Numerals.{add-one}
+use Prim.Native.Nat.{ℕ, ◌+◌, ◌-◌, ◌<◌, ◌≤◌}
 use native.Mathlib.Omega.{arith}
 use borrow.Author.Tests.{le-leb, lt-leb}
 use lib.Dec.{leb}
-use lib.ListN.{length, get_or, set, take, drop, length-append, length-drop}
-use lib.Seq.{take_all, take_at, drop-length, drop-drop, drop-cons, get_or-drop, get_or-append-add, set_at, length-take-le, take-suc, append_snoc}
+use lib.ListN.{length, take, drop, length-append, length-drop}
+use lib.Seq.{take_all, take_at, drop-length, drop-drop, length-take-le}
 use Rattle.views.proofs.SetLaws.{known}
 use Rattle.bench_lines.specs.TextParts.{Put}
 use Rattle.bench_lines.specs.ReplyLines.{longest_reply}
 use Rattle.bench_lines.proofs.TextLaws.{front-put}
-use Rattle.bench.specs.PieceParts.{kept_count, Kept, place_for}
+use Rattle.bench.specs.PieceParts.{place_for}
 
 -- ---- a reply
 
@@ -59,37 +58,3 @@ put-part s b d at n p =
 -- what lies before the part stays
 pub part-before : (b d : List ℕ) (at : ℕ) → at ≤ length b → take at (take at b ++ (d ++ drop (length b - at) (drop at b))) ≡ take at b
 part-before b d at h = take_at (take at b) (d ++ drop (length b - at) (drop at b)) at (length-take-le at b h)
-
--- ---- the bytes that are kept
-
--- i of them stand at the front
-abbrev pub moved : List ℕ → ℕ → ℕ → List ℕ
-moved b at i = take i (drop at b) ++ drop i b
-
-pub moved_none : (b : List ℕ) (at : ℕ) → b ≡ moved b at 0
-moved_none b at = refl
-
-pub moved-turn : (b : List ℕ) (at i : ℕ) → at + i < length b → set (moved b at i) i (get_or (moved b at i) (at + i) 0) ≡ moved b at (i + 1)
-moved-turn b at i h =
-    let p : List ℕ = take i (drop at b) in
-    let n : length (drop at b) ≡ length b - at = length-drop at b in
-    let l : length p ≡ i = length-take-le i (drop at b) (omega arith) in
-    let g : get_or (moved b at i) (at + i) 0 ≡ get_or (drop at b) i 0 =
-    ap (λ (k : ℕ). get_or (moved b at i) k 0) (let k : at + i ≡ length p + at = omega arith in k)
-    ∙ get_or-append-add p (drop i b) at 0
-    ∙ get_or-drop i b at 0
-    ∙ ap (λ (k : ℕ). get_or b k 0) (let k : i + at ≡ at + i = omega arith in k)
-    ∙ sym (get_or-drop at b i 0)
-    in
-    rw g
-    (ap (λ (r : List ℕ). set (p ++ r) i (get_or (drop at b) i 0)) (drop-cons b i 0 (omega arith))
-    ∙ set_at p (get_or b i 0) (drop (suc i) b) (get_or (drop at b) i 0) i l
-    ∙ sym (append_snoc p (get_or (drop at b) i 0) (drop (suc i) b))
-    ∙ rw (add-one i) (ap (λ (r : List ℕ). r ++ drop (suc i) b) (sym (take-suc (drop at b) i 0 (omega arith)))))
-
-pub kept-all : (b c : List ℕ) (at n i : ℕ) → n ≤ length b → i ≡ kept_count at n → c ≡ moved b at i → Kept at n b c i
-kept-all b c at n i h e p =
-    let l : length (take (kept_count at n) (drop at b)) ≡ kept_count at n =
-    length-take-le (kept_count at n) (drop at b) (omega (arith, length-drop at b))
-    in
-    record { count = e; bytes = rw (l, ← e) p }

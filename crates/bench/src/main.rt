@@ -40,14 +40,11 @@ fn main(rt: HostRuntime) {
 // Whether there is an argument behind the program's name, of whatever bytes and length.
 fn has_argument(rt: &impl Env) -> bool {
     let mut first = [0u8; 1];
-    match rt.arg(1, &mut first) {
-        Err(FillError::NotPresent) => false,
-        _ => true,
-    }
+    !matches!(rt.arg(1, &mut first), Err(FillError::NotPresent))
 }
 
-// Round after round until the input ends, or something could not be read or written. A proved loop has to end, so it
-// counts down from a number that no run uses up.
+// Round after round until the input ends, or something could not be read or written. A proved loop has to end, so its
+// rounds are as many as no run uses up.
 fn run(
     rt: &(impl Input + Print + Eprint),
     list: &mut [u8],
@@ -61,8 +58,7 @@ fn run(
     let mut reader = rt.reader();
     let mut bench = bench_session::showing::idle();
     let mut held: usize = 0;
-    let mut turns = u64::MAX;
-    while turns > 0 {
+    for _ in 0..u64::MAX {
         let got = crate::pieces::fill(&mut reader, input, held);
         if got.failed {
             crate::words::unread(rt);
@@ -80,7 +76,6 @@ fn run(
         }
         bench = t.bench;
         held = crate::pieces::keep(input, t.at, n);
-        turns -= 1;
     }
 }
 
@@ -97,15 +92,14 @@ fn finish(
     requires { (longest_reply ≤ length out.old)
         × BenchStaysSound bench (ranges list.old all.old queues.old) }
 {
-    if line.len() == 0 {
+    if line.is_empty() {
         return;
     }
     let h = bench_session::showing::hear_next(list, all, queues, bench, line);
     if !h.shown {
         return;
     }
-    let reply = h.reply;
-    let said = crate::pieces::say(rt, out, 0, reply);
+    let said = crate::pieces::say(rt, out, 0, h.reply);
     if !crate::pieces::send(rt, out, said.filled) {
         crate::words::unwritten(rt);
     }
@@ -137,6 +131,7 @@ fn answer_all(
     let mut bench = before;
     let mut at: usize = 0;
     let mut filled: usize = 0;
+    // Each turn goes on by a line, and where the last whole one ends is given back.
     while at < input.len() {
         let end = bench_lines::lines::line_end(input, at);
         if end == input.len() {
@@ -145,8 +140,7 @@ fn answer_all(
         let h = bench_session::showing::hear_next(list, all, queues, bench, &input[at..end]);
         bench = h.bench;
         if h.shown {
-            let reply = h.reply;
-            let said = crate::pieces::say(rt, out, filled, reply);
+            let said = crate::pieces::say(rt, out, filled, h.reply);
             if said.failed {
                 return Turn {
                     bench,
@@ -156,7 +150,7 @@ fn answer_all(
             }
             filled = said.filled;
         }
-        at = crate::pieces::line_after(input, end);
+        at = end + 1;
     }
     let sent = crate::pieces::send(rt, out, filled);
     Turn {

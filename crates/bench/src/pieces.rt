@@ -1,5 +1,5 @@
 // Input as it comes and output as it goes.
-ghost use Rattle.std.specs.Prelude.{◌+◌, ◌≤◌, min, length, ◌≡◌};
+ghost use Rattle.std.specs.Prelude.{◌≤◌, length};
 ghost use Rattle.bench_lines.specs.ReplyLines.{reply_line, longest_reply};
 ghost use Rattle.bench.specs.PieceParts.{Filled, Kept, Behind};
 
@@ -33,30 +33,17 @@ pub fn fill(reader: &mut impl Read, input: &mut [u8], held: usize) -> Got
     }
 }
 
-// Where the line after the one that ends at a place starts.
-pub fn line_after(s: &[u8], end: usize) -> usize
-    ensures { result ≡ min (end + 1) (length s.now) }
-{
-    if end < s.len() { end + 1 } else { s.len() }
-}
-
 // What the unfinished line from `at` to n has goes to the front, as far as it tells; how many bytes that is.
 pub fn keep(input: &mut [u8], at: usize, n: usize) -> usize
     requires { n ≤ length input.old }
     ensures { Kept at n input.old input.new result }
 {
-    let mut i: usize = 0;
-    while i < KEPT {
-        if n <= at {
-            return i;
-        }
-        if n - at <= i {
-            return i;
-        }
-        input[i] = input[at + i];
-        i += 1;
+    if n <= at {
+        return 0;
     }
-    i
+    let kept = KEPT.min(n - at);
+    input.copy_within(at..at + kept, 0);
+    kept
 }
 
 // The first bytes of the buffer are written, or not all of them, which is false.
@@ -80,15 +67,15 @@ pub fn say(rt: &impl Print, out: &mut [u8], filled: usize, r: Reply) -> Said
 {
     if out.len() - filled < bench_lines::replies::LONGEST_REPLY {
         let sent = send(rt, out, filled);
-        let w = bench_lines::replies::write(out, r);
         return Said {
-            filled: w.length,
+            filled: bench_lines::replies::write(out, r).unwrap_or(0),
             failed: !sent,
         };
     }
-    let w = bench_lines::replies::write(&mut out[filled..], r);
+    // There is room for every reply, so none is refused.
+    let n = bench_lines::replies::write(&mut out[filled..], r).unwrap_or(0);
     Said {
-        filled: filled + w.length,
+        filled: filled + n,
         failed: false,
     }
 }

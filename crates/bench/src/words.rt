@@ -2,15 +2,15 @@
 
 // To whoever starts it with an argument.
 pub fn help(rt: &impl Print) {
-    let _ = rt.write_all(b"usage: bench < lines\n\n");
-    let _ = rt.write_all(
-        b"Runs one group: a reply to each accepted line of standard input, and to refused ones too\n",
+    let _ = println!(rt; "usage: bench < lines\n");
+    let _ = println!(rt;
+        "Runs one group: a reply to each accepted line of standard input, and to refused ones too"
     );
-    let _ = rt.write_all(
-        b"where the very first line is all. The next is group N S, members and first set, and\n",
+    let _ = println!(rt;
+        "where the very first line is all. The next is group N S, members and first set, and"
     );
-    let _ = rt.write_all(b"every other a step and its operands, as send 0 5.\n");
-    let _ = rt.write_all(b"docs/SPEC.md, 'The bench', has the whole language.\n");
+    let _ = println!(rt; "every other a step and its operands, as send 0 5.");
+    let _ = println!(rt; "docs/SPEC.md, 'The bench', has the whole language.");
 }
 
 pub fn unread(rt: &impl Eprint) {

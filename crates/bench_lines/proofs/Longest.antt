@@ -1,24 +1,26 @@
 -- Every reply's line fits a buffer of 45 bytes.
 use mathlib.Core.Path.{◌≡◌, refl, ◌∙◌}
 use mathlib.Core.Logic.{⊎_elim}
-use mathlib.Core.Bool.{Bool, true, false, cond}
+use mathlib.Core.Bool.{true, false}
 use mathlib.Core.List.{List, [], ◌∷◌, ◌++◌}
 use Prim.Native.Nat.{ℕ, zero, suc, ◌+◌, ◌/◌, ◌%◌, ◌^◌, ◌<◌, ◌≤◌}
 use native.Mathlib.Omega.{arith}
-use lib.Dec.{eqb, ltb}
+use lib.Dec.{ltb}
 use lib.ListN.{length, length-append}
 use borrow.Author.Tests.{ltb-true, ltb-false}
 use Rattle.views.proofs.SetLaws.{known}
-use Rattle.views.specs.declared.refusal.Verdict.{Verdict}
-use Rattle.views.specs.declared.refusal.Verdict.TheVariants.{Accepted, Refused}
+use Rattle.views.specs.declared.refusal.Refusal.{Refusal}
 use Rattle.views.specs.Refusals.{number_of}
+use Rattle.std.specs.Prelude.{Option, Some, None, Ok, Err}
 use Rattle.views.specs.Lists.{id_of}
 use Rattle.events.specs.declared.Event.{Event}
+use Rattle.events.specs.declared.Event.TheVariants.{Attempt, Register, Send, Hand, Safe}
+use Rattle.events.specs.Replies.{Reply}
 use Rattle.bench_lines.specs.Words.{bytes, space, line_feed}
 use Rattle.bench_lines.specs.Numerals.{decimal_by, decimal}
 use Rattle.bench_lines.proofs.DecimalLaws.{by-small, by-step, tenth, decimal-length}
 use Rattle.bench_lines.specs.Promises.{Sized, RepliesFit}
-use Rattle.bench_lines.specs.ReplyLines.{numbers_text, spoken, event_line, verdict_line, longest_reply}
+use Rattle.bench_lines.specs.ReplyLines.{numbers_text, spoken, event_line, reply_line, longest_reply}
 
 -- a number below ten to the k + 1 has at most k + 1 digits
 short : (k m x : ℕ) → k ≤ m → x < 10 ^ suc k → length (decimal_by (suc m) x) ≤ suc k
@@ -66,29 +68,29 @@ two w p i h a b =
     rw (spoken-length w (p ∷ i ∷ []), more-length p (i ∷ []), more-length i [], none-length)
     (omega (arith, short-byte p a, short-identifier i b))
 
-either : (t : Bool) (a b : List ℕ) → length a ≤ longest_reply → length b ≤ longest_reply → length (cond t a b) ≤ longest_reply
-either true a b h k = h
-either false a b h k = k
-
 event-fits : (e : Event) → Sized e → length (event_line e) ≤ longest_reply
-unfolding event_line numbers_text
-event-fits e s =
-    let p = e.member.0 in
-    let i = id_of e.view in
-    let q = e.sender.0 in
-    either (eqb e.kind 6) _ _ (three (bytes "attempt") p i e.view.set (omega arith) s.member s.identifier)
-    (either (eqb e.kind 7) _ _ (two (bytes "register") p i (omega arith) s.member s.identifier)
-    (either (eqb e.kind 8) _ _ (three (bytes "send") p i e.entry (omega arith) s.member s.identifier)
-    (either (eqb e.kind 9) _ _ (four (bytes "hand") p i q e.entry (omega arith) s.member s.identifier s.sender)
-    (either (eqb e.kind 11) _ _ (four (bytes "safe") p i q e.entry (omega arith) s.member s.identifier s.sender) (omega arith)))))
-
-verdict-fits : (v : Verdict) (e : Event) → Sized e → length (verdict_line v e) ≤ longest_reply
-unfolding verdict_line
-verdict-fits Accepted e s = event-fits e s
-verdict-fits (Refused r) e s =
-    omega (arith, spoken-length (bytes "refused") (number_of r ∷ []), more-length (number_of r) [], none-length, decimal-length (number_of r))
+unfolding event_line
+event-fits (Attempt p v) s = three (bytes "attempt") p.0 (id_of v) v.set (omega arith) s.0 s.1
+event-fits (Register p g) s = two (bytes "register") p.0 g.0 (omega arith) s.0 s.1
+event-fits (Send p g x) s = three (bytes "send") p.0 g.0 x (omega arith) s.0 s.1
+event-fits (Hand p g x) s = four (bytes "hand") p.0 g.0 x.sender.0 x.entry (omega arith) s.0 s.1 s.2
+event-fits (Safe p g x) s = four (bytes "safe") p.0 g.0 x.sender.0 x.entry (omega arith) s.0 s.1 s.2
 
 -- ---- the theorem
 
 pub reply-fits : RepliesFit
-reply-fits r s = verdict-fits r.verdict r.event s
+unfolding reply_line
+reply-fits (Ok None) s = omega (arith, spoken-length (bytes "ok") [], none-length)
+reply-fits (Ok (Some e)) s = event-fits e s
+reply-fits (Err r) s =
+    omega (arith, spoken-length (bytes "refused") (number_of r ∷ []), more-length (number_of r) [], none-length, decimal-length (number_of r))
+
+-- by what a reply is
+pub refusal-fits : (r : Reply) (x : Refusal) → r ≡ Err x → length (reply_line r) ≤ longest_reply
+refusal-fits r x h = reply-fits r (rw h tt)
+
+pub none-fits : (r : Reply) (o : Option Event) → r ≡ Ok o → o ≡ None → length (reply_line r) ≤ longest_reply
+none-fits r o h k = reply-fits r (rw (h, k) tt)
+
+pub sized-fits : (r : Reply) (o : Option Event) (e : Event) → r ≡ Ok o → o ≡ Some e → Sized e → length (reply_line r) ≤ longest_reply
+sized-fits r o e h k s = reply-fits r (rw (h, k) s)

@@ -12,11 +12,11 @@ use lib.Seq.{drop-cons, drop-length}
 use borrow.Author.Tests.{le-leb, lt-leb, eqb-true}
 use Rattle.views.specs.Sets.{both}
 use Rattle.views.proofs.SetLaws.{known}
-use Rattle.bench_lines.specs.declared.texts.numerals.Numeral.{Numeral}
-use Rattle.bench_lines.specs.declared.texts.numerals.Numeral.TheVariants.{Unfit, Number}
+use Rattle.std.proofs.Common.{Option, Some, None}
 use Rattle.bench_lines.specs.Words.{space, place_of}
 use Rattle.bench_lines.specs.Numerals.{is_digit, digits_only, begun, value_from, numeral_of}
 use Rattle.bench_lines.specs.TextParts.{within}
+use Rattle.std.specs.Char.{is_ascii_digit}
 
 -- ---- how a word begins
 
@@ -40,10 +40,10 @@ begun_more (c ∷ d ∷ w) h = refl
 -- ---- the digits
 
 -- what the digits w behind the number x say, at most max
-unfoldable pub rest_of : ℕ → ℕ → List ℕ → Numeral
-rest_of max x w = cond (both (digits_only w) (leb (value_from x w) max)) (Number (value_from x w)) Unfit
+unfoldable pub rest_of : ℕ → ℕ → List ℕ → Option ℕ
+rest_of max x w = cond (both (digits_only w) (leb (value_from x w) max)) (Some (value_from x w)) None
 
-pub numeral-unbegun : (max : ℕ) (w : List ℕ) → begun w ≡ false → numeral_of max w ≡ Unfit
+pub numeral-unbegun : (max : ℕ) (w : List ℕ) → begun w ≡ false → numeral_of max w ≡ None
 unfolding numeral_of
 numeral-unbegun max w e = rw e
 
@@ -57,19 +57,15 @@ unfolding value_from
 value_grows x [] = omega arith
 value_grows x (c ∷ w) = omega (arith, value_grows (x * 10 + (c - 48)) w)
 
-rest-digit : (max x c : ℕ) (w : List ℕ) → 48 ≤ c → c ≤ 57 → rest_of max x (c ∷ w) ≡ rest_of max (x * 10 + (c - 48)) w
+rest-digit : (max x c : ℕ) (w : List ℕ) → is_digit c ≡ true → rest_of max x (c ∷ w) ≡ rest_of max (x * 10 + (c - 48)) w
 unfolding rest_of digits_only value_from
-rest-digit max x c w h k = rw (le-leb 48 c h, le-leb c 57 k)
+rest-digit max x c w e = rw e
 
-rest-low : (max x c : ℕ) (w : List ℕ) → c < 48 → rest_of max x (c ∷ w) ≡ Unfit
+rest-other : (max x c : ℕ) (w : List ℕ) → is_digit c ≡ false → rest_of max x (c ∷ w) ≡ None
 unfolding rest_of digits_only
-rest-low max x c w h = rw (lt-leb 48 c h)
+rest-other max x c w e = rw e
 
-rest-high : (max x c : ℕ) (w : List ℕ) → 48 ≤ c → 57 < c → rest_of max x (c ∷ w) ≡ Unfit
-unfolding rest_of digits_only
-rest-high max x c w h k = rw (le-leb 48 c h, lt-leb c 57 k)
-
-rest-large : (max x : ℕ) (w : List ℕ) → max < x → rest_of max x w ≡ Unfit
+rest-large : (max x : ℕ) (w : List ℕ) → max < x → rest_of max x w ≡ None
 unfolding rest_of
 rest-large max x w h =
     let l : leb (value_from x w) max ≡ false = lt-leb (value_from x w) max (omega (arith, value_grows x w)) in
@@ -77,21 +73,25 @@ rest-large max x w h =
 
 -- ---- a turn of the loop, at place i of the word w
 
-pub turn_low : (max x i : ℕ) (w : List ℕ) → i < length w → get_or w i 0 < 48 → rest_of max x (drop i w) ≡ Unfit
-turn_low max x i w h k = rw (drop-cons w i 0 h) (rest-low max x (get_or w i 0) (drop (suc i) w) k)
+-- a digit by the standard library's test
+pub digit-is : (c : ℕ) → is_ascii_digit c ≡ is_digit c
+digit-is c =
+    ⊎_elim (λ (e : leb 48 c ≡ true). rw e)
+    (λ (e : leb 48 c ≡ false). rw e)
+    (known (leb 48 c))
 
-pub turn-high : (max x i : ℕ) (w : List ℕ) → i < length w → 48 ≤ get_or w i 0 → 57 < get_or w i 0 → rest_of max x (drop i w) ≡ Unfit
-turn-high max x i w h k l = rw (drop-cons w i 0 h) (rest-high max x (get_or w i 0) (drop (suc i) w) k l)
+pub turn-other : (max x i : ℕ) (w : List ℕ) → i < length w → is_digit (get_or w i 0) ≡ false → rest_of max x (drop i w) ≡ None
+turn-other max x i w h e = rw (drop-cons w i 0 h) (rest-other max x (get_or w i 0) (drop (suc i) w) e)
 
-pub turn-digit : (max x i : ℕ) (w : List ℕ) → i < length w → 48 ≤ get_or w i 0 → get_or w i 0 ≤ 57
+pub turn-digit : (max x i : ℕ) (w : List ℕ) → i < length w → is_digit (get_or w i 0) ≡ true
     → rest_of max x (drop i w) ≡ rest_of max (x * 10 + (get_or w i 0 - 48)) (drop (i + 1) w)
-turn-digit max x i w h k l = rw (add-one i, drop-cons w i 0 h) (rest-digit max x (get_or w i 0) (drop (suc i) w) k l)
+turn-digit max x i w h e = rw (add-one i, drop-cons w i 0 h) (rest-digit max x (get_or w i 0) (drop (suc i) w) e)
 
-pub turn-large : (max x i : ℕ) (w : List ℕ) → i < length w → 48 ≤ get_or w i 0 → get_or w i 0 ≤ 57 → max < x * 10 + (get_or w i 0 - 48)
-    → rest_of max x (drop i w) ≡ Unfit
-turn-large max x i w h k l m = turn-digit max x i w h k l ∙ rest-large max (x * 10 + (get_or w i 0 - 48)) (drop (i + 1) w) m
+pub turn-large : (max x i : ℕ) (w : List ℕ) → i < length w → is_digit (get_or w i 0) ≡ true → max < x * 10 + (get_or w i 0 - 48)
+    → rest_of max x (drop i w) ≡ None
+turn-large max x i w h e m = turn-digit max x i w h e ∙ rest-large max (x * 10 + (get_or w i 0 - 48)) (drop (i + 1) w) m
 
-pub turn_end : (max x i : ℕ) (w : List ℕ) → i ≡ length w → x ≤ max → rest_of max x (drop i w) ≡ Number x
+pub turn_end : (max x i : ℕ) (w : List ℕ) → i ≡ length w → x ≤ max → rest_of max x (drop i w) ≡ Some x
 unfolding rest_of digits_only value_from
 turn_end max x i w e h = rw (e, drop-length w, le-leb x max h)
 
@@ -123,7 +123,7 @@ digits-no-space (c ∷ w) h =
     ⊎_elim (λ (d : is_digit c ≡ true). rw d (digits-no-space w (omega arith))) (λ (d : is_digit c ≡ false). rw d) (known (is_digit c)))
     (known (eqb c space))
 
-pub numeral-no-space : (max : ℕ) (w : List ℕ) → place_of space w < length w → numeral_of max w ≡ Unfit
+pub numeral-no-space : (max : ℕ) (w : List ℕ) → place_of space w < length w → numeral_of max w ≡ None
 unfolding numeral_of
 numeral-no-space max w h =
     ⊎_elim (λ (e : begun w ≡ true). rw (e, digits-no-space w h)) (λ (e : begun w ≡ false). rw e) (known (begun w))

@@ -12,27 +12,25 @@ use lib.Seq.{take_all, take-length}
 use borrow.Author.Tests.{le-leb, lt-leb, leb-true, eq-eqb, ne_eqb, ltb-true, ltb-false}
 use Rattle.views.specs.Sets.{both}
 use Rattle.views.proofs.SetLaws.{known, both_true}
-use Rattle.bench_lines.specs.declared.texts.numerals.Numeral.{Numeral}
-use Rattle.bench_lines.specs.declared.texts.numerals.Numeral.TheVariants.{Unfit, Number}
+use Rattle.std.proofs.Common.{Option, Some, None}
 use Rattle.bench_lines.specs.Words.{space, words, place_of, find_from}
 use Rattle.bench_lines.specs.Numerals.{numeral_of}
 use Rattle.bench_lines.specs.TextParts.{within}
 use Rattle.bench_lines.proofs.WordLaws.{place-le, find-front, words-one, words_more}
 use Rattle.bench_lines.proofs.NumeralLaws.{numeral-within, numeral-no-space}
 use Rattle.bench_lines.specs.declared.lines.Line.{Line}
-use Rattle.bench_lines.specs.declared.lines.Line.TheVariants.{Unreadable}
 use Rattle.bench_lines.specs.declared.lines.names.Form.{Form}
-use Rattle.bench_lines.specs.Lines.{longest_line, table, unknown, form_of, made, with_operands, asks, line_of}
+use Rattle.bench_lines.specs.Lines.{longest_line, table, form_of, made, with_operands, asks, line_of}
 use Rattle.bench_lines.specs.LineParts.{fitting, fits}
 use Rattle.bench_lines.proofs.LineLaws.{made-no-first, made-no-second}
 
 -- ---- operands fit where their form does
 
-within_wider : (m n : ℕ) (a : Numeral) → within m a ≡ true → m ≤ n → within n a ≡ true
-within_wider m n Unfit h l = refl
-within_wider m n (Number x) h l = le-leb x n (omega (arith, leb-true x m h))
+within_wider : (m n : ℕ) (a : Option ℕ) → within m a ≡ true → m ≤ n → within n a ≡ true
+within_wider m n None h l = refl
+within_wider m n (Some x) h l = le-leb x n (omega (arith, leb-true x m h))
 
-fits-from : (f : Form) (a b : Numeral) → fitting f ≡ true → within f.first a ≡ true → within f.second b ≡ true → fits f a b ≡ true
+fits-from : (f : Form) (a b : Option ℕ) → fitting f ≡ true → within f.first a ≡ true → within f.second b ≡ true → fits f a b ≡ true
 unfolding fitting fits
 fits-from f a b h p q =
     let t = both_true (leb f.first 4294967295) _ h in
@@ -47,10 +45,10 @@ fits-from f a b h p q =
     (λ (e : eqb f.kind 0 ≡ false). rw (w, e))
     (known (eqb f.kind 0))
 
-pub fits_one : (f : Form) (s : List ℕ) (a : Numeral) → fitting f ≡ true → a ≡ numeral_of f.first s → fits f a (Number 0) ≡ true
-fits_one f s a h e = fits-from f a (Number 0) h (rw e (numeral-within f.first s)) (le-leb 0 f.second (omega arith))
+pub fits_one : (f : Form) (s : List ℕ) (a : Option ℕ) → fitting f ≡ true → a ≡ numeral_of f.first s → fits f a (Some 0) ≡ true
+fits_one f s a h e = fits-from f a (Some 0) h (rw e (numeral-within f.first s)) (le-leb 0 f.second (omega arith))
 
-pub fits-two : (f : Form) (s t : List ℕ) (a b : Numeral) → fitting f ≡ true → a ≡ numeral_of f.first s → b ≡ numeral_of f.second t
+pub fits-two : (f : Form) (s t : List ℕ) (a b : Option ℕ) → fitting f ≡ true → a ≡ numeral_of f.first s → b ≡ numeral_of f.second t
     → fits f a b ≡ true
 fits-two f s t a b h p q = fits-from f a b h (rw p (numeral-within f.first s)) (rw q (numeral-within f.second t))
 
@@ -63,14 +61,14 @@ words-some s =
     (λ (e : ltb (place_of space s) (length s) ≡ false). (s, [], words-one s (omega (arith, ltb-false (place_of space s) (length s) e, place-le space s))))
     (known (ltb (place_of space s) (length s)))
 
-two-for-one : (f : Form) (w v : List ℕ) (ws : List (List ℕ)) → f.second ≡ 0 → with_operands f (w ∷ v ∷ ws) ≡ Unreadable
+two-for-one : (f : Form) (w v : List ℕ) (ws : List (List ℕ)) → f.second ≡ 0 → with_operands f (w ∷ v ∷ ws) ≡ None
 unfolding with_operands
 two-for-one f w v [] e = rw (eq-eqb f.second 0 e)
 two-for-one f w v (u ∷ ws) e = refl
 
 -- one operand is the whole rest of the line
-pub operands-one : (f : Form) (s : List ℕ) (a : Numeral) → f.second ≡ 0 → a ≡ numeral_of f.first s
-    → with_operands f (words s) ≡ made f a (Number 0)
+pub operands-one : (f : Form) (s : List ℕ) (a : Option ℕ) → f.second ≡ 0 → a ≡ numeral_of f.first s
+    → with_operands f (words s) ≡ made f a (Some 0)
 unfolding with_operands
 operands-one f s a e p =
     ⊎_elim
@@ -79,14 +77,14 @@ operands-one f s a e p =
     let t = words-some (drop (suc (place_of space s)) s) in
     ap (with_operands f) (words_more s l ∙ ap (λ (ws : List (List ℕ)). take (place_of space s) s ∷ ws) t.2)
     ∙ two-for-one f (take (place_of space s) s) t.0 t.1 e
-    ∙ sym (made-no-first f a (Number 0) (p ∙ numeral-no-space f.first s l)))
+    ∙ sym (made-no-first f a (Some 0) (p ∙ numeral-no-space f.first s l)))
     (λ (h : ltb (place_of space s) (length s) ≡ false).
     rw (words-one s (omega (arith, ltb-false (place_of space s) (length s) h, place-le space s)), eq-eqb f.second 0 e, p))
     (known (ltb (place_of space s) (length s)))
 
 -- the second of two operands is missing
 pub operands_short : (f : Form) (s : List ℕ) (end : ℕ) → (f.second ≡ 0 → ⊥) → end ≡ find_from space s 0 → end ≡ length s
-    → with_operands f (words s) ≡ Unreadable
+    → with_operands f (words s) ≡ None
 unfolding with_operands
 operands_short f s end e p q = rw (words-one s (sym (find-front space s) ∙ sym p ∙ q), ne_eqb f.second 0 e)
 
@@ -95,7 +93,7 @@ behind : (s : List ℕ) (end : ℕ) → take (length s - (end + 1)) (drop (end +
 behind s end = rw (add-one end) (take_all (length s - suc end) (drop (suc end) s) (omega (arith, length-drop (suc end) s)))
 
 -- two operands stand before and behind the first space
-pub operands-two : (f : Form) (s : List ℕ) (end : ℕ) (a b : Numeral) → (f.second ≡ 0 → ⊥) → end ≡ find_from space s 0 → (end ≡ length s → ⊥)
+pub operands-two : (f : Form) (s : List ℕ) (end : ℕ) (a b : Option ℕ) → (f.second ≡ 0 → ⊥) → end ≡ find_from space s 0 → (end ≡ length s → ⊥)
     → a ≡ numeral_of f.first (take end s) → b ≡ numeral_of f.second (take (length s - (end + 1)) (drop (end + 1) s))
     → with_operands f (words s) ≡ made f a b
 unfolding with_operands
@@ -118,7 +116,7 @@ operands-two f s end a b e p n q r =
 
 -- ---- the whole line
 
-pub line-long : (s : List ℕ) → longest_line < length s → line_of s ≡ Unreadable
+pub line-long : (s : List ℕ) → longest_line < length s → line_of s ≡ None
 unfolding line_of
 line-long s h = rw (lt-leb (length s) longest_line h)
 
@@ -126,13 +124,13 @@ line-short : (s : List ℕ) → length s ≤ longest_line → line_of s ≡ asks
 unfolding line_of
 line-short s h = rw (le-leb (length s) longest_line h)
 
-asks-unknown : (w : List ℕ) (ws : List (List ℕ)) → (form_of table w).kind ≡ unknown → asks (w ∷ ws) ≡ Unreadable
+asks-unknown : (w : List ℕ) (ws : List (List ℕ)) → form_of table w ≡ None → asks (w ∷ ws) ≡ None
 unfolding asks
-asks-unknown w ws e = rw (eq-eqb (form_of table w).kind unknown e)
+asks-unknown w ws e = rw e
 
-asks-known : (w : List ℕ) (ws : List (List ℕ)) → ((form_of table w).kind ≡ unknown → ⊥) → asks (w ∷ ws) ≡ with_operands (form_of table w) ws
+asks-known : (w : List ℕ) (ws : List (List ℕ)) (f : Form) → form_of table w ≡ Some f → asks (w ∷ ws) ≡ with_operands f ws
 unfolding asks
-asks-known w ws e = rw (ne_eqb (form_of table w).kind unknown e)
+asks-known w ws f e = rw e
 
 -- the name is what stands before the first space, or the whole line
 first_word : (s : List ℕ) (end : ℕ) → end ≡ find_from space s 0 → (ws : List (List ℕ)) × (words s ≡ take end s ∷ ws)
@@ -144,30 +142,30 @@ first_word s end p =
     ([], words-one s l ∙ rw (at, l, take-length s)))
     (known (ltb (place_of space s) (length s)))
 
-pub line-unknown : (s : List ℕ) (end : ℕ) (f : Form) → length s ≤ longest_line → end ≡ find_from space s 0 → f ≡ form_of table (take end s)
-    → f.kind ≡ unknown → line_of s ≡ Unreadable
-line-unknown s end f h p q e =
+pub line-unknown : (s : List ℕ) (end : ℕ) → length s ≤ longest_line → end ≡ find_from space s 0 → form_of table (take end s) ≡ None
+    → line_of s ≡ None
+line-unknown s end h p e =
     let t = first_word s end p in
-    line-short s h ∙ ap asks t.1 ∙ asks-unknown (take end s) t.0 (rw q at e)
+    line-short s h ∙ ap asks t.1 ∙ asks-unknown (take end s) t.0 e
 
 -- a known name alone
-pub line-bare : (s : List ℕ) (end : ℕ) (f : Form) → length s ≤ longest_line → end ≡ find_from space s 0 → f ≡ form_of table (take end s)
-    → (f.kind ≡ unknown → ⊥) → end ≡ length s → line_of s ≡ Unreadable
+pub line-bare : (s : List ℕ) (end : ℕ) (f : Form) → length s ≤ longest_line → end ≡ find_from space s 0 → form_of table (take end s) ≡ Some f
+    → end ≡ length s → line_of s ≡ None
 unfolding with_operands
-line-bare s end f h p q e l =
+line-bare s end f h p e l =
     let w : words s ≡ s ∷ [] = words-one s (sym (find-front space s) ∙ sym p ∙ l) in
     let t : take end s ≡ s = rw (l, take-length s) in
-    line-short s h ∙ ap asks w ∙ asks-known s [] (λ (z : (form_of table s).kind ≡ unknown). e (rw (q, t) z))
+    line-short s h ∙ ap asks w ∙ asks-known s [] f (rw t at e)
 
 -- a name with operands
-pub line-whole : (s : List ℕ) (end : ℕ) (f : Form) (r : Line) → length s ≤ longest_line → end ≡ find_from space s 0 → f ≡ form_of table (take end s)
-    → (f.kind ≡ unknown → ⊥) → (end ≡ length s → ⊥) → r ≡ with_operands f (words (take (length s - (end + 1)) (drop (end + 1) s)))
+pub line-whole : (s : List ℕ) (end : ℕ) (f : Form) (r : Option Line) → length s ≤ longest_line → end ≡ find_from space s 0
+    → form_of table (take end s) ≡ Some f → (end ≡ length s → ⊥) → r ≡ with_operands f (words (take (length s - (end + 1)) (drop (end + 1) s)))
     → line_of s ≡ r
-line-whole s end f r h p q e n k =
+line-whole s end f r h p e n k =
     let at : end ≡ place_of space s = p ∙ find-front space s in
     let l : place_of space s < length s = omega (arith, place-le space s) in
     let split : words s ≡ take end s ∷ words (drop (suc end) s) = rw at (words_more s l) in
     line-short s h
     ∙ ap asks split
-    ∙ asks-known (take end s) (words (drop (suc end) s)) (λ (z : (form_of table (take end s)).kind ≡ unknown). e (rw q z))
-    ∙ sym (k ∙ rw (behind s end, q))
+    ∙ asks-known (take end s) (words (drop (suc end) s)) f e
+    ∙ sym (k ∙ rw (behind s end))

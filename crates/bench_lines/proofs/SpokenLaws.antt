@@ -6,20 +6,18 @@ use native.Mathlib.Numerals.{add-one}
 use native.Mathlib.Omega.{arith}
 use lib.ListN.{length, get_or, set, take, drop, length-append}
 use lib.Seq.{take-length, take-suc, drop-append_seam, drop-append-add, drop-drop}
-use borrow.Author.Tests.{ne_eqb}
 use Rattle.views.specs.declared.refusal.Refusal.{Refusal}
-use Rattle.views.specs.declared.refusal.Verdict.TheVariants.{Accepted, Refused}
+use Rattle.std.specs.Prelude.{Option, Some, None, Ok, Err}
 use Rattle.views.specs.Refusals.{number_of}
-use Rattle.views.specs.Lists.{id_of}
 use Rattle.wire.specs.Writer.{overwritten}
 use Rattle.wire.proofs.SeamLaws.{byte-seam, part-seam}
 use Rattle.events.specs.declared.Event.{Event}
-use Rattle.events.specs.declared.Reply.{Reply}
+use Rattle.events.specs.Replies.{Reply}
 use Rattle.bench_lines.specs.Words.{bytes, space, line_feed}
 use Rattle.bench_lines.specs.Numerals.{decimal}
 use Rattle.bench_lines.specs.TextParts.{Put}
 use Rattle.bench_lines.proofs.TextLaws.{put_front, front-put}
-use Rattle.bench_lines.specs.ReplyLines.{numbers_text, spoken, event_line, verdict_line, reply_line}
+use Rattle.bench_lines.specs.ReplyLines.{numbers_text, spoken, event_line, reply_line}
 
 -- ---- a word and numbers
 
@@ -95,35 +93,14 @@ said-end word xs a b at i m p h e l =
 
 -- ---- replies
 
-pub event-attempt : (e : Event) → e.kind ≡ 6 → event_line e ≡ spoken (bytes "attempt") (e.member.0 ∷ id_of e.view ∷ e.view.set ∷ [])
-unfolding event_line
-event-attempt e h = rw h
-
-pub event-register : (e : Event) → e.kind ≡ 7 → event_line e ≡ spoken (bytes "register") (e.member.0 ∷ id_of e.view ∷ [])
-unfolding event_line
-event-register e h = rw h
-
-pub event-send : (e : Event) → e.kind ≡ 8 → event_line e ≡ spoken (bytes "send") (e.member.0 ∷ id_of e.view ∷ e.entry ∷ [])
-unfolding event_line
-event-send e h = rw h
-
-pub event-hand : (e : Event) → e.kind ≡ 9 → event_line e ≡ spoken (bytes "hand") (e.member.0 ∷ id_of e.view ∷ e.sender.0 ∷ e.entry ∷ [])
-unfolding event_line
-event-hand e h = rw h
-
-pub event-safe : (e : Event) → e.kind ≡ 11 → event_line e ≡ spoken (bytes "safe") (e.member.0 ∷ id_of e.view ∷ e.sender.0 ∷ e.entry ∷ [])
-unfolding event_line
-event-safe e h = rw h
-
-pub event-none : (e : Event) → (e.kind ≡ 6 → ⊥) → (e.kind ≡ 7 → ⊥) → (e.kind ≡ 8 → ⊥) → (e.kind ≡ 9 → ⊥) → (e.kind ≡ 11 → ⊥)
-    → event_line e ≡ bytes "ok\n"
-unfolding event_line numbers_text
-event-none e a b c d f = rw (ne_eqb e.kind 6 a, ne_eqb e.kind 7 b, ne_eqb e.kind 8 c, ne_eqb e.kind 9 d, ne_eqb e.kind 11 f)
-
-pub reply-refused : (r : Reply) (x : Refusal) (n : ℕ) → r.verdict ≡ Refused x → n ≡ number_of x → spoken (bytes "refused") (n ∷ []) ≡ reply_line r
-unfolding verdict_line
+pub reply-refused : (r : Reply) (x : Refusal) (n : ℕ) → r ≡ Err x → n ≡ number_of x → spoken (bytes "refused") (n ∷ []) ≡ reply_line r
+unfolding reply_line
 reply-refused r x n h e = rw (h, e)
 
-pub reply-accepted : (r : Reply) → r.verdict ≡ Accepted → event_line r.event ≡ reply_line r
-unfolding verdict_line
-reply-accepted r h = rw h
+pub reply-none : (r : Reply) (o : Option Event) → r ≡ Ok o → o ≡ None → bytes "ok\n" ≡ reply_line r
+unfolding reply_line numbers_text
+reply-none r o h k = rw (h, k)
+
+pub reply-event : (r : Reply) (o : Option Event) (e : Event) → r ≡ Ok o → o ≡ Some e → event_line e ≡ reply_line r
+unfolding reply_line
+reply-event r o e h k = rw (h, k)

@@ -5,21 +5,14 @@ use Prim.Native.Nat.{ℕ, zero, suc, ◌+◌, ◌-◌, ◌*◌, ◌/◌, ◌%◌
 use native.Mathlib.Nat.{zero-add, pow-suc}
 use native.Mathlib.Numerals.{add-one}
 use native.Mathlib.Omega.{arith}
-use lib.ListN.{length, get_or, set, take, drop, length-append, length-set, length-drop}
-use lib.Seq.{paste, paste-suc, take-length, drop-cons, drop-set-lt, get_or-set_same, take_all, take_at}
+use lib.ListN.{length, set, take, drop, length-append, length-set, length-drop}
+use lib.Seq.{drop-cons, drop-set-lt, get_or-set_same, take_all, take_at}
 use Rattle.wire.specs.Writer.{overwritten}
 use Rattle.bench_lines.specs.Numerals.{decimal}
 use Rattle.bench_lines.specs.TextParts.{Put}
 use Rattle.bench_lines.proofs.DecimalLaws.{decimal-small, decimal_step}
 
--- ---- bytes copied to a place
-
-pub put-turn : (d s : List ℕ) (at i : ℕ) → at + i < length d → i < length s
-    → set (paste d at s i) (at + i) (get_or s i 0) ≡ paste d at s (i + 1)
-put-turn d s at i h k = rw (add-one i) (paste-suc d at s i 0 h k)
-
-pub put-end : (d s : List ℕ) (at i : ℕ) → i ≡ length s → paste d at s i ≡ take at d ++ (s ++ drop (at + length s) d)
-put-end d s at i e = rw (e, take-length s) (append_assoc (take at d) s (drop (at + length s) d))
+-- ---- bytes put at a place
 
 pub put_same : (s t b c : List ℕ) (at n : ℕ) → s ≡ t → Put s b at c n → Put t b at c n
 put_same s t b c at n e p = rw e at p

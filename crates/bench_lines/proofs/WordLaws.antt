@@ -1,5 +1,5 @@
 -- Laws of a byte looked for, of words compared, and of a line's words.
-use mathlib.Core.Path.{◌≡◌, refl, ap}
+use mathlib.Core.Path.{◌≡◌, refl}
 use mathlib.Core.Logic.{⊎_elim}
 use mathlib.Core.Bool.{true, false}
 use mathlib.Core.List.{List, [], ◌∷◌}
@@ -8,7 +8,8 @@ use native.Mathlib.Numerals.{add-one}
 use native.Mathlib.Omega.{arith}
 use lib.Dec.{eqb}
 use lib.ListN.{length, get_or, take, drop}
-use lib.Seq.{drop-cons, drop-length}
+use Rattle.std.specs.Str.{bytes_eq}
+use lib.Seq.{drop-cons}
 use borrow.Author.Tests.{eq-eqb, ne_eqb}
 use Rattle.views.proofs.SetLaws.{known}
 use Rattle.bench_lines.specs.Words.{space, before, words, same, place_of, find_from}
@@ -65,31 +66,16 @@ find-front c s = omega (arith, place-le c s)
 
 -- ---- words compared
 
-pub same_turn : (s t : List ℕ) (i : ℕ) → i < length s → i < length t → get_or s i 0 ≡ get_or t i 0
-    → same (drop i s) (drop i t) ≡ same (drop (i + 1) s) (drop (i + 1) t)
+-- what `==` says of two slices
+pub same-bytes : (s t : List ℕ) → bytes_eq s t ≡ same s t
 unfolding same
-same_turn s t i h k e = rw (drop-cons s i 0 h, drop-cons t i 0 k, eq-eqb _ _ e, add-one i)
-
-pub same_differs : (s t : List ℕ) (i : ℕ) → i < length s → i < length t → (get_or s i 0 ≡ get_or t i 0 → ⊥) → same (drop i s) (drop i t) ≡ false
-unfolding same
-same_differs s t i h k e = rw (drop-cons s i 0 h, drop-cons t i 0 k, ne_eqb _ _ e)
-
-pub same_length : (s t : List ℕ) → (length s ≡ length t → ⊥) → same s t ≡ false
-unfolding same
-same_length [] [] e = absurd (e refl)
-same_length [] (d ∷ t) e = refl
-same_length (c ∷ s) [] e = refl
-same_length (c ∷ s) (d ∷ t) e =
-    ⊎_elim (λ (q : eqb c d ≡ true). rw q (same_length s t (λ z. e (ap suc z))))
-    (λ (q : eqb c d ≡ false). rw q)
+same-bytes [] [] = refl
+same-bytes [] (d ∷ t) = refl
+same-bytes (c ∷ s) [] = refl
+same-bytes (c ∷ s) (d ∷ t) =
+    ⊎_elim (λ (e : eqb c d ≡ true). rw e (same-bytes s t))
+    (λ (e : eqb c d ≡ false). rw e)
     (known (eqb c d))
-
-pub same_end : (s t : List ℕ) (i : ℕ) → i ≡ length s → i ≡ length t → same (drop i s) (drop i t) ≡ true
-unfolding same
-same_end s t i h k =
-    let p : drop i s ≡ [] = rw h (drop-length s) in
-    let q : drop i t ≡ [] = rw k (drop-length t) in
-    rw (p, q)
 
 -- ---- a line's words
 

@@ -1,7 +1,6 @@
 -- Operands within the types of the fields that they go to: what internal functions ask.
-use Rattle.std.specs.Prelude.{Bool, true, cond, eqb, leb}
+use Rattle.std.specs.Prelude.{Bool, true, cond, Option, ℕ, eqb, leb}
 use Rattle.views.specs.Sets.{both}
-use Rattle.bench_lines.specs.declared.texts.numerals.Numeral.{Numeral}
 use Rattle.bench_lines.specs.TextParts.{within}
 use Rattle.bench_lines.specs.declared.lines.names.Form.{Form}
 use Rattle.bench_lines.specs.Lines.{largest, group_kind}
@@ -13,7 +12,7 @@ fitting f =
     (cond (eqb f.kind group_kind) (both (leb f.first (largest 1)) (leb f.second (largest 1))) true)
 
 -- these operands are
-unfoldable pub fits : Form → Numeral → Numeral → Bool
+unfoldable pub fits : Form → Option ℕ → Option ℕ → Bool
 fits f a b =
     both (within (largest 4) a)
     (cond (eqb f.kind group_kind) (both (within (largest 1) a) (within (largest 1) b)) true)

@@ -1,14 +1,13 @@
 -- What a line of the bench asks, from its bytes without the byte 10 that ends it.
-use Rattle.std.specs.Prelude.{Bool, cond, List, [], ◌∷◌, ℕ, ◌+◌, ◌-◌, ◌^◌, eqb, leb, length}
+use Rattle.std.specs.Prelude.{Bool, cond, List, [], ◌∷◌, ℕ, ◌-◌, ◌^◌, eqb, leb, length}
+use Rattle.std.specs.Prelude.{Option, Some, None, option_and_then}
 use Prim.Native.String.{String}
 use Rattle.events.specs.Kinds.{create_kind, join_kind, pass_kind, order_kind, deliver_kind, attempt_kind}
 use Rattle.events.specs.Kinds.{register_kind, send_kind, hand_kind, tell_kind, safe_kind, collect_kind}
-use Rattle.bench_lines.specs.declared.texts.numerals.Numeral.{Numeral}
-use Rattle.bench_lines.specs.declared.texts.numerals.Numeral.TheVariants.{Unfit, Number}
 use Rattle.bench_lines.specs.Words.{bytes, words, same}
 use Rattle.bench_lines.specs.Numerals.{numeral_of}
 use Rattle.bench_lines.specs.declared.lines.Line.{Line}
-use Rattle.bench_lines.specs.declared.lines.Line.TheVariants.{Unreadable, Group, Step}
+use Rattle.bench_lines.specs.declared.lines.Line.TheVariants.{Group, Step}
 use Rattle.bench_lines.specs.declared.lines.names.Form.{Form}
 
 -- at most 64 bytes before the byte 10
@@ -32,12 +31,9 @@ pub data Row : Type 0 where
 abbrev pub named : String → ℕ → ℕ → ℕ → Row
 named name kind first second = row (bytes name) (form kind (largest first) (largest second))
 
--- the kinds besides the steps': 0 for group, and the number behind the last step's where there is no such name
+-- the kind besides the steps'
 abbrev pub group_kind : ℕ
 group_kind = 0
-
-abbrev pub unknown : ℕ
-unknown = collect_kind + 1
 
 -- group, and the twelve steps
 abbrev pub table : List Row
@@ -57,38 +53,38 @@ table =
     ∷ named "collect" collect_kind 1 0
     ∷ []
 
--- what the name asks for
-unfoldable pub form_of : List Row → List ℕ → Form
-form_of [] w = form unknown 255 0
-form_of (row n f ∷ rows) w = cond (same w n) f (form_of rows w)
+-- what the name asks for, if there is such a name
+unfoldable pub form_of : List Row → List ℕ → Option Form
+form_of [] w = None
+form_of (row n f ∷ rows) w = cond (same w n) (Some f) (form_of rows w)
 
 -- ---- the line
 
--- group with its members and its first set, or a step
-unfoldable pub made : Form → Numeral → Numeral → Line
-made f Unfit b = Unreadable
-made f (Number x) Unfit = Unreadable
-made f (Number x) (Number y) =
-    cond (eqb f.kind group_kind) (Group (record { members = x; set = y })) (Step (record {
+-- group with its members and its first set, or a step; a line that cannot be read is none
+unfoldable pub made : Form → Option ℕ → Option ℕ → Option Line
+made f None b = None
+made f (Some x) None = None
+made f (Some x) (Some y) =
+    Some (cond (eqb f.kind group_kind) (Group (record { members = x; set = y })) (Step (record {
       kind = f.kind;
       first = x;
       second = y;
-    }))
+    })))
 
 -- as many words behind the name as the form has operands, each within its width; a missing second operand is 0
-unfoldable pub with_operands : Form → List (List ℕ) → Line
-with_operands f [] = Unreadable
-with_operands f (w ∷ []) = cond (eqb f.second 0) (made f (numeral_of f.first w) (Number 0)) Unreadable
+unfoldable pub with_operands : Form → List (List ℕ) → Option Line
+with_operands f [] = None
+with_operands f (w ∷ []) = cond (eqb f.second 0) (made f (numeral_of f.first w) (Some 0)) None
 with_operands f (w ∷ v ∷ []) =
-    cond (eqb f.second 0) Unreadable (made f (numeral_of f.first w) (numeral_of f.second v))
-with_operands f (w ∷ v ∷ u ∷ ws) = Unreadable
+    cond (eqb f.second 0) None (made f (numeral_of f.first w) (numeral_of f.second v))
+with_operands f (w ∷ v ∷ u ∷ ws) = None
 
-unfoldable pub asks : List (List ℕ) → Line
-asks [] = Unreadable
-asks (name ∷ ws) = let f = form_of table name in cond (eqb f.kind unknown) Unreadable (with_operands f ws)
+unfoldable pub asks : List (List ℕ) → Option Line
+asks [] = None
+asks (name ∷ ws) = option_and_then (λ f. with_operands f ws) (form_of table name)
 
-unfoldable pub line_of : List ℕ → Line
-line_of s = cond (leb (length s) longest_line) (asks (words s)) Unreadable
+unfoldable pub line_of : List ℕ → Option Line
+line_of s = cond (leb (length s) longest_line) (asks (words s)) None
 
 -- ---- the first line of the input
 

@@ -1,9 +1,7 @@
 -- Decimal numerals: the number that a word is, and the numeral of a number.
-use Rattle.std.specs.Prelude.{Bool, true, false, cond, not, List, [], ◌∷◌, ◌++◌, ℕ}
+use Rattle.std.specs.Prelude.{Bool, true, false, cond, not, List, [], ◌∷◌, ◌++◌, Option, Some, None, ℕ}
 use Rattle.std.specs.Prelude.{zero, suc, ◌+◌, ◌-◌, ◌*◌, ◌/◌, ◌%◌, eqb, ltb, leb}
 use Rattle.views.specs.Sets.{both}
-use Rattle.bench_lines.specs.declared.texts.numerals.Numeral.{Numeral}
-use Rattle.bench_lines.specs.declared.texts.numerals.Numeral.TheVariants.{Unfit, Number}
 
 -- ---- reading
 
@@ -27,9 +25,9 @@ value_from x [] = x
 value_from x (c ∷ w) = value_from (x * 10 + (c - 48)) w
 
 -- the number that the word is, at most max
-unfoldable pub numeral_of : ℕ → List ℕ → Numeral
+unfoldable pub numeral_of : ℕ → List ℕ → Option ℕ
 numeral_of max w =
-    cond (both (begun w) (both (digits_only w) (leb (value_from 0 w) max))) (Number (value_from 0 w)) Unfit
+    cond (both (begun w) (both (digits_only w) (leb (value_from 0 w) max))) (Some (value_from 0 w)) None
 
 -- ---- printing
 

@@ -1,15 +1,13 @@
 -- The bytes that say a reply, with the byte 10 that ends the line.
-use Rattle.std.specs.Prelude.{◌≡◌, cond, List, [], ◌∷◌, ◌++◌, ℕ, eqb, leb, length}
+use Rattle.std.specs.Prelude.{◌≡◌, List, [], ◌∷◌, ◌++◌, ℕ, leb, length, Some, None, Result, Ok, Err}
+use Rattle.views.specs.declared.refusal.Refusal.{Refusal}
 use Rattle.views.specs.declared.refusal.Refusal.TheVariants.{BufferTooShort}
-use Rattle.views.specs.declared.refusal.Verdict.{Verdict}
-use Rattle.views.specs.declared.refusal.Verdict.TheVariants.{Accepted, Refused}
-use Rattle.events.specs.Kinds.{attempt_kind, register_kind, send_kind, hand_kind, safe_kind}
-use Rattle.views.specs.Refusals.{number_of, require, left}
+use Rattle.views.specs.Refusals.{Verdict, number_of, require, and_then, left}
 use Rattle.views.specs.Lists.{id_of}
-use Rattle.wire.specs.declared.Written.{Written}
-use Rattle.wire.specs.Writer.{written_of, overwritten}
+use Rattle.wire.specs.Writer.{overwritten}
 use Rattle.events.specs.declared.Event.{Event}
-use Rattle.events.specs.declared.Reply.{Reply}
+use Rattle.events.specs.declared.Event.TheVariants.{Attempt, Register, Send, Hand, Safe}
+use Rattle.events.specs.Replies.{Reply}
 use Rattle.bench_lines.specs.Words.{bytes, space, line_feed}
 use Rattle.bench_lines.specs.Numerals.{decimal}
 
@@ -24,28 +22,19 @@ numbers_text (x ∷ xs) = (space ∷ decimal x) ++ numbers_text xs
 abbrev pub spoken : List ℕ → List ℕ → List ℕ
 spoken word xs = (word ++ numbers_text xs) ++ (line_feed ∷ [])
 
--- the member P, the client view I, the set S, the sender Q, the entry number V; an event of any other kind is none, and
--- `ok` is said
+-- the member P, the client view I, the set S, the sender Q, the entry number V
 unfoldable pub event_line : Event → List ℕ
-event_line e =
-    let p = e.member.0 in
-    let i = id_of e.view in
-    let s = e.view.set in
-    let q = e.sender.0 in
-    let v = e.entry in
-    cond (eqb e.kind attempt_kind) (spoken (bytes "attempt") (p ∷ i ∷ s ∷ []))
-    (cond (eqb e.kind register_kind) (spoken (bytes "register") (p ∷ i ∷ []))
-    (cond (eqb e.kind send_kind) (spoken (bytes "send") (p ∷ i ∷ v ∷ []))
-    (cond (eqb e.kind hand_kind) (spoken (bytes "hand") (p ∷ i ∷ q ∷ v ∷ []))
-    (cond (eqb e.kind safe_kind) (spoken (bytes "safe") (p ∷ i ∷ q ∷ v ∷ []))
-    (spoken (bytes "ok") [])))))
+event_line (Attempt p v) = spoken (bytes "attempt") (p.0 ∷ id_of v ∷ v.set ∷ [])
+event_line (Register p g) = spoken (bytes "register") (p.0 ∷ g.0 ∷ [])
+event_line (Send p g x) = spoken (bytes "send") (p.0 ∷ g.0 ∷ x ∷ [])
+event_line (Hand p g x) = spoken (bytes "hand") (p.0 ∷ g.0 ∷ x.sender.0 ∷ x.entry ∷ [])
+event_line (Safe p g x) = spoken (bytes "safe") (p.0 ∷ g.0 ∷ x.sender.0 ∷ x.entry ∷ [])
 
-unfoldable pub verdict_line : Verdict → Event → List ℕ
-verdict_line Accepted e = event_line e
-verdict_line (Refused r) e = spoken (bytes "refused") (number_of r ∷ [])
-
-abbrev pub reply_line : Reply → List ℕ
-reply_line r = verdict_line r.verdict r.event
+-- an accepted step that has no event is `ok`
+unfoldable pub reply_line : Reply → List ℕ
+reply_line (Ok None) = spoken (bytes "ok") []
+reply_line (Ok (Some e)) = event_line e
+reply_line (Err r) = spoken (bytes "refused") (number_of r ∷ [])
 
 -- the longest reply's line: hand or safe, with four numbers of 3, 10, 3 and 20 digits
 abbrev pub longest_reply : ℕ
@@ -55,9 +44,9 @@ longest_reply = 45
 
 -- 39 for a buffer with less room than the line has bytes
 unfoldable pub line_verdict : List ℕ → ℕ → Verdict
-line_verdict line room = require (leb (length line) room) BufferTooShort Accepted
+line_verdict line room = require (leb (length line) room) BufferTooShort (Ok tt)
 
--- the number of bytes written, or the refusal alone; the line at the front of the buffer, or the buffer as it was
-pub record Wrote (line entry exit : List ℕ) (r : Written) : Type 0 where
-  pub reply : r ≡ written_of (line_verdict line (length entry)) (length line)
+-- the number of bytes written, or the refusal; the line at the front of the buffer, or the buffer as it was
+pub record Wrote (line entry exit : List ℕ) (r : Result ℕ Refusal) : Type 0 where
+  pub reply : r ≡ and_then (line_verdict line (length entry)) (Ok (length line))
   pub buffer : exit ≡ left (line_verdict line (length entry)) (overwritten line entry) entry

@@ -28,28 +28,23 @@ pub struct Asked {
 
 #[derive(Clone, Copy)]
 pub enum Line {
-    Unreadable,
     Group(Start),
     Step(Asked),
 }
 
-// What the bytes of a line ask, without the byte 10 that ends it.
-pub fn read(line: &[u8]) -> Line
+// What the bytes of a line ask, without the byte 10 that ends it; nothing where they cannot be read.
+pub fn read(line: &[u8]) -> Option<Line>
     ensures { result ≡ line_of line.now }
 {
     if LONGEST_LINE < line.len() {
-        return Line::Unreadable;
+        return None;
     }
     let end = words::find(line, 0, words::SPACE);
-    let form = crate::lines::names::form_of(&line[..end]);
-    if form.kind == crate::lines::names::UNKNOWN {
-        return Line::Unreadable;
-    }
+    let form = crate::lines::names::form_of(&line[..end])?;
     if end == line.len() {
-        return Line::Unreadable;
+        return None;
     }
-    let from = end + 1;
-    crate::lines::operands::read(&line[from..], form)
+    crate::lines::operands::read(&line[end + 1..], form)
 }
 
 // Whether the line is `all`, by which the first line of the input asks to see refusals.

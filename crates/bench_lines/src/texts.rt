@@ -10,10 +10,7 @@ pub fn put(text: &mut [u8], at: usize, s: &[u8]) -> usize
     requires { at + length s.now ≤ length text.old }
     ensures { Put s.now text.old at text.new result }
 {
-    let mut i: usize = 0;
-    while i < s.len() {
-        text[at + i] = s[i];
-        i += 1;
-    }
-    at + s.len()
+    let end = at + s.len();
+    text[at..end].copy_from_slice(s);
+    end
 }

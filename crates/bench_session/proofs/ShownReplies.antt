@@ -3,12 +3,9 @@ use mathlib.Core.Path.{◌≡◌, refl, ap}
 use mathlib.Core.Bool.{Bool, false, cond}
 use mathlib.Core.List.{List, [], ◌∷◌, ◌++◌}
 use Prim.Native.Nat.{ℕ}
-use Rattle.views.specs.declared.refusal.Verdict.{Verdict}
-use Rattle.views.specs.declared.refusal.Verdict.TheVariants.{Accepted, Refused}
+use Rattle.std.specs.Prelude.{Ok, Err}
 use Rattle.rules.specs.Data.{Event as Outward}
-use Rattle.events.specs.declared.Event.{Event}
-use Rattle.events.specs.declared.Reply.{Reply}
-use Rattle.events.specs.Replies.{replied}
+use Rattle.events.specs.Replies.{Reply}
 use Rattle.events.specs.Shown.{shown_by, events_shown}
 use Rattle.group_bytes.specs.Groups.{Ranges}
 use Rattle.bench_lines.specs.Words.{before, words, same}
@@ -34,12 +31,12 @@ unfolding shown_to replies_to lines_of accepted_among
 accepted-later running r [] = refl
 accepted-later running r (s ∷ m) =
     let o = answer_to running r (line_of s) in
-    ap (λ (l : List Reply). cond (accepts o.reply.verdict) (o.reply ∷ l) l) (accepted-later o.running o.ranges m)
+    ap (λ (l : List Reply). cond (accepts o.reply) (o.reply ∷ l) l) (accepted-later o.running o.ranges m)
 
 -- ---- by the first line
 
 pub all_shown : AllShown
-unfolding shown_to answer_to replied before words same form_of asks line_of
+unfolding shown_to answer_to before words same form_of asks line_of
 all_shown r m = every-later false r m
 
 pub accepted-shown : AcceptedShown
@@ -47,26 +44,26 @@ unfolding shown_to replies_to lines_of accepted_among begins_with_all
 accepted-shown r [] h = refl
 accepted-shown r (s ∷ m) h =
     let o = answer_to false r (line_of s) in
-    rw h (ap (λ (l : List Reply). cond (accepts o.reply.verdict) (o.reply ∷ l) l) (accepted-later o.running o.ranges m))
+    rw h (ap (λ (l : List Reply). cond (accepts o.reply) (o.reply ∷ l) l) (accepted-later o.running o.ranges m))
 
 -- ---- the events
 
 -- a reply that is not shown is a refusal, which shows no event
-with_first : (o : Output) (v : Verdict) (e : Event) (l k : List Reply) → events_shown l ≡ events_shown k
-    → events_shown (cond (shows o v) (record { verdict = v; event = e } ∷ l) l) ≡ shown_by v e ++ events_shown k
+with_first : (o : Output) (x : Reply) (l k : List Reply) → events_shown l ≡ events_shown k
+    → events_shown (cond (shows o x) (x ∷ l) l) ≡ shown_by x ++ events_shown k
 unfolding events_shown
-with_first Undecided Accepted e l k h = ap (λ (z : List (Outward ℕ)). shown_by Accepted e ++ z) h
-with_first Undecided (Refused f) e l k h = h
-with_first Quiet Accepted e l k h = ap (λ (z : List (Outward ℕ)). shown_by Accepted e ++ z) h
-with_first Quiet (Refused f) e l k h = h
-with_first All v e l k h = ap (λ (z : List (Outward ℕ)). shown_by v e ++ z) h
+with_first Undecided (Ok e) l k h = ap (λ (z : List (Outward ℕ)). shown_by (Ok e) ++ z) h
+with_first Undecided (Err f) l k h = h
+with_first Quiet (Ok e) l k h = ap (λ (z : List (Outward ℕ)). shown_by (Ok e) ++ z) h
+with_first Quiet (Err f) l k h = h
+with_first All x l k h = ap (λ (z : List (Outward ℕ)). shown_by x ++ z) h
 
 pub same-events : SameEvents
 unfolding shown_to replies_to lines_of events_shown
 same-events b r [] = refl
 same-events b r (s ∷ m) =
     let h = hearing_of b r s in
-    with_first b.output h.reply.verdict h.reply.event (shown_to h.bench h.ranges m) (replies_to h.bench.running h.ranges (lines_of m))
+    with_first b.output h.reply (shown_to h.bench h.ranges m) (replies_to h.bench.running h.ranges (lines_of m))
     (same-events h.bench h.ranges m)
 
 pub shown-promise : ShownPromise

@@ -1,15 +1,14 @@
 -- Lines put to a bench one after another, and what is promised of them: demand 3, of all that the bench says since its
 -- last accepted `group`, and which of it is shown.
-use Rattle.std.specs.Prelude.{◌≡◌, Bool, true, false, cond, not, List, [], ◌∷◌, ℕ}
+use Rattle.std.specs.Prelude.{◌≡◌, Bool, true, false, cond, not, List, [], ◌∷◌, Option, Some, None, ℕ}
 use Rattle.views.specs.Sets.{one, both}
 use Rattle.rules.specs.Promise.{Promised}
-use Rattle.events.specs.declared.Reply.{Reply}
-use Rattle.events.specs.Replies.{verdict_of}
+use Rattle.events.specs.Replies.{Reply, verdict_of}
 use Rattle.group_bytes.specs.Groups.{Ranges}
 use Rattle.group_bytes.specs.Steps.{start_result}
 use Rattle.events.specs.Shown.{events_shown}
 use Rattle.bench_lines.specs.declared.lines.Line.{Line}
-use Rattle.bench_lines.specs.declared.lines.Line.TheVariants.{Unreadable, Group, Step}
+use Rattle.bench_lines.specs.declared.lines.Line.TheVariants.{Group, Step}
 use Rattle.bench_lines.specs.Lines.{line_of, all_line, asks_all}
 use Rattle.bench_session.specs.declared.showing.Output.{Output}
 use Rattle.bench_session.specs.declared.showing.Bench.{Bench}
@@ -19,25 +18,25 @@ use Rattle.bench_session.specs.Showing.{idle, hearing_of}
 -- ---- the replies
 
 -- what the lines ask, each of any bytes
-unfoldable pub lines_of : List (List ℕ) → List Line
+unfoldable pub lines_of : List (List ℕ) → List (Option Line)
 lines_of [] = []
 lines_of (s ∷ l) = line_of s ∷ lines_of l
 
 -- the replies, first to last
-unfoldable pub replies_to : Bool → Ranges → List Line → List Reply
+unfoldable pub replies_to : Bool → Ranges → List (Option Line) → List Reply
 replies_to running r [] = []
 replies_to running r (x ∷ l) = let o = answer_to running r x in o.reply ∷ replies_to o.running o.ranges l
 
 -- ---- demand 3
 
 -- the line is a `group` that is accepted
-unfoldable pub starts : Ranges → Line → Bool
-starts r Unreadable = false
-starts r (Group s) = accepts (verdict_of (start_result s.members s.set r))
-starts r (Step c) = false
+unfoldable pub starts : Ranges → Option Line → Bool
+starts r None = false
+starts r (Some (Group s)) = accepts (verdict_of (start_result s.members s.set r))
+starts r (Some (Step c)) = false
 
 -- none of the lines is
-unfoldable pub none_starts : Bool → Ranges → List Line → Bool
+unfoldable pub none_starts : Bool → Ranges → List (Option Line) → Bool
 none_starts running r [] = true
 none_starts running r (x ∷ l) =
     let o = answer_to running r x in both (not (starts r x)) (none_starts o.running o.ranges l)
@@ -64,7 +63,7 @@ shown_to b r (s ∷ l) =
 -- those to accepted lines
 unfoldable pub accepted_among : List Reply → List Reply
 accepted_among [] = []
-accepted_among (x ∷ l) = cond (accepts x.verdict) (x ∷ accepted_among l) (accepted_among l)
+accepted_among (x ∷ l) = cond (accepts x) (x ∷ accepted_among l) (accepted_among l)
 
 -- the first line is `all`
 unfoldable pub begins_with_all : List (List ℕ) → Bool

@@ -1,8 +1,7 @@
 -- Which replies a bench shows. Its first line decides: where that is `all`, every later reply is shown, and otherwise
 -- those to accepted lines.
 use Rattle.std.specs.Prelude.{◌≡◌, Bool, true, false, cond, List, ℕ}
-use Rattle.views.specs.declared.refusal.Verdict.{Verdict}
-use Rattle.events.specs.declared.Reply.{Reply}
+use Rattle.events.specs.Replies.{Reply}
 use Rattle.group_bytes.specs.Groups.{Ranges}
 use Rattle.bench_lines.specs.Lines.{line_of, asks_all}
 use Rattle.bench_session.specs.Sessions.{accepts, answer_to}
@@ -16,10 +15,10 @@ abbrev pub idle : Bench
 idle = record { running = false; output = Undecided }
 
 -- a reply is shown by what was decided before its line: `all` itself, which is unreadable, gets none
-abbrev pub shows : Output → Verdict → Bool
-shows Undecided v = accepts v
-shows Quiet v = accepts v
-shows All v = true
+abbrev pub shows : Output → Reply → Bool
+shows Undecided x = accepts x
+shows Quiet x = accepts x
+shows All x = true
 
 -- what is decided after the line s
 abbrev pub decided_by : Output → List ℕ → Output
@@ -39,7 +38,7 @@ hearing_of b r s =
     let o = answer_to b.running r (line_of s) in
     record {
       reply = o.reply;
-      shown = shows b.output o.reply.verdict;
+      shown = shows b.output o.reply;
       bench = record { running = o.running; output = decided_by b.output s };
       ranges = o.ranges;
     }

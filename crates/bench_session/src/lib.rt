@@ -24,8 +24,10 @@ pub struct Answered {
 fn unread(running: bool) -> Answered
     ensures { result ≡ record { reply = unread_reply; running = running } }
 {
-    let reply = events::refuse(Refusal::LineUnreadable);
-    Answered { reply, running }
+    Answered {
+        reply: Err(Refusal::LineUnreadable),
+        running,
+    }
 }
 
 // Whether a group is running after a start's verdict.
@@ -33,8 +35,8 @@ fn runs(v: Verdict, running: bool) -> bool
     ensures { result ≡ now_running v running }
 {
     match v {
-        Verdict::Refused(_) => running,
-        Verdict::Accepted => true,
+        Err(_) => running,
+        Ok(()) => true,
     }
 }
 
@@ -51,11 +53,9 @@ fn begin(
         (group_line members set) (ranges list.new all.new queues.new) result }
 {
     let v = group::start::start(list, all, queues, members, set);
-    let reply = group::step::plain(v);
-    let after = runs(v, running);
     Answered {
-        reply,
-        running: after,
+        reply: group::step::plain(v),
+        running: runs(v, running),
     }
 }
 
@@ -77,9 +77,8 @@ fn go(
     if !running {
         return unread(false);
     }
-    let reply = group::step::next(list, all, queues, known, kind, first, second);
     Answered {
-        reply,
+        reply: group::step::next(list, all, queues, known, kind, first, second),
         running: true,
     }
 }
@@ -98,11 +97,10 @@ fn answer_line(
     ensures { Answers running (ranges list.old all.old queues.old)
         (line_of line.now) (ranges list.new all.new queues.new) result }
 {
-    let asked = bench_lines::lines::read(line);
-    match asked {
-        Line::Unreadable => unread(running),
-        Line::Group(s) => begin(list, all, queues, running, s.members, s.set),
-        Line::Step(s) => go(list, all, queues, running, known, s.kind, s.first, s.second),
+    match bench_lines::lines::read(line) {
+        None => unread(running),
+        Some(Line::Group(s)) => begin(list, all, queues, running, s.members, s.set),
+        Some(Line::Step(s)) => go(list, all, queues, running, known, s.kind, s.first, s.second),
     }
 }
 

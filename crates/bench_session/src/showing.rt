@@ -1,12 +1,10 @@
 // Which replies a bench shows: a line that is given to it gets its reply, and whether that is shown.
 ghost use Rattle.std.specs.Prelude.{true, ◌≡◌};
 ghost use Rattle.group_bytes.specs.Groups.{ranges, ranges_sound};
-ghost use Rattle.bench_session.specs.Sessions.{accepts};
 ghost use Rattle.bench_session.specs.Showing.{idle, shows, decided_by, Hears};
 ghost use Rattle.bench_session.specs.NextParts.{BenchStaysSound, HearsNext};
 
 use events::Reply;
-use views::refusal::Verdict;
 
 // What the first line decides: replies to accepted lines are shown, or all of them.
 #[derive(Clone, Copy)]
@@ -41,22 +39,13 @@ pub fn idle() -> Bench
     }
 }
 
-fn accepts(v: Verdict) -> bool
-    ensures { result ≡ accepts v }
-{
-    match v {
-        Verdict::Refused(_) => false,
-        Verdict::Accepted => true,
-    }
-}
-
-// Whether a reply with this verdict is shown.
-fn shows(output: Output, v: Verdict) -> bool
-    ensures { result ≡ shows output v }
+// Whether a reply is shown.
+fn shows(output: Output, reply: Reply) -> bool
+    ensures { result ≡ shows output reply }
 {
     match output {
-        Output::Undecided => accepts(v),
-        Output::Quiet => accepts(v),
+        Output::Undecided => reply.is_ok(),
+        Output::Quiet => reply.is_ok(),
         Output::All => true,
     }
 }
@@ -94,17 +83,12 @@ fn hear_line(
         line.now (ranges list.new all.new queues.new) result }
 {
     let a = crate::answer_line(list, all, queues, bench.running, known, line);
-    let reply = a.reply;
-    let verdict = reply.verdict;
-    let output = bench.output;
-    let shown = shows(output, verdict);
-    let decided = decided_by(output, line);
     Heard {
-        reply,
-        shown,
+        reply: a.reply,
+        shown: shows(bench.output, a.reply),
         bench: Bench {
             running: a.running,
-            output: decided,
+            output: decided_by(bench.output, line),
         },
     }
 }

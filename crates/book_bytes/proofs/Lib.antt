@@ -1,4 +1,3 @@
-pub mod CodeLaws
 pub mod LayoutLaws
 pub mod Opens
 pub mod Fits

@@ -1,6 +1,5 @@
 -- The small record of a book: how it lies in the bytes, and which book of the rules it is, together with the queues.
-use Rattle.std.specs.Prelude.{Bool, cond, List, ℕ, ◌+◌, min, eqb, get_or, set, take, drop}
-use Rattle.std.proofs.Math.Option.{Option, none, some}
+use Rattle.std.specs.Prelude.{Bool, cond, List, ℕ, ◌+◌, min, eqb, get_or, set, take, drop, Option, None, Some}
 use Rattle.std.proofs.Math.Seq.{paste}
 use Rattle.views.specs.declared.View.{View}
 use Rattle.views.specs.declared.list.Views.{Views}
@@ -21,7 +20,7 @@ use Rattle.book_bytes.specs.Places.{taken_at, infos_at, registrations_at, tolds_
 -- ---- which book it is
 
 abbrev pub seated : Seat → Option View
-seated s = cond s.there (some s.view) none
+seated s = cond s.there (Some s.view) None
 
 -- with the outgoing queue, the client view's inward list, and that of a carrier view not attempted
 abbrev pub meaning : Record → List Entry → List (Item ℕ) → List (Item ℕ) → R.Book

@@ -55,6 +55,5 @@ pub fn book(b: &mut [u8], members: u8, set: u8, own: Member)
 {
     wire::writer::clear(b);
     put_numbers(b, members, own);
-    let h = record(set, own);
-    crate::store(b, h);
+    crate::store(b, record(set, own));
 }

@@ -6,7 +6,7 @@ pub mod fresh;
 ghost use Rattle.std.specs.Prelude.{◌+◌, ◌≤◌, ◌≡◌, length, take, drop};
 ghost use Rattle.views.specs.Limits.{max_members, max_open};
 ghost use Rattle.book_bytes.specs.Places.{seat_size, book_size, tolds_at};
-ghost use Rattle.book_bytes.specs.Records.{seat_in, record_in, current_in, held_in, flag, store_seat, store_seats};
+ghost use Rattle.book_bytes.specs.Records.{seat_in, record_in, current_in, held_in, store_seat, store_seats};
 ghost use Rattle.book_bytes.specs.Records.{store_counts, store_notes, store_opens, store_held, store_record};
 
 use views::list::Views;
@@ -110,9 +110,10 @@ pub fn load_seat(b: &[u8], at: usize) -> Seat
     requires { at + seat_size ≤ length b.now }
     ensures { result ≡ seat_in b.now at }
 {
-    let there = b[at] == 1;
-    let view = wire::reader::load_view(b, at + 1);
-    Seat { there, view }
+    Seat {
+        there: b[at] == 1,
+        view: wire::reader::load_view(b, at + 1),
+    }
 }
 
 // The told counts received.
@@ -120,16 +121,9 @@ pub fn load_tolds(b: &[u8]) -> [u8; 8]
     requires { book_size ≤ length b.now }
     ensures { result ≡ take max_members (drop tolds_at b.now) }
 {
-    [
-        b[TOLDS],
-        b[TOLDS + 1],
-        b[TOLDS + 2],
-        b[TOLDS + 3],
-        b[TOLDS + 4],
-        b[TOLDS + 5],
-        b[TOLDS + 6],
-        b[TOLDS + 7],
-    ]
+    let mut tolds = [0; 8];
+    tolds.copy_from_slice(&b[TOLDS..SIDE]);
+    tolds
 }
 
 // The small record without the views held.
@@ -137,12 +131,9 @@ pub fn load_current(b: &[u8]) -> Current
     requires { book_size ≤ length b.now }
     ensures { result ≡ current_in b.now }
 {
-    let carrier = load_seat(b, CARRIER);
-    let client = load_seat(b, CLIENT);
-    let tolds = load_tolds(b);
     Current {
-        carrier,
-        client,
+        carrier: load_seat(b, CARRIER),
+        client: load_seat(b, CLIENT),
         registered: b[REGISTERED] == 1,
         handed: Position(b[HANDED]),
         told: Position(b[TOLD]),
@@ -150,7 +141,7 @@ pub fn load_current(b: &[u8]) -> Current
         taken: Position(b[TAKEN]),
         infos: b[INFOS],
         registrations: b[REGISTRATIONS],
-        tolds,
+        tolds: load_tolds(b),
         side: b[SIDE],
     }
 }
@@ -160,15 +151,11 @@ pub fn load_held(b: &[u8]) -> Held
     requires { book_size ≤ length b.now }
     ensures { result ≡ held_in b.now }
 {
-    let count = b[OPENS] as usize;
-    let n = if count < limits::OPEN {
-        count
-    } else {
-        limits::OPEN
-    };
-    let settled = wire::reader::load_view(b, SETTLED);
-    let opens = wire::reader::load_views(b, OPENS + 1, n);
-    Held { settled, opens }
+    let n = usize::from(b[OPENS]).min(limits::OPEN);
+    Held {
+        settled: wire::reader::load_view(b, SETTLED),
+        opens: wire::reader::load_views(b, OPENS + 1, n),
+    }
 }
 
 // The small record.
@@ -178,25 +165,18 @@ pub fn load(b: &[u8]) -> Record
 {
     let held = load_held(b);
     let h = load_current(b);
-    let settled = held.settled;
-    let opens = held.opens;
-    let carrier = h.carrier;
-    let client = h.client;
-    let handed = h.handed;
-    let told = h.told;
-    let reported = h.reported;
-    let taken = h.taken;
+    // An array goes from one struct to another by a variable: the borrow checker does not cover the field straight.
     let tolds = h.tolds;
     Record {
-        settled,
-        opens,
-        carrier,
-        client,
+        settled: held.settled,
+        opens: held.opens,
+        carrier: h.carrier,
+        client: h.client,
         registered: h.registered,
-        handed,
-        told,
-        reported,
-        taken,
+        handed: h.handed,
+        told: h.told,
+        reported: h.reported,
+        taken: h.taken,
         infos: h.infos,
         registrations: h.registrations,
         tolds,
@@ -204,19 +184,12 @@ pub fn load(b: &[u8]) -> Record
     }
 }
 
-// A mark in bytes.
-fn mark(on: bool) -> u8
-    ensures { result ≡ flag on }
-{
-    if on { 1 } else { 0 }
-}
-
 // A view or none is stored at a place.
 pub fn store_seat(b: &mut [u8], at: usize, seat: Seat)
     requires { at + seat_size ≤ length b.old }
     ensures { b.new ≡ store_seat b.old at seat }
 {
-    b[at] = mark(seat.there);
+    b[at] = u8::from(seat.there);
     wire::writer::store_view(b, at + 1, seat.view);
 }
 
@@ -224,18 +197,16 @@ fn store_seats(b: &mut [u8], h: Record)
     requires { book_size ≤ length b.old }
     ensures { b.new ≡ store_seats b.old h }
 {
-    let carrier = h.carrier;
-    let client = h.client;
     wire::writer::store_view(b, SETTLED, h.settled);
-    store_seat(b, CARRIER, carrier);
-    store_seat(b, CLIENT, client);
+    store_seat(b, CARRIER, h.carrier);
+    store_seat(b, CLIENT, h.client);
 }
 
 fn store_counts(b: &mut [u8], h: Record)
     requires { book_size ≤ length b.old }
     ensures { b.new ≡ store_counts b.old h }
 {
-    b[REGISTERED] = mark(h.registered);
+    b[REGISTERED] = u8::from(h.registered);
     b[HANDED] = h.handed.0;
     b[TOLD] = h.told.0;
     b[REPORTED] = h.reported.0;
@@ -248,12 +219,7 @@ fn store_notes(b: &mut [u8], h: Record)
 {
     b[INFOS] = h.infos;
     b[REGISTRATIONS] = h.registrations;
-    let tolds = h.tolds;
-    let mut i = 0;
-    while i < 8 {
-        b[TOLDS + i] = tolds[i];
-        i += 1;
-    }
+    b[TOLDS..SIDE].copy_from_slice(&h.tolds);
     b[SIDE] = h.side;
 }
 
@@ -262,9 +228,8 @@ fn store_opens(b: &mut [u8], list: Views)
     requires { (book_size ≤ length b.old) × (list.count ≤ max_open) }
     ensures { b.new ≡ store_opens b.old list }
 {
-    let n = list.count;
-    b[OPENS] = (n % 256) as u8;
-    wire::writer::store_views(b, OPENS + 1, list, n);
+    b[OPENS] = list.count as u8;
+    wire::writer::store_views(b, OPENS + 1, list, list.count);
 }
 
 // The views held are stored; all else stays as it is.
@@ -272,8 +237,7 @@ pub fn store_held(b: &mut [u8], h: Held)
     requires { (book_size ≤ length b.old) × (h.opens.count ≤ max_open) }
     ensures { b.new ≡ store_held b.old h }
 {
-    let settled = h.settled;
-    let opens = h.opens;
+    let Held { settled, opens } = h;
     wire::writer::store_view(b, SETTLED, settled);
     store_opens(b, opens);
 }
@@ -286,6 +250,5 @@ pub fn store(b: &mut [u8], h: Record)
     store_seats(b, h);
     store_counts(b, h);
     store_notes(b, h);
-    let opens = h.opens;
-    store_opens(b, opens);
+    store_opens(b, h.opens);
 }

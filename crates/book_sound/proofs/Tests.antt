@@ -1,5 +1,5 @@
 -- The small record, by the tests that the code asks one after another.
-use mathlib.Core.Path.{◌≡◌, refl}
+use mathlib.Core.Path.{◌≡◌, refl, ◌∙◌}
 use mathlib.Core.Bool.{Bool, true, false, cond}
 use mathlib.Core.List.{List, [], ◌∷◌}
 use Prim.Native.Nat.{ℕ, ◌+◌, ◌<◌, ◌≤◌}
@@ -44,6 +44,20 @@ record-order true true true true true true false r s v w x = refl
 record-order true true true true true true true false s v w x = refl
 record-order true true true true true true true true s v w x = refl
 
+-- tests that are asked from left to right: the next one where all before it are met, and otherwise what they are
+pub both-then : {v a b : Bool} → a ≡ true → v ≡ b → v ≡ both a b
+both-then p q = rw p q
+
+pub both-else : {v a : Bool} (b : Bool) → a ≡ false → v ≡ a → v ≡ both a b
+both-else b p q = rw p (q ∙ p)
+
+record-left : (a b t c p v : Bool) → both a (both b (both t (both c (both p v)))) ≡ both (both (both (both (both a b) t) c) p) v
+record-left false b t c p v = refl
+record-left true false t c p v = refl
+record-left true true false c p v = refl
+record-left true true true false p v = refl
+record-left true true true true p v = refl
+
 -- ---- over records
 
 -- the carrier view and the client view, as they were loaded, and the limit of the position
@@ -69,7 +83,7 @@ views-are n h =
     views-order (set_fits n h.settled) (all (set_fits n) (list_of h.opens)) (set_fits_if n (seated h.carrier)) (set_fits_if n (seated h.client))
     (rises_above (id_of h.settled) (list_of h.opens))
 
-pub record-are : (n : ℕ) (h : Record) (own new : ℕ) → record_sound n h own new ≡ both (leb 1 n) (both (leb n max_members)
+record-are : (n : ℕ) (h : Record) (own new : ℕ) → record_sound n h own new ≡ both (leb 1 n) (both (leb n max_members)
     (both (every n (λ q. leb (get_or h.tolds q 0) max_ordered)) (both (taken_fits h own new) (both (positions_fit h own) (views_sound n h)))))
 unfolding record_sound taken_fits positions_fit views_sound
 record-are n h own new =
@@ -80,6 +94,13 @@ record-are n h own new =
     (leb h.handed.0 k) (leb h.told.0 k) (leb h.reported.0 k)
     (all (set_fits n) (h.settled ∷ list_of h.opens)) (set_fits_if n (seated h.carrier)) (set_fits_if n (seated h.client))
     (rises_above (id_of h.settled) (list_of h.opens))
+
+-- the same, asked from left to right
+pub record-asked : (n : ℕ) (h : Record) (own new : ℕ) → record_sound n h own new
+    ≡ both (both (both (both (both (leb 1 n) (leb n max_members)) (every n (λ q. leb (get_or h.tolds q 0) max_ordered))) (taken_fits h own new)) (positions_fit h own)) (views_sound n h)
+record-asked n h own new =
+    record-are n h own new
+    ∙ record-left (leb 1 n) (leb n max_members) (every n (λ (q : ℕ). leb (get_or h.tolds q 0) max_ordered)) (taken_fits h own new) (positions_fit h own) (views_sound n h)
 
 -- ---- over a book's bytes
 

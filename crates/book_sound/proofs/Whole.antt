@@ -1,7 +1,7 @@
 -- The book that bytes are is sound when its parts are: the small record, each outgoing entry, each inward item.
 use mathlib.Core.Path.{◌≡◌, refl, sym, ap, ap₂, ◌∙◌}
 use mathlib.Core.Bool.{Bool, true, false, cond}
-use mathlib.Core.Option.{Option, none, some}
+use Rattle.std.specs.Prelude.{Option, None, Some}
 use mathlib.Core.List.{List, [], ◌∷◌}
 use Prim.Native.Nat.{ℕ, zero, suc, ◌+◌, ◌-◌, ◌≤◌, ◌<◌, min}
 use native.Mathlib.Omega.{arith}
@@ -54,8 +54,8 @@ entries_from n l c s o f =
 -- ---- limits where there is a view
 
 limit-length : {A : Type 0} (o : Option View) (l : List A) → limit_at o l ≡ limit_if o (length l)
-limit-length none l = refl
-limit-length (some v) l = refl
+limit-length None l = refl
+limit-length (Some v) l = refl
 
 length-cond : {A : Type 0} (t : Bool) (l m : List A) → length (cond t l m) ≡ cond t (length l) (length m)
 length-cond true l m = refl

@@ -17,14 +17,16 @@ pub fn entry_sound(b: &[u8], at: usize, n: u8) -> bool
     if n <= b[at] {
         return false;
     }
-    let kind = b[at + slots::KIND];
-    if kind == format::INFO {
-        return crate::views_at::sound(b, at + slots::VIEWS, b[at + slots::COUNT] as usize, n);
+    match b[at + slots::KIND] {
+        format::INFO => crate::views_at::sound(
+            b,
+            at + slots::VIEWS,
+            b[at + slots::COUNT] as usize,
+            n,
+        ),
+        format::TOLD => wire::in_bytes::told_fits(b, at + slots::NUMBER),
+        _ => true,
     }
-    if kind != format::TOLD {
-        return true;
-    }
-    wire::in_bytes::told_fits(b, at + slots::NUMBER)
 }
 
 // The slots of a queue have entries of known kind, with their views in their places.
@@ -32,14 +34,7 @@ pub fn slots_fit(b: &[u8], at: usize, count: usize) -> bool
     requires { at + slot_size * count ≤ length b.now }
     ensures { result ≡ slots_fit b.now at count }
 {
-    let mut i = 0;
-    while i < count {
-        if !slots::slot_fits(b, at + slots::SLOT * i) {
-            return false;
-        }
-        i += 1;
-    }
-    true
+    (0..count).all(|i| slots::slot_fits(b, at + slots::SLOT * i))
 }
 
 // Every entry of a queue is sound.
@@ -47,14 +42,7 @@ pub fn entries_sound(b: &[u8], at: usize, count: usize, n: u8) -> bool
     requires { (at + slot_size * count ≤ length b.now) × (slots_fit b.now at count ≡ true) }
     ensures { result ≡ all (entry_sound n) (entries_in b.now at count) }
 {
-    let mut i = 0;
-    while i < count {
-        if !entry_sound(b, at + slots::SLOT * i, n) {
-            return false;
-        }
-        i += 1;
-    }
-    true
+    (0..count).all(|i| entry_sound(b, at + slots::SLOT * i, n))
 }
 
 // The senders of the inward list at c are members: the highest of them is. A loop without an exit goes 16 at a time.
@@ -62,13 +50,10 @@ pub fn items_sound(b: &[u8], c: usize, n: u8) -> bool
     requires { (c + inward_size ≤ length b.now) × (get_or b.now c 0 ≤ max_ordered) × (0 < n) }
     ensures { result ≡ all (item_from_member n) (items_in b.now c) }
 {
-    let count = b[c] as usize;
+    let from = c + slots::inward::SENDERS;
     let mut highest = 0;
-    let mut i = 0;
-    while i < count {
-        let sender = b[c + slots::inward::SENDERS + i];
-        highest = if highest < sender { sender } else { highest };
-        i += 1;
+    for sender in &b[from..from + b[c] as usize] {
+        highest = highest.max(*sender);
     }
     highest < n
 }

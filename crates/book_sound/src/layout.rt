@@ -11,16 +11,10 @@ fn marks_fit(b: &[u8]) -> bool
     requires { book_size ≤ length b.now }
     ensures { result ≡ marks_fit b.now }
 {
-    if 1 < b[book_bytes::CARRIER] {
-        return false;
-    }
-    if 1 < b[book_bytes::CLIENT] {
-        return false;
-    }
-    if 1 < b[book_bytes::REGISTERED] {
-        return false;
-    }
-    b[book_bytes::SIDE] <= 1
+    b[book_bytes::CARRIER] <= 1
+        && b[book_bytes::CLIENT] <= 1
+        && b[book_bytes::REGISTERED] <= 1
+        && b[book_bytes::SIDE] <= 1
 }
 
 // The counts are within their limits.
@@ -28,34 +22,22 @@ fn counts_fit(b: &[u8]) -> bool
     requires { book_size ≤ length b.now }
     ensures { result ≡ counts_fit b.now }
 {
-    if limits::OPEN < b[book_bytes::OPENS] as usize {
-        return false;
-    }
-    if limits::OUTGOING < b[book_bytes::OUTGOING] {
-        return false;
-    }
-    if limits::ORDERED < b[book_bytes::INWARD] {
-        return false;
-    }
-    b[book_bytes::INWARD + book_bytes::APART] <= limits::ORDERED
+    b[book_bytes::OPENS] as usize <= limits::OPEN
+        && b[book_bytes::OUTGOING] <= limits::OUTGOING
+        && b[book_bytes::INWARD] <= limits::ORDERED
+        && b[book_bytes::INWARD + book_bytes::APART] <= limits::ORDERED
 }
 
 // What only bytes can hold is as the layout says.
 pub fn layout_fits(b: &[u8]) -> bool
     ensures { result ≡ layout_fits b.now }
 {
-    if b.len() != book_bytes::SIZE {
-        return false;
-    }
-    if !marks_fit(b) {
-        return false;
-    }
-    if !counts_fit(b) {
-        return false;
-    }
-    crate::entries_at::slots_fit(
-        b,
-        book_bytes::OUTGOING + 1,
-        b[book_bytes::OUTGOING] as usize,
-    )
+    b.len() == book_bytes::SIZE
+        && marks_fit(b)
+        && counts_fit(b)
+        && crate::entries_at::slots_fit(
+            b,
+            book_bytes::OUTGOING + 1,
+            b[book_bytes::OUTGOING] as usize,
+        )
 }

@@ -25,19 +25,11 @@ fn queues_sound(b: &[u8], n: u8) -> bool
     requires { (layout_fits b.now ≡ true) × (0 < n) }
     ensures { result ≡ queues_sound n b.now }
 {
-    if !crate::entries_at::entries_sound(
-        b,
-        book_bytes::OUTGOING + 1,
-        b[book_bytes::OUTGOING] as usize,
-        n,
-    ) {
-        return false;
-    }
+    let outgoing = b[book_bytes::OUTGOING] as usize;
     let side = b[book_bytes::SIDE] as usize;
-    if !inward_sound(b, side, n) {
-        return false;
-    }
-    inward_sound(b, 1 - side, n)
+    crate::entries_at::entries_sound(b, book_bytes::OUTGOING + 1, outgoing, n)
+        && inward_sound(b, side, n)
+        && inward_sound(b, 1 - side, n)
 }
 
 // The bytes are a sound book.
@@ -51,8 +43,5 @@ pub fn sound(b: &[u8]) -> bool
     let side = b[book_bytes::SIDE] as usize;
     let own = b[book_bytes::INWARD + book_bytes::APART * side];
     let new = b[book_bytes::INWARD + book_bytes::APART * (1 - side)];
-    if !crate::record::record_sound(b, n, own, new) {
-        return false;
-    }
-    queues_sound(b, n)
+    crate::record::record_sound(b, n, own, new) && queues_sound(b, n)
 }

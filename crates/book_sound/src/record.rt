@@ -15,26 +15,17 @@ fn seat_fits(b: &[u8], at: usize, n: u8) -> bool
     requires { at + seat_size ≤ length b.now }
     ensures { result ≡ set_fits_if n (seated (seat_in b.now at)) }
 {
-    if b[at] == 1 {
-        return sets::fits(n, b[at + 1 + sizes::IDENTIFIER]);
-    }
-    true
+    b[at] != 1 || sets::fits(n, b[at + 1 + sizes::IDENTIFIER])
 }
 
 // The told counts of n members are within their limit.
 fn tolds_fit(n: u8, tolds: [u8; 8]) -> bool
     ensures { result ≡ every n (λ q. leb (get_or tolds q 0) max_ordered) }
 {
-    let mut q: usize = 0;
-    while q < 8 {
-        if q < n as usize {
-            if limits::ORDERED < tolds[q] {
-                return false;
-            }
-        }
-        q += 1;
-    }
-    true
+    tolds
+        .iter()
+        .take(usize::from(n))
+        .all(|told| *told <= limits::ORDERED)
 }
 
 // A limit that holds only where there is a view; without one it is 0.
@@ -52,13 +43,12 @@ fn taken_fits(b: &[u8], own: u8, new: u8) -> bool
     let carrier = book_bytes::load_seat(b, book_bytes::CARRIER);
     let client = book_bytes::load_seat(b, book_bytes::CLIENT);
     let taken = b[book_bytes::TAKEN];
-    if limit_if(carrier, limits::ORDERED) < taken {
-        return false;
-    }
-    if record_steps::tests::same_view(client, carrier) {
-        return limit_if(carrier, own) <= taken;
-    }
-    limit_if(carrier, new) <= taken
+    let items = if record_steps::tests::same_view(client, carrier) {
+        own
+    } else {
+        new
+    };
+    taken <= limit_if(carrier, limits::ORDERED) && limit_if(carrier, items) <= taken
 }
 
 // The positions in the client view's inward list, which has so many items.
@@ -68,13 +58,9 @@ fn positions_fit(b: &[u8], own: u8) -> bool
 {
     let client = book_bytes::load_seat(b, book_bytes::CLIENT);
     let limit = limit_if(client, own);
-    if limit < b[book_bytes::HANDED] {
-        return false;
-    }
-    if limit < b[book_bytes::TOLD] {
-        return false;
-    }
-    b[book_bytes::REPORTED] <= limit
+    b[book_bytes::HANDED] <= limit
+        && b[book_bytes::TOLD] <= limit
+        && b[book_bytes::REPORTED] <= limit
 }
 
 // The views held, the carrier view and the client view.
@@ -84,19 +70,11 @@ fn views_sound(b: &[u8], n: u8) -> bool
 {
     let settled = wire::reader::load_view(b, book_bytes::SETTLED);
     let opens = b[book_bytes::OPENS] as usize;
-    if !crate::views_at::set_fits(n, settled) {
-        return false;
-    }
-    if !crate::views_at::all_fit(b, book_bytes::OPENS + 1, opens, n) {
-        return false;
-    }
-    if !seat_fits(b, book_bytes::CARRIER, n) {
-        return false;
-    }
-    if !seat_fits(b, book_bytes::CLIENT, n) {
-        return false;
-    }
-    wire::in_bytes::rise_above(b, book_bytes::OPENS + 1, opens, settled.id)
+    crate::views_at::set_fits(n, settled)
+        && crate::views_at::all_fit(b, book_bytes::OPENS + 1, opens, n)
+        && seat_fits(b, book_bytes::CARRIER, n)
+        && seat_fits(b, book_bytes::CLIENT, n)
+        && wire::in_bytes::rise_above(b, book_bytes::OPENS + 1, opens, settled.id)
 }
 
 // The record of a book of n members, with so many items in its two inward lists.
@@ -104,21 +82,9 @@ pub fn record_sound(b: &[u8], n: u8, own: u8, new: u8) -> bool
     requires { (book_size ≤ length b.now) × (get_or b.now opens_at 0 ≤ max_open) }
     ensures { result ≡ record_sound n (record_in b.now) own new }
 {
-    if n < 1 {
-        return false;
-    }
-    if limits::MEMBERS < n {
-        return false;
-    }
-    let tolds = book_bytes::load_tolds(b);
-    if !tolds_fit(n, tolds) {
-        return false;
-    }
-    if !taken_fits(b, own, new) {
-        return false;
-    }
-    if !positions_fit(b, own) {
-        return false;
-    }
-    views_sound(b, n)
+    (1..=limits::MEMBERS).contains(&n)
+        && tolds_fit(n, book_bytes::load_tolds(b))
+        && taken_fits(b, own, new)
+        && positions_fit(b, own)
+        && views_sound(b, n)
 }

@@ -21,14 +21,7 @@ pub fn all_fit(b: &[u8], from: usize, count: usize, n: u8) -> bool
     requires { from + view_size * count ≤ length b.now }
     ensures { result ≡ all (set_fits n) (views_in b.now from count) }
 {
-    let mut i = 0;
-    while i < count {
-        if !sets::fits(n, b[from + sizes::VIEW * i + sizes::IDENTIFIER]) {
-            return false;
-        }
-        i += 1;
-    }
-    true
+    (0..count).all(|i| sets::fits(n, b[from + sizes::VIEW * i + sizes::IDENTIFIER]))
 }
 
 // Every set fits, and the identifiers rise.
@@ -37,8 +30,5 @@ pub fn sound(b: &[u8], from: usize, count: usize, n: u8) -> bool
     ensures { result ≡ both (all (set_fits n) (views_in b.now from count))
         (is_rising (views_in b.now from count)) }
 {
-    if !all_fit(b, from, count, n) {
-        return false;
-    }
-    wire::in_bytes::rising(b, from, count)
+    all_fit(b, from, count, n) && wire::in_bytes::rising(b, from, count)
 }

@@ -11,14 +11,14 @@ use lib.ListN.{length, length-set, get_or, set}
 use Rattle.views.specs.declared.View.{View}
 use Rattle.views.specs.declared.list.Views.{Views}
 use Rattle.views.specs.declared.refusal.Refusal.{Refusal}
-use Rattle.views.specs.declared.refusal.Verdict.{Verdict}
-use Rattle.views.specs.declared.refusal.Verdict.TheVariants.{Accepted, Refused}
+use Rattle.views.specs.Refusals.{Verdict, require, and_then}
+use Rattle.views.specs.Refusals.{after as then}
+use Rattle.std.specs.Prelude.{Some, Ok, Err}
 use Rattle.views.specs.Limits.{max_open}
 use Rattle.views.specs.Sets.{one}
 use Rattle.views.specs.Lists.{id_of, list_of, placed, insert_of}
 use Rattle.views.proofs.ListLaws.{insert-union, length_union}
 use Rattle.views.proofs.PlaceLaws.{list-placed}
-use Rattle.views.specs.Refusals.{left}
 use Rattle.wire.specs.Reader.{views_in}
 use Rattle.wire.proofs.ReaderLaws.{length-views_in}
 use Rattle.rules.specs.Data.{Book as Ruled, Member, Result, refused, accepted, need, after}
@@ -28,16 +28,14 @@ use Rattle.book_bytes.specs.declared.Record.{Record}
 use Rattle.book_bytes.specs.Places.{side_at, opens_at, inward_at, book_size}
 use Rattle.book_bytes.specs.Records.{record_in, store_record}
 use Rattle.book_bytes.specs.Books.{outgoing_in, inward_in, book_in, members_in, own_in_book}
-use Rattle.record_steps.specs.declared.Stepped.{Stepped}
-use Rattle.record_steps.specs.Turns.{stepped, opened_to, attempted_at, attempt_turn}
+use Rattle.record_steps.specs.Turns.{opened_to, attempted_at, attempt_turn}
 use Rattle.record_steps.proofs.MeaningVerdicts.{attempt-verdict}
 use Rattle.record_steps.proofs.MeaningMarks.{seated-view, attempt-leaves}
-use Rattle.events.specs.declared.Event.{Event}
-use Rattle.events.specs.declared.Reply.{Reply}
-use Rattle.events.specs.Replies.{no_event, event_of, happened, replied, reply_of, verdict_of}
+use Rattle.events.specs.declared.Event.TheVariants.{Attempt}
+use Rattle.events.specs.Replies.{member_number, event_of, verdict_of}
 use Rattle.book_steps.specs.Acts.{few_open, attempt_bytes}
-use Rattle.book_steps.specs.Parts.{attempt_event, few_if, few_stepped}
-use Rattle.book_steps.proofs.Committed.{stepped-verdict, refused-by, accepted-by}
+use Rattle.book_steps.specs.Parts.{few_opened}
+use Rattle.book_steps.proofs.Committed.{Answered, refused-by, accepted-by, turn-refused, turn-accepted}
 use Rattle.book_steps.proofs.LentLaws.{few-accepted}
 
 -- ---- the emptied inward list
@@ -92,16 +90,16 @@ module _ (b : List ℕ) where
       let k = attempt-leaves h (outgoing_in b) (inward_in b (get_or b side_at 0)) (inward_in b (1 - get_or b side_at 0)) read lies read-few one n p d e in
       ap (λ (z : Ruled). length z.held.opens) k ∙ sym (opened-count h.carrier.view h.settled h.opens read lies read-few)
 
-  turn-rule : attempt_turn n h ≡ stepped (verdict_of rule) next h
+  turn-rule : attempt_turn n h ≡ and_then (verdict_of rule) (Ok next)
   unfolding attempt_turn book_in
   turn-rule =
-      ap (λ (v : Verdict). stepped v next h)
+      ap (λ (v : Verdict). and_then v (Ok next))
       (sym (attempt-verdict h (outgoing_in b) (inward_in b (get_or b side_at 0)) (inward_in b (1 - get_or b side_at 0)) one n p))
 
   -- the test of 43 on the record is the rule's
   few-same : (r : Result Done) → ((d : Done) → r ≡ accepted d → length d.book.held.opens ≡ next.opens.count)
-      → few_stepped (stepped (verdict_of r) next h) h ≡ stepped (verdict_of (few_open r)) next h
-  unfolding few_if few_open stepped after need
+      → then (and_then (verdict_of r) (Ok next)) few_opened ≡ and_then (verdict_of (few_open r)) (Ok next)
+  unfolding few_opened few_open and_then then require after need
   few-same (refused x) f = refl
   few-same (accepted d) f =
       let k = f d refl in
@@ -110,49 +108,42 @@ module _ (b : List ℕ) where
       (λ (t : leb next.opens.count max_open ≡ false). let u : leb (length d.book.held.opens) max_open ≡ false = rw k t in rw (t, u))
       (known (leb next.opens.count max_open))
 
-  pub attempt-turned : few_stepped (attempt_turn n h) h ≡ stepped (verdict_of (few_open rule)) next h
-  attempt-turned = ap (λ (s : Stepped). few_stepped s h) turn-rule ∙ few-same rule open_after
+  pub attempt-turned : then (attempt_turn n h) few_opened ≡ and_then (verdict_of (few_open rule)) (Ok next)
+  attempt-turned = rw turn-rule (few-same rule open_after)
 
-  attempt-event : Holds (λ (d : Done). event_of d.answer ≡ attempt_event h p) (few_open rule)
-  unfolding few_open attempts book_in attempt_event
+  attempt-event : Holds (λ (d : Done). event_of d.answer ≡ Some (Attempt (member_number p) h.carrier.view)) (few_open rule)
+  unfolding few_open attempts book_in
   attempt-event =
-      after_holds (λ (d : Done). event_of d.answer ≡ attempt_event h p) _ _
+      after_holds (λ (d : Done). event_of d.answer ≡ Some (Attempt (member_number p) h.carrier.view)) _ _
       (view-holds _ _ _ (λ v e. need-holds _ _ _ (λ t. need-holds _ _ _ (λ u. need-holds _ _ _ (λ w.
-      gives (ap (λ (z : View). happened 6 p z 0 0) (seated-view h.carrier v e)))))))
+      gives (ap (λ (z : View). Some (Attempt (member_number p) z)) (seated-view h.carrier v e)))))))
       (λ d k. need-holds _ _ _ (λ t. gives k))
 
 -- ---- what the code has at hand
 
-module _ (b : List ℕ) (h : Record) (loaded : h ≡ record_in b) (s : Stepped) (e : s ≡ few_stepped (attempt_turn (members_in b) h) h) where
+module _ (b : List ℕ) (h : Record) (loaded : h ≡ record_in b) where
   abbrev rule' : Result Done
   rule' = few_open (attempts one (members_in b) (own_in_book b) (book_in b))
 
-  turned : s ≡ stepped (verdict_of rule') (attempted_at (record_in b).carrier.view (record_in b)) (record_in b)
-  turned = e ∙ ap (λ (z : Record). few_stepped (attempt_turn (members_in b) z) z) loaded ∙ attempt-turned b
+  turned : then (attempt_turn (members_in b) h) few_opened ≡ and_then (verdict_of rule') (Ok (attempted_at (record_in b).carrier.view (record_in b)))
+  turned = ap (λ (z : Record). then (attempt_turn (members_in b) z) few_opened) loaded ∙ attempt-turned b
 
-  ruled : s.verdict ≡ verdict_of rule'
-  ruled = ap (λ (z : Stepped). z.verdict) turned ∙ stepped-verdict (verdict_of rule') _ _
+  pub attempt-refused : (x : Refusal) → Err x ≡ then (attempt_turn (members_in b) h) few_opened
+      → Answered rule' (attempt_bytes b) b (Err x) b
+  attempt-refused x e = refused-by rule' x (attempt_bytes b) b (turn-refused _ _ x (e ∙ turned))
 
-  pub attempt-refused : (x : Refusal) (y : Reply) → s.verdict ≡ Refused x → y ≡ replied (Refused x) no_event
-      → (y ≡ reply_of rule') × (b ≡ left (verdict_of rule') (attempt_bytes b) b)
-  attempt-refused x y v f = refused-by rule' x (attempt_bytes b) b y (sym ruled ∙ v) f
+  module _ (next : Record) (e : Ok next ≡ then (attempt_turn (members_in b) h) few_opened) where
+    next-is : (verdict_of rule' ≡ Ok tt) × (next ≡ attempted_at (record_in b).carrier.view (record_in b))
+    next-is = turn-accepted _ _ next (e ∙ turned)
 
-  next-is : s.verdict ≡ Accepted → s.book ≡ attempted_at (record_in b).carrier.view (record_in b)
-  unfolding stepped
-  next-is v =
-      let w : verdict_of rule' ≡ Accepted = sym ruled ∙ v in
-      ap (λ (z : Stepped). z.book) turned ∙ ap (λ (z : Verdict). (stepped z (attempted_at (record_in b).carrier.view (record_in b)) (record_in b)).book) w
+    -- 43 was not given
+    pub attempt-few : next.opens.count ≤ max_open
+    attempt-few = few-accepted (attempt_turn (members_in b) h) next e
 
-  -- 43 was not given
-  pub attempt-few : s.verdict ≡ Accepted → s.book.opens.count ≤ max_open
-  attempt-few v = few-accepted (attempt_turn (members_in b) h) h s e v
-
-  pub attempt-accepted : s.verdict ≡ Accepted → (ev : Event) → ev ≡ attempt_event h (own_in_book b)
-      → (y : List ℕ) → (c : List ℕ) → c ≡ set b (inward_at h.side) 0 → y ≡ store_record c s.book
-      → (record { verdict = Accepted; event = ev } ≡ reply_of rule') × (y ≡ left (verdict_of rule') (attempt_bytes b) b)
-  unfolding attempt_bytes record_in
-  attempt-accepted v ev g y c l k =
-      accepted-by rule' (attempt_bytes b) b ev y (sym ruled ∙ v)
-      (rw (g ∙ ap (λ (z : Record). attempt_event z (own_in_book b)) loaded) (attempt-event b))
-      (k ∙ ap (λ (z : List ℕ). store_record z s.book) (l ∙ ap (λ (z : Record). set b (inward_at z.side) 0) loaded)
-      ∙ ap (λ (z : Record). store_record (set b (inward_at (get_or b side_at 0)) 0) z) (next-is v))
+    pub attempt-accepted : (y c : List ℕ) → c ≡ set b (inward_at h.side) 0 → y ≡ store_record c next
+        → Answered rule' (attempt_bytes b) b (Ok (Some (Attempt (member_number (own_in_book b)) h.carrier.view))) y
+    unfolding attempt_bytes record_in
+    attempt-accepted y c l k =
+        accepted-by rule' (attempt_bytes b) b _ y next-is.0 (rw loaded (attempt-event b))
+        (k ∙ ap (λ (z : List ℕ). store_record z next) (l ∙ ap (λ (z : Record). set b (inward_at z.side) 0) loaded)
+        ∙ ap (store_record (set b (inward_at (get_or b side_at 0)) 0)) next-is.1)

@@ -1,6 +1,5 @@
--- A step that was accepted leaves the new record stored; a refused one leaves the bytes. What a sound book's bytes are, and what an accepted step found
--- there.
-use mathlib.Core.Path.{◌≡◌, refl, ap, ◌∙◌}
+-- What a sound book's bytes are, what a step gave and left by its rule, refused and accepted, and what an accepted step found there.
+use mathlib.Core.Path.{◌≡◌, refl, sym}
 use mathlib.Core.Bool.{true, not, ◌||◌}
 use mathlib.Core.List.{List}
 use Prim.Native.Nat.{ℕ, ◌+◌, ◌≤◌, ◌<◌, min}
@@ -9,10 +8,10 @@ use borrow.Author.Tests.{ltb-true}
 use lib.Dec.{ltb}
 use lib.ListN.{length, get_or, take, length-take}
 use Rattle.views.specs.declared.refusal.Refusal.{Refusal}
-use Rattle.views.specs.declared.refusal.Verdict.{Verdict}
-use Rattle.views.specs.declared.refusal.Verdict.TheVariants.{Accepted, Refused}
+use Rattle.views.specs.Refusals.{Verdict, and_then, left}
+use Rattle.views.proofs.VerdictLaws.{never}
+use Rattle.std.specs.Prelude.{Option, Ok, Err}
 use Rattle.views.specs.Limits.{max_open, max_outgoing}
-use Rattle.views.specs.Refusals.{left}
 use Rattle.wire.proofs.ReaderLaws.{length-views_in}
 use Rattle.rules.specs.Data.{Member, Result, refused, accepted, Book as Ruled}
 use Rattle.rules.specs.Member.{Done, client_is_carrier, has_room, registers, sends, hands, tells, safes}
@@ -22,14 +21,11 @@ use Rattle.rules.proofs.Sound.QueueLaws.{next-below}
 use Rattle.book_bytes.specs.declared.Record.{Record}
 use Rattle.book_bytes.specs.declared.Current.{Current}
 use Rattle.book_bytes.specs.Places.{side_at, opens_at, book_size}
-use Rattle.book_bytes.specs.Records.{record_in, current_in, store_record}
+use Rattle.book_bytes.specs.Records.{record_in, current_in}
 use Rattle.book_bytes.specs.Books.{inward_in, book_in, bytes_sound}
 use Rattle.book_bytes.proofs.LayoutLaws.{Layout, layout-says}
-use Rattle.record_steps.specs.declared.Stepped.{Stepped}
-use Rattle.record_steps.specs.Turns.{stepped}
 use Rattle.events.specs.declared.Event.{Event}
-use Rattle.events.specs.declared.Reply.{Reply}
-use Rattle.events.specs.Replies.{no_event, event_of, replied, reply_of, verdict_of}
+use Rattle.events.specs.Replies.{Reply, event_of, reply_of, verdict_of}
 
 -- ---- a sound book's bytes
 
@@ -55,66 +51,37 @@ record-few b = omega (arith, length-views_in b (opens_at + 1) (min (get_or b ope
 
 -- ---- a step and its verdict
 
-pub accepted-holds : {A : Type 0} {P : A → Type 0} (r : Result A) → Holds P r → verdict_of r ≡ Accepted → (x : A) × P x
-accepted-holds (refused r) h e = let z : ◌≡◌ {A = ℕ} 0 1 = cc in absurd (omega arith)
+pub accepted-holds : {A : Type 0} {P : A → Type 0} (r : Result A) → Holds P r → verdict_of r ≡ Ok tt → (x : A) × P x
+accepted-holds (refused r) h e = absurd (never r e)
 accepted-holds (accepted x) h e = (x, given h)
 
-pub stepped-verdict : (v : Verdict) (new old : Record) → (stepped v new old).verdict ≡ v
-unfolding stepped
-stepped-verdict Accepted new old = refl
-stepped-verdict (Refused r) new old = refl
+-- a step by the rule r on the bytes b gave the reply y and left the bytes c, where d is what an accepted one leaves
+abbrev pub Answered : Result Done → List ℕ → List ℕ → Reply → List ℕ → Type 0
+Answered r d b y c = (y ≡ reply_of r) × (c ≡ left (verdict_of r) d b)
 
--- what both records have, the record after the step has
-pub stepped-few : (v : Verdict) (new old : Record) → new.opens.count ≤ max_open → old.opens.count ≤ max_open → (stepped v new old).book.opens.count ≤ max_open
-unfolding stepped
-stepped-few Accepted new old f g = f
-stepped-few (Refused r) new old f g = g
-
--- the reply and the bytes of a step kept, refused and accepted
-pub commit-refused : (v : Verdict) (x : Refusal) (e : Event) (r : Reply) (d b : List ℕ) → v ≡ Refused x → r ≡ replied (Refused x) no_event → (r ≡ replied v e) × (b ≡ left v d b)
-unfolding replied left
-commit-refused v x e r d b t h = rw t (h, refl)
-
-pub commit-accepted : (v : Verdict) (e : Event) (y d b : List ℕ) → v ≡ Accepted → y ≡ d → (record { verdict = Accepted; event = e } ≡ replied v e) × (y ≡ left v d b)
-unfolding replied left
-commit-accepted v e y d b t g = rw t (refl, g)
-
--- the reply and the bytes of a step whose verdict is the rule's
-pub answered : (r : Result Done) (e : Event) → Holds (λ (x : Done). event_of x.answer ≡ e) r → replied (verdict_of r) e ≡ reply_of r
-unfolding replied
-answered (refused x) e h = refl
-answered (accepted x) e h = rw (given h)
-
--- a step that the rule refuses, and one that it accepts, by the code's own arms
-pub refused-by : (r : Result Done) (x : Refusal) (d b : List ℕ) (y : Reply) → verdict_of r ≡ Refused x → y ≡ replied (Refused x) no_event
-    → (y ≡ reply_of r) × (b ≡ left (verdict_of r) d b)
-unfolding replied left
-refused-by (refused z) x d b y e h = let k : z ≡ x = cc in rw k (h, refl)
-refused-by (accepted z) x d b y e h = let k : ◌≡◌ {A = ℕ} 0 1 = cc in absurd (omega arith)
-
-pub accepted-by : (r : Result Done) (d b : List ℕ) (e : Event) (y : List ℕ) → verdict_of r ≡ Accepted → Holds (λ (x : Done). event_of x.answer ≡ e) r → y ≡ d
-    → (record { verdict = Accepted; event = e } ≡ reply_of r) × (y ≡ left (verdict_of r) d b)
+-- one that the rule refuses, and one that it accepts
+pub refused-by : (r : Result Done) (x : Refusal) (d b : List ℕ) → verdict_of r ≡ Err x → Answered r d b (Err x) b
 unfolding left
-accepted-by (refused z) d b e y v h k = let i : ◌≡◌ {A = ℕ} 0 1 = cc in absurd (omega arith)
+refused-by (refused z) x d b e = let k : z ≡ x = cc in rw k (refl, refl)
+refused-by (accepted z) x d b e = absurd (never x (sym e))
+
+pub accepted-by : (r : Result Done) (d b : List ℕ) (e : Option Event) (y : List ℕ) → verdict_of r ≡ Ok tt
+    → Holds (λ (x : Done). event_of x.answer ≡ e) r → y ≡ d
+    → Answered r d b (Ok e) y
+unfolding left
+accepted-by (refused z) d b e y v h k = absurd (never z v)
 accepted-by (accepted z) d b e y v h k = (rw (given h), k)
 
-stored-by : (r : Result Done) (new old : Record) (b d : List ℕ) → store_record b new ≡ d
-    → left (stepped (verdict_of r) new old).verdict (store_record b (stepped (verdict_of r) new old).book) b ≡ left (verdict_of r) d b
-unfolding stepped left
-stored-by (refused x) new old b d p = refl
-stored-by (accepted x) new old b d p = p
+-- a turn of a record by a verdict: refused it is the verdict's refusal, and accepted it gives the new record
+pub turn-refused : (v : Verdict) (new : Record) (x : Refusal) → Err x ≡ and_then v (Ok new) → v ≡ Err x
+unfolding and_then
+turn-refused (Ok u) new x e = absurd (never x e)
+turn-refused (Err r) new x e = cc
 
--- a step of a record by the rule r, stored in the bytes b: its reply x and the bytes y, where d is what an accepted step leaves
-pub committed : (b : List ℕ) (r : Result Done) (new old : Record) (d : List ℕ) (s : Stepped) → s ≡ stepped (verdict_of r) new old
-    → (e : Event) → Holds (λ (x : Done). event_of x.answer ≡ e) r
-    → store_record b new ≡ d
-    → (x : Reply) (y : List ℕ) → (x ≡ replied s.verdict e) × (y ≡ left s.verdict (store_record b s.book) b)
-    → (x ≡ reply_of r) × (y ≡ left (verdict_of r) d b)
-committed b r new old d s t e k p x y (i, j) =
-    let v : s.verdict ≡ verdict_of r = ap (λ (z : Stepped). z.verdict) t ∙ stepped-verdict (verdict_of r) new old in (
-      i ∙ ap (λ (w : Verdict). replied w e) v ∙ answered r e k,
-      j ∙ ap (λ (z : Stepped). left z.verdict (store_record b z.book) b) t ∙ stored-by r new old b d p,
-    )
+pub turn-accepted : (v : Verdict) (new h : Record) → Ok h ≡ and_then v (Ok new) → (v ≡ Ok tt) × (h ≡ new)
+unfolding and_then
+turn-accepted (Ok u) new h e = (refl, cc)
+turn-accepted (Err r) new h e = absurd (never r (sym e))
 
 -- ---- what an accepted step found
 
@@ -123,7 +90,6 @@ room_for b h t =
     let k : (not true || ltb (length b.outgoing) max_outgoing) ≡ true = rw t at h in
     ltb-true _ _ k
 
--- there is one behind the k-th
 -- a step that may queue a message is accepted only where there is room
 module _ (b : List ℕ) (p : Member) where
   pub register-room : Holds (λ (d : Done). has_room (book_in b) ≡ true) (registers p (book_in b))

@@ -6,11 +6,12 @@ use mathlib.Core.List.{List}
 use Prim.Native.Nat.{ℕ, zero, suc, ◌+◌, ◌-◌}
 use native.Mathlib.Omega.{arith}
 use Rattle.views.specs.declared.View.{View}
-use Rattle.views.specs.declared.refusal.Verdict.TheVariants.{Accepted}
+use Rattle.std.specs.Prelude.{Ok}
 use Rattle.views.specs.Sizes.{view_size}
 use Rattle.views.specs.Lists.{id_of, is_rising}
 use Rattle.views.proofs.VerdictLaws.{need-accepted}
 use Rattle.views.proofs.ListLaws.{rising-tail, rises-rising}
+use Rattle.wire.specs.declared.Reading.{Reading}
 use Rattle.wire.specs.Format.{content_of}
 use Rattle.wire.specs.Reader.{views_at, view_in, view_count, views_in, read_front}
 use Rattle.wire.proofs.TripRead.{front-met}
@@ -30,12 +31,12 @@ behind-first c at zero r = refl
 behind-first c at (suc n) r =
     let e : suc n - 1 ≡ n = omega arith in rw e (rising-tail (view_in c at) (views_in c (at + view_size) n) r)
 
-read-rises : (c : List ℕ) → (read_front c).verdict ≡ Accepted → is_rising (views_in c views_at (view_count c)) ≡ true
+read-rises : (c : List ℕ) (r : Reading) → read_front c ≡ Ok r → is_rising (views_in c views_at (view_count c)) ≡ true
 unfolding content_of
-read-rises c v = (need-accepted _ _ _ (need-accepted _ _ _ (front-met c v).1).1).0
+read-rises c r v = (need-accepted _ _ _ (need-accepted _ _ _ (front-met c v).1).1).0
 
 pub info-turns : InfoTurns
 info-turns = record {
   queued = λ b sound x l rises. rising-turns b sound l (rises-rising (id_of x) l rises);
-  read = λ b sound c v. rising-turns b sound _ (behind-first c views_at (view_count c) (read-rises c v));
+  read = λ b sound c r v. rising-turns b sound _ (behind-first c views_at (view_count c) (read-rises c r v));
 }

@@ -8,10 +8,9 @@ use lib.ListN.{length, get_or, set, take, drop, replicate, length-drop}
 use lib.Seq.{drop-drop, length-take-le}
 use Rattle.views.specs.declared.View.{View}
 use Rattle.views.specs.declared.refusal.Refusal.{Refusal}
-use Rattle.views.specs.declared.refusal.Verdict.{Verdict}
-use Rattle.views.specs.declared.refusal.Verdict.TheVariants.{Accepted, Refused}
+use Rattle.views.specs.Refusals.{Verdict}
+use Rattle.std.specs.Prelude.{None, Ok, Err}
 use Rattle.views.specs.Limits.{max_open}
-use Rattle.views.specs.Refusals.{left}
 use Rattle.wire.specs.Reader.{view_in, views_in}
 use Rattle.wire.proofs.ReaderLaws.{list-views_in}
 use Rattle.rules.specs.Data.{Member, Book as Ruled}
@@ -26,11 +25,9 @@ use Rattle.book_bytes.specs.Books.{outgoing_in, inward_in, book_in, own_in_book}
 use Rattle.book_bytes.proofs.Parts.{store_seat-changed}
 use Rattle.record_steps.specs.Turns.{seat, join_verdict}
 use Rattle.record_steps.proofs.RowLaws.{join-row}
-use Rattle.events.specs.declared.Event.{Event}
-use Rattle.events.specs.declared.Reply.{Reply}
-use Rattle.events.specs.Replies.{no_event, event_of, replied, reply_of, verdict_of}
+use Rattle.events.specs.Replies.{event_of, verdict_of}
 use Rattle.book_steps.specs.Acts.{announced, unnoted, join_bytes}
-use Rattle.book_steps.proofs.Committed.{refused-by, accepted-by}
+use Rattle.book_steps.proofs.Committed.{Answered, refused-by, accepted-by}
 
 -- what is held stands before the inward list that goes, and is copied
 pub announce-done : (b c d : List ℕ) → get_or b opens_at 0 ≤ max_open → c ≡ set b (inward_at (1 - get_or b side_at 0)) 0
@@ -53,25 +50,25 @@ enter-done b c z v size e f =
     let n : length (take 11 (drop taken_at c)) ≡ 11 = length-take-le 11 (drop taken_at c) (omega (arith, length-drop taken_at c)) in
     rw (f, n, drop-drop 11 taken_at c, e) (sym (append_assoc (take taken_at (store_seat b carrier_at (seat v))) (replicate 11 0) (drop side_at (store_seat b carrier_at (seat v)))))
 
-join-quiet : (p : Member) (v : View) (b : Ruled) → Holds (λ (z : Done). event_of z.answer ≡ no_event) (joins p v b)
+join-quiet : (p : Member) (v : View) (b : Ruled) → Holds (λ (z : Done). event_of z.answer ≡ None) (joins p v b)
 unfolding joins
 join-quiet p v b = need-holds _ _ _ (λ t. need-holds _ _ _ (λ u. gives refl))
 
--- the verdict w on the seat s that was loaded
-module _ (b : List ℕ) (v : View) (s : Seat) (loaded : s ≡ seat_in b carrier_at) (w : Verdict) (e : w ≡ join_verdict (own_in_book b) v s) where
-  join-ruled : w ≡ verdict_of (joins (own_in_book b) v (book_in b))
+-- the verdict on the seat s that was loaded
+module _ (b : List ℕ) (v : View) (s : Seat) (loaded : s ≡ seat_in b carrier_at) where
+  join-ruled : (w : Verdict) → w ≡ join_verdict (own_in_book b) v s → verdict_of (joins (own_in_book b) v (book_in b)) ≡ w
   unfolding book_in record_in
-  join-ruled =
-      e ∙ ap (join_verdict (own_in_book b) v) loaded
-      ∙ sym (join-row (own_in_book b) (record_in b) (outgoing_in b) (inward_in b (get_or b side_at 0)) (inward_in b (1 - get_or b side_at 0)) v)
+  join-ruled w e =
+      join-row (own_in_book b) (record_in b) (outgoing_in b) (inward_in b (get_or b side_at 0)) (inward_in b (1 - get_or b side_at 0)) v
+      ∙ sym (e ∙ ap (join_verdict (own_in_book b) v) loaded)
 
-  pub join-refused : (x : Refusal) (y : Reply) → w ≡ Refused x → y ≡ replied (Refused x) no_event
-      → (y ≡ reply_of (joins (own_in_book b) v (book_in b))) × (b ≡ left (verdict_of (joins (own_in_book b) v (book_in b))) (join_bytes v b) b)
-  join-refused x y f g = refused-by (joins (own_in_book b) v (book_in b)) x (join_bytes v b) b y (sym join-ruled ∙ f) g
+  pub join-refused : (x : Refusal) → Err x ≡ join_verdict (own_in_book b) v s
+      → Answered (joins (own_in_book b) v (book_in b)) (join_bytes v b) b (Err x) b
+  join-refused x e = refused-by (joins (own_in_book b) v (book_in b)) x (join_bytes v b) b (join-ruled (Err x) e)
 
-  pub join-accepted : w ≡ Accepted → (x : Event) → x ≡ no_event → (c d : List ℕ) → c ≡ announced b → d ≡ unnoted (store_seat c carrier_at (seat v))
-      → (record { verdict = Accepted; event = x } ≡ reply_of (joins (own_in_book b) v (book_in b))) × (d ≡ left (verdict_of (joins (own_in_book b) v (book_in b))) (join_bytes v b) b)
+  pub join-accepted : Ok tt ≡ join_verdict (own_in_book b) v s → (c d : List ℕ) → c ≡ announced b → d ≡ unnoted (store_seat c carrier_at (seat v))
+      → Answered (joins (own_in_book b) v (book_in b)) (join_bytes v b) b (Ok None) d
   unfolding join_bytes
-  join-accepted f x g c d k l =
-      let is : d ≡ join_bytes v b = l ∙ ap (λ (z : List ℕ). unnoted (store_seat z carrier_at (seat v))) k in
-      rw g (accepted-by (joins (own_in_book b) v (book_in b)) (join_bytes v b) b no_event d (sym join-ruled ∙ f) (join-quiet (own_in_book b) v (book_in b)) is)
+  join-accepted e c d k l =
+      accepted-by (joins (own_in_book b) v (book_in b)) (join_bytes v b) b None d (join-ruled (Ok tt) e) (join-quiet (own_in_book b) v (book_in b))
+      (l ∙ ap (λ (z : List ℕ). unnoted (store_seat z carrier_at (seat v))) k)

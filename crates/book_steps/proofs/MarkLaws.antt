@@ -7,13 +7,12 @@ use native.Mathlib.Omega.{arith}
 use lib.ListN.{length, get_or, set, take, drop, length-drop, length-take}
 use Rattle.views.specs.declared.View.{View}
 use Rattle.views.specs.declared.refusal.Refusal.{Refusal}
-use Rattle.views.specs.declared.refusal.Verdict.{Verdict}
-use Rattle.views.specs.declared.refusal.Verdict.TheVariants.{Accepted, Refused}
+use Rattle.views.specs.Refusals.{Verdict, and_then}
+use Rattle.std.specs.Prelude.{Some, None, Ok, Err}
 use Rattle.views.specs.Limits.{max_open, max_ordered}
 use Rattle.views.specs.Lists.{id_of, list_of}
 use Rattle.views.proofs.ListLaws.{length_above}
-use Rattle.views.specs.Refusals.{left}
-use Rattle.rules.specs.Data.{Member, Item, hand, safe}
+use Rattle.rules.specs.Data.{Identifier, Member, Item, hand, safe, Result}
 use Rattle.rules.specs.Member.{Done, hands, safes, collects}
 use Rattle.rules.proofs.Holding.{Holds, gives, need-holds, view-holds, first_holds}
 use Rattle.slots.specs.Columns.{inward_size, item_in}
@@ -24,16 +23,15 @@ use Rattle.book_bytes.specs.Records.{record_in, current_in, store_record}
 use Rattle.book_bytes.specs.Books.{outgoing_in, inward_in, book_in, bytes_sound, members_in, own_in_book}
 use Rattle.book_bytes.proofs.Behind.{inward-few}
 use Rattle.book_bytes.proofs.InwardBooks.{length-inward, items_at}
-use Rattle.record_steps.specs.declared.Stepped.{Stepped}
-use Rattle.record_steps.specs.Turns.{stepped, book_of, settled_as, hand_verdict, safe_verdict, collect_turn}
+use Rattle.record_steps.specs.Turns.{book_of, settled_as, hand_verdict, safe_verdict, collect_turn}
 use Rattle.record_steps.proofs.MeaningVerdicts.{hand-verdict, safe-verdict, collect-verdict}
 use Rattle.record_steps.proofs.MeaningMarks.{seated-view}
-use Rattle.events.specs.declared.Event.{Event}
-use Rattle.events.specs.declared.Reply.{Reply}
-use Rattle.events.specs.Replies.{no_event, event_of, outward_of, replied, reply_of, verdict_of}
+use Rattle.events.specs.declared.Event.TheVariants.{Hand, Safe}
+use Rattle.events.specs.Replies.{member_number, identifier, outward_of, event_of, verdict_of}
 use Rattle.book_steps.specs.Acts.{hand_bytes, safe_bytes, collect_bytes}
-use Rattle.book_steps.specs.Parts.{item_event}
-use Rattle.book_steps.proofs.Committed.{sound-layout, current-side, record-few, stepped-few, accepted-holds, refused-by, accepted-by, committed, hand-some, safe-some}
+use Rattle.book_steps.specs.Parts.{item_sent}
+use Rattle.book_steps.proofs.Committed.{Answered, sound-layout, current-side, record-few, accepted-holds, hand-some, safe-some}
+use Rattle.book_steps.proofs.Committed.{refused-by, accepted-by, turn-refused, turn-accepted}
 
 -- ---- the inward list of the client view
 
@@ -55,7 +53,7 @@ first-of-front (suc j) (suc n) (y ∷ l) x rest e = first-of-front j n l x rest 
 
 -- ---- the event of an item
 
-module _ (b : List ℕ) (h : Current) (k j : ℕ) (x : Item ℕ) (rest : List (Item ℕ)) (e : drop j (inward_in b k) ≡ x ∷ rest) where
+module _ (b : List ℕ) (k j : ℕ) (x : Item ℕ) (rest : List (Item ℕ)) (e : drop j (inward_in b k) ≡ x ∷ rest) where
   item-there : j < get_or b (inward_at k) 0
   item-there =
       let n : length (drop j (inward_in b k)) ≡ suc (length rest) = ap length e in
@@ -64,13 +62,14 @@ module _ (b : List ℕ) (h : Current) (k j : ℕ) (x : Item ℕ) (rest : List (I
   item-is : x ≡ item_in b (inward_at k) j
   item-is = let f = items_at b k j item-there in let g = sym e ∙ f in cc
 
-  pub hand-item : outward_of (hand (own_in_book b) (id_of h.client.view) x) ≡ item_event b (inward_at k) j 9 h
-  unfolding item_event
-  hand-item = rw item-is
+  module _ (p : Member) (g : Identifier) where
+    pub hand-item : outward_of (hand p g x) ≡ Hand (member_number p) (identifier g) (item_sent b (inward_at k) j)
+    unfolding item_sent
+    hand-item = rw item-is
 
-  pub safe-item : outward_of (safe (own_in_book b) (id_of h.client.view) x) ≡ item_event b (inward_at k) j 11 h
-  unfolding item_event
-  safe-item = rw item-is
+    pub safe-item : outward_of (safe p g x) ≡ Safe (member_number p) (identifier g) (item_sent b (inward_at k) j)
+    unfolding item_sent
+    safe-item = rw item-is
 
 -- ---- the rules
 
@@ -103,98 +102,112 @@ module _ (b : List ℕ) where
   abbrev at : ℕ
   at = inward_at (record_in b).side
 
-  hand-event : Holds (λ (d : Done). event_of d.answer ≡ item_event b at (record_in b).handed.0 9 (current_in b)) (hands p (book_in b))
+  hand-event : Holds
+      (λ (d : Done). event_of d.answer ≡ Some (Hand (member_number p) (current_in b).client.view.id (item_sent b at (record_in b).handed.0)))
+      (hands p (book_in b))
   unfolding hands book_in record_in
   hand-event =
       view-holds _ _ _ (λ v e. first_holds _ _ _ (λ x rest f.
-      gives (ap (λ (w : View). outward_of (hand p (id_of w) x)) (seated-view (record_in b).client v e) ∙ hand-item b (current_in b) (get_or b side_at 0) (record_in b).handed.0 x rest f)))
+      gives (ap (λ (w : View). Some (outward_of (hand p (id_of w) x))) (seated-view (record_in b).client v e)
+      ∙ ap Some (hand-item b (get_or b side_at 0) (record_in b).handed.0 x rest f p (id_of (record_in b).client.view)))))
 
-  safe-event : Holds (λ (d : Done). event_of d.answer ≡ item_event b at (record_in b).reported.0 11 (current_in b)) (safes n p (book_in b))
+  safe-event : Holds
+      (λ (d : Done). event_of d.answer ≡ Some (Safe (member_number p) (current_in b).client.view.id (item_sent b at (record_in b).reported.0)))
+      (safes n p (book_in b))
   unfolding safes book_in record_in
   safe-event =
       view-holds _ _ _ (λ v e. need-holds _ _ _ (λ t. first_holds _ _ _ (λ x rest f. need-holds _ _ _ (λ u.
       let g = first-of-front (record_in b).reported.0 (record_in b).handed.0 own x rest f in
-      gives (ap (λ (w : View). outward_of (safe p (id_of w) x)) (seated-view (record_in b).client v e) ∙ safe-item b (current_in b) (get_or b side_at 0) (record_in b).reported.0 x g.0 g.1)))))
+      gives (ap (λ (w : View). Some (outward_of (safe p (id_of w) x))) (seated-view (record_in b).client v e)
+      ∙ ap Some (safe-item b (get_or b side_at 0) (record_in b).reported.0 x g.0 g.1 p (id_of (record_in b).client.view)))))))
 
-  collect-event : Holds (λ (d : Done). event_of d.answer ≡ no_event) (collects n (book_in b))
+  collect-event : Holds (λ (d : Done). event_of d.answer ≡ None) (collects n (book_in b))
   unfolding collects
   collect-event = view-holds _ _ _ (λ v e. need-holds _ _ _ (λ t. need-holds _ _ _ (λ u. gives refl)))
 
 -- a pruned list is no longer
 settled-few : (b : List ℕ) → (settled_as (record_in b).carrier.view (record_in b)).opens.count ≤ max_open
 unfolding settled_as
-settled-few b = omega (arith, length_above (id_of (record_in b).carrier.view) (list_of (record_in b).opens), length-take (record_in b).opens.count (record_in b).opens.at, record-few b)
+settled-few b =
+    let h = record_in b in
+    omega (arith, length_above (id_of h.carrier.view) (list_of h.opens), length-take h.opens.count h.opens.at, record-few b)
 
 -- ---- what the code has at hand
 
-module _ (b : List ℕ) (h : Current) (loaded : h ≡ current_in b) (v : Verdict) where
+module _ (b : List ℕ) (h : Current) (loaded : h ≡ current_in b) where
   -- ---- hand
 
-  module _ (e : v ≡ hand_verdict h (get_or b (inward_at h.side) 0)) where
-    hand-ruled : verdict_of (hands (own_in_book b) (book_in b)) ≡ v
-    unfolding record_in
-    hand-ruled = hand-rule b ∙ sym (e ∙ ap (λ (z : Current). hand_verdict z (get_or b (inward_at z.side) 0)) loaded)
+  hand-ruled : (v : Verdict) → v ≡ hand_verdict h (get_or b (inward_at h.side) 0) → verdict_of (hands (own_in_book b) (book_in b)) ≡ v
+  unfolding record_in
+  hand-ruled v e = hand-rule b ∙ sym (e ∙ ap (λ (z : Current). hand_verdict z (get_or b (inward_at z.side) 0)) loaded)
 
-    pub hand-refused : (y : Refusal) (r : Reply) → v ≡ Refused y → r ≡ replied (Refused y) no_event
-        → (r ≡ reply_of (hands (own_in_book b) (book_in b))) × (b ≡ left (verdict_of (hands (own_in_book b) (book_in b))) (hand_bytes b) b)
-    hand-refused y r w = refused-by (hands (own_in_book b) (book_in b)) y (hand_bytes b) b r (hand-ruled ∙ w)
+  pub hand-refused : (y : Refusal) → Err y ≡ hand_verdict h (get_or b (inward_at h.side) 0)
+      → Answered (hands (own_in_book b) (book_in b)) (hand_bytes b) b (Err y) b
+  hand-refused y e = refused-by (hands (own_in_book b) (book_in b)) y (hand_bytes b) b (hand-ruled (Err y) e)
 
-    pub hand-there : v ≡ Accepted → h.handed.0 < get_or b (inward_at h.side) 0
+  module _ (e : Ok tt ≡ hand_verdict h (get_or b (inward_at h.side) 0)) where
+    pub hand-there : h.handed.0 < get_or b (inward_at h.side) 0
     unfolding record_in
-    hand-there w =
-        let k = (accepted-holds (hands (own_in_book b) (book_in b)) (hand-some b (own_in_book b)) (hand-ruled ∙ w)).1 in
+    hand-there =
+        let k = (accepted-holds (hands (own_in_book b) (book_in b)) (hand-some b (own_in_book b)) (hand-ruled (Ok tt) e)).1 in
         rw loaded (omega (arith, k, length-inward b (get_or b side_at 0)))
 
-    pub hand-done : v ≡ Accepted → (ev : Event) → ev ≡ item_event b (inward_at h.side) h.handed.0 9 h
-        → (record { verdict = Accepted; event = ev } ≡ reply_of (hands (own_in_book b) (book_in b)))
-        × (set b handed_at (h.handed.0 + 1) ≡ left (verdict_of (hands (own_in_book b) (book_in b))) (hand_bytes b) b)
+    pub hand-done : Answered (hands (own_in_book b) (book_in b)) (hand_bytes b) b
+        (Ok (Some (Hand (member_number (own_in_book b)) h.client.view.id (item_sent b (inward_at h.side) h.handed.0))))
+        (set b handed_at (h.handed.0 + 1))
     unfolding hand_bytes record_in
-    hand-done w ev g =
-        accepted-by (hands (own_in_book b) (book_in b)) (hand_bytes b) b ev _ (hand-ruled ∙ w)
-        (rw (g ∙ ap (λ (z : Current). item_event b (inward_at z.side) z.handed.0 9 z) loaded) (hand-event b))
+    hand-done =
+        accepted-by (hands (own_in_book b) (book_in b)) (hand_bytes b) b _ _ (hand-ruled (Ok tt) e) (rw loaded (hand-event b))
         (ap (λ (z : Current). set b handed_at (z.handed.0 + 1)) loaded)
 
   -- ---- safe
 
-  module _ (e : v ≡ safe_verdict (members_in b) h (get_or b (inward_at h.side) 0)) where
-    safe-ruled : verdict_of (safes (members_in b) (own_in_book b) (book_in b)) ≡ v
-    unfolding record_in
-    safe-ruled = safe-rule b ∙ sym (e ∙ ap (λ (z : Current). safe_verdict (members_in b) z (get_or b (inward_at z.side) 0)) loaded)
+  safe-ruled : (v : Verdict) → v ≡ safe_verdict (members_in b) h (get_or b (inward_at h.side) 0)
+      → verdict_of (safes (members_in b) (own_in_book b) (book_in b)) ≡ v
+  unfolding record_in
+  safe-ruled v e = safe-rule b ∙ sym (e ∙ ap (λ (z : Current). safe_verdict (members_in b) z (get_or b (inward_at z.side) 0)) loaded)
 
-    pub safe-refused : (y : Refusal) (r : Reply) → v ≡ Refused y → r ≡ replied (Refused y) no_event
-        → (r ≡ reply_of (safes (members_in b) (own_in_book b) (book_in b))) × (b ≡ left (verdict_of (safes (members_in b) (own_in_book b) (book_in b))) (safe_bytes b) b)
-    safe-refused y r w = refused-by (safes (members_in b) (own_in_book b) (book_in b)) y (safe_bytes b) b r (safe-ruled ∙ w)
+  pub safe-refused : (y : Refusal) → Err y ≡ safe_verdict (members_in b) h (get_or b (inward_at h.side) 0)
+      → Answered (safes (members_in b) (own_in_book b) (book_in b)) (safe_bytes b) b (Err y) b
+  safe-refused y e = refused-by (safes (members_in b) (own_in_book b) (book_in b)) y (safe_bytes b) b (safe-ruled (Err y) e)
 
-    pub safe-there : v ≡ Accepted → h.reported.0 < get_or b (inward_at h.side) 0
+  module _ (e : Ok tt ≡ safe_verdict (members_in b) h (get_or b (inward_at h.side) 0)) where
+    pub safe-there : h.reported.0 < get_or b (inward_at h.side) 0
     unfolding record_in
-    safe-there w =
-        let k = (accepted-holds (safes (members_in b) (own_in_book b) (book_in b)) (safe-some b (own_in_book b) (members_in b)) (safe-ruled ∙ w)).1.1 in
+    safe-there =
+        let k = (accepted-holds (safes (members_in b) (own_in_book b) (book_in b)) (safe-some b (own_in_book b) (members_in b)) (safe-ruled (Ok tt) e)).1.1 in
         rw loaded (omega (arith, k, length-inward b (get_or b side_at 0)))
 
-    pub safe-done : v ≡ Accepted → (ev : Event) → ev ≡ item_event b (inward_at h.side) h.reported.0 11 h
-        → (record { verdict = Accepted; event = ev } ≡ reply_of (safes (members_in b) (own_in_book b) (book_in b)))
-        × (set b reported_at (h.reported.0 + 1) ≡ left (verdict_of (safes (members_in b) (own_in_book b) (book_in b))) (safe_bytes b) b)
+    pub safe-done : Answered (safes (members_in b) (own_in_book b) (book_in b)) (safe_bytes b) b
+        (Ok (Some (Safe (member_number (own_in_book b)) h.client.view.id (item_sent b (inward_at h.side) h.reported.0))))
+        (set b reported_at (h.reported.0 + 1))
     unfolding safe_bytes record_in
-    safe-done w ev g =
-        accepted-by (safes (members_in b) (own_in_book b) (book_in b)) (safe_bytes b) b ev _ (safe-ruled ∙ w)
-        (rw (g ∙ ap (λ (z : Current). item_event b (inward_at z.side) z.reported.0 11 z) loaded) (safe-event b))
+    safe-done =
+        accepted-by (safes (members_in b) (own_in_book b) (book_in b)) (safe_bytes b) b _ _ (safe-ruled (Ok tt) e) (rw loaded (safe-event b))
         (ap (λ (z : Current). set b reported_at (z.reported.0 + 1)) loaded)
 
 -- ---- collect
 
-module _ (b : List ℕ) (h : Record) (loaded : h ≡ record_in b) (s : Stepped) (e : s ≡ collect_turn (members_in b) h) where
-  collect-turned : s ≡ stepped (verdict_of (collects (members_in b) (book_in b))) (settled_as (record_in b).carrier.view (record_in b)) (record_in b)
+module _ (b : List ℕ) (h : Record) (loaded : h ≡ record_in b) where
+  abbrev rule : Result Done
+  rule = collects (members_in b) (book_in b)
+
+  collect-ruled : collect_turn (members_in b) h ≡ and_then (verdict_of rule) (Ok (settled_as (record_in b).carrier.view (record_in b)))
   unfolding collect_turn
-  collect-turned =
-      e ∙ ap (λ (z : Record). collect_turn (members_in b) z) loaded
-      ∙ ap (λ (v : Verdict). stepped v (settled_as (record_in b).carrier.view (record_in b)) (record_in b)) (collect-rule b)
+  collect-ruled =
+      ap (λ (z : Record). collect_turn (members_in b) z) loaded
+      ∙ ap (λ (v : Verdict). and_then v (Ok (settled_as (record_in b).carrier.view (record_in b)))) (collect-rule b)
 
-  pub collect-few : s.book.opens.count ≤ max_open
-  collect-few = rw collect-turned (stepped-few (verdict_of (collects (members_in b) (book_in b))) _ _ (settled-few b) (record-few b))
+  pub collect-refused : (x : Refusal) → Err x ≡ collect_turn (members_in b) h → Answered rule (collect_bytes b) b (Err x) b
+  collect-refused x e = refused-by rule x (collect_bytes b) b (turn-refused _ _ x (e ∙ collect-ruled))
 
-  pub collect-done : (ev : Event) → ev ≡ no_event
-      → (x : Reply) (y : List ℕ) → (x ≡ replied s.verdict ev) × (y ≡ left s.verdict (store_record b s.book) b)
-      → (x ≡ reply_of (collects (members_in b) (book_in b))) × (y ≡ left (verdict_of (collects (members_in b) (book_in b))) (collect_bytes b) b)
-  unfolding collect_bytes
-  collect-done ev g =
-      committed b (collects (members_in b) (book_in b)) _ _ (collect_bytes b) s collect-turned ev (rw g (collect-event b)) refl
+  module _ (next : Record) (e : Ok next ≡ collect_turn (members_in b) h) where
+    collect-turned : (verdict_of rule ≡ Ok tt) × (next ≡ settled_as (record_in b).carrier.view (record_in b))
+    collect-turned = turn-accepted _ _ next (e ∙ collect-ruled)
+
+    pub collect-few : next.opens.count ≤ max_open
+    collect-few = rw collect-turned.1 (settled-few b)
+
+    pub collect-done : (y : List ℕ) → y ≡ store_record b next → Answered rule (collect_bytes b) b (Ok None) y
+    unfolding collect_bytes
+    collect-done y k = accepted-by rule (collect_bytes b) b None y collect-turned.0 (collect-event b) (k ∙ ap (store_record b) collect-turned.1)

@@ -1,18 +1,17 @@
 -- Register, send and tell: the verdict, the event and the bytes are those of the rule.
-use mathlib.Core.Path.{◌≡◌, refl, sym, ap, ◌∙◌}
-use mathlib.Core.Bool.{true}
+use mathlib.Core.Path.{◌≡◌, refl, sym, ap, ◌∙◌, subst}
 use mathlib.Core.List.{List}
 use Prim.Native.Nat.{ℕ, ◌-◌, ◌<◌}
 use native.Mathlib.Omega.{arith}
 use lib.ListN.{get_or, set}
 use Rattle.views.specs.declared.View.{View}
 use Rattle.views.specs.declared.refusal.Refusal.{Refusal}
-use Rattle.views.specs.declared.refusal.Verdict.{Verdict}
-use Rattle.views.specs.declared.refusal.Verdict.TheVariants.{Accepted, Refused}
+use Rattle.views.specs.Refusals.{Verdict}
+use Rattle.std.specs.Prelude.{Bool, true, false, cond, Option, Some, None, Ok, Err, IsSome}
 use Rattle.views.specs.Limits.{max_outgoing}
-use Rattle.views.specs.Lists.{id_of}
-use Rattle.views.specs.Refusals.{left}
-use Rattle.rules.specs.Data.{Member, Item, client, registered, told, Result}
+use Rattle.wire.specs.declared.Message.{Message as Carried}
+use Rattle.wire.specs.declared.Message.TheVariants.{Client, Registered, Told}
+use Rattle.rules.specs.Data.{Member, Item, Message, client, registered, told, Result}
 use Rattle.rules.specs.Member.{Done, client_is_carrier, has_room, registers, sends, tells}
 use Rattle.rules.proofs.Holding.{Holds, gives, need-holds, view-holds}
 use Rattle.slots.specs.Changes.{pushed}
@@ -24,28 +23,31 @@ use Rattle.book_bytes.proofs.QueueBooks.{length-outgoing}
 use Rattle.record_steps.specs.Turns.{in_step, register_verdict, send_verdict, tell_verdict}
 use Rattle.record_steps.proofs.MeaningVerdicts.{register-verdict, send-verdict, tell-verdict}
 use Rattle.record_steps.proofs.MeaningMarks.{seated-view}
-use Rattle.events.specs.declared.Event.{Event}
-use Rattle.events.specs.declared.Reply.{Reply}
-use Rattle.book_steps.specs.declared.Said.{Said}
-use Rattle.events.specs.Replies.{no_event, event_of, happened, named, replied, reply_of, verdict_of}
+use Rattle.events.specs.declared.Event.TheVariants.{Register, Send}
+use Rattle.events.specs.Replies.{member_number, event_of, verdict_of}
 use Rattle.book_steps.specs.Acts.{queued, queued_if, register_bytes, send_bytes, tell_bytes}
 use Rattle.book_steps.specs.Parts.{spoken, said_bytes}
-use Rattle.book_steps.proofs.Committed.{accepted-holds, refused-by, accepted-by, room_for, register-room, send-room, tell-room}
+use Rattle.book_steps.proofs.Committed.{Answered, accepted-holds, refused-by, accepted-by, room_for, register-room, send-room, tell-room}
 
 -- ---- what is said is what is queued
 
+said-if : (t : Bool) (m : Carried) (k : Message) (b : List ℕ) → said_bytes (Some m) b ≡ queued k b → said_bytes (cond t (Some m) None) b ≡ queued_if t k b
+unfolding said_bytes queued_if
+said-if true m k b e = e
+said-if false m k b e = refl
+
 module _ (h : Current) (b : List ℕ) where
-  said-registered : said_bytes (spoken h 3 0) b ≡ queued_if (in_step h) registered b
-  unfolding said_bytes queued_if queued pushed
-  said-registered = refl
+  said-registered : said_bytes (spoken h Registered) b ≡ queued_if (in_step h) registered b
+  unfolding said_bytes queued pushed
+  said-registered = said-if (in_step h) Registered registered b refl
 
-  said-client : (x : ℕ) → said_bytes (spoken h 1 x) b ≡ queued_if (in_step h) (client x) b
-  unfolding said_bytes queued_if queued pushed
-  said-client x = refl
+  said-client : (x : ℕ) → said_bytes (spoken h (Client x)) b ≡ queued_if (in_step h) (client x) b
+  unfolding said_bytes queued pushed
+  said-client x = said-if (in_step h) (Client x) (client x) b refl
 
-  said-told : (k : ℕ) → said_bytes (spoken h 4 k) b ≡ queued_if (in_step h) (told k) b
-  unfolding said_bytes queued_if queued pushed
-  said-told k = refl
+  said-told : (k : ℕ) → said_bytes (spoken h (Told k)) b ≡ queued_if (in_step h) (told k) b
+  unfolding said_bytes queued pushed
+  said-told k = said-if (in_step h) (Told k) (told k) b refl
 
 module _ (b : List ℕ) (p : Member) where
   abbrev h : Current
@@ -76,101 +78,106 @@ module _ (b : List ℕ) (p : Member) where
 
   -- ---- events
 
-  register-event : Holds (λ (d : Done). event_of d.answer ≡ happened 7 p (named (id_of h.client.view)) 0 0) (registers p (book_in b))
+  register-event : Holds (λ (d : Done). event_of d.answer ≡ Some (Register (member_number p) h.client.view.id)) (registers p (book_in b))
   unfolding registers book_in
   register-event =
-      view-holds _ _ _ (λ v e. need-holds _ _ _ (λ t. need-holds _ _ _ (λ u. gives (ap (λ (w : View). happened 7 p (named (id_of w)) 0 0) (seated-view h.client v e)))))
+      view-holds _ _ _ (λ v e. need-holds _ _ _ (λ t. need-holds _ _ _ (λ u.
+      gives (ap (λ (w : View). Some (Register (member_number p) w.id)) (seated-view h.client v e)))))
 
-  send-event : (x : ℕ) → Holds (λ (d : Done). event_of d.answer ≡ happened 8 p (named (id_of h.client.view)) 0 x) (sends p x (book_in b))
+  send-event : (x : ℕ) → Holds (λ (d : Done). event_of d.answer ≡ Some (Send (member_number p) h.client.view.id x)) (sends p x (book_in b))
   unfolding sends book_in
-  send-event x = view-holds _ _ _ (λ v e. need-holds _ _ _ (λ t. gives (ap (λ (w : View). happened 8 p (named (id_of w)) 0 x) (seated-view h.client v e))))
+  send-event x = view-holds _ _ _ (λ v e. need-holds _ _ _ (λ t. gives (ap (λ (w : View). Some (Send (member_number p) w.id x)) (seated-view h.client v e))))
 
-  tell-event : Holds (λ (d : Done). event_of d.answer ≡ no_event) (tells p (book_in b))
+  tell-event : Holds (λ (d : Done). event_of d.answer ≡ None) (tells p (book_in b))
   unfolding tells
   tell-event = view-holds _ _ _ (λ v e. need-holds _ _ _ (λ t. need-holds _ _ _ (λ u. need-holds _ _ _ (λ w. gives refl))))
 
 -- ---- what the code has at hand
 
+-- what is said is there only in step
+spoken-there : (t : Bool) (k : Carried) → IsSome (cond t (Some k) None) → t ≡ true
+spoken-there true k s = refl
+spoken-there false k s = let e : false ≡ true = s in cc
+
 -- a message that is said where the rule found room has its place
-said-room : (b : List ℕ) (r : Result Done) → Holds (λ (d : Done). has_room (book_in b) ≡ true) r → verdict_of r ≡ Accepted
-    → (h : Current) → h ≡ current_in b → (m : Said) (k x : ℕ) → m ≡ spoken h k x → m.there ≡ true → get_or b outgoing_at 0 < max_outgoing
+said-room : (b : List ℕ) (r : Result Done) → Holds (λ (d : Done). has_room (book_in b) ≡ true) r → verdict_of r ≡ Ok tt
+    → (h : Current) → h ≡ current_in b → (k : Carried) (m : Option Carried) → m ≡ spoken h k → IsSome m → get_or b outgoing_at 0 < max_outgoing
 unfolding book_in
-said-room b r o v h l m k x f t =
-    let c : client_is_carrier (book_in b) ≡ true = ap in_step (sym l) ∙ ap (λ (z : Said). z.there) (sym f) ∙ t in
+said-room b r o v h l k m f s =
+    let c : client_is_carrier (book_in b) ≡ true = ap in_step (sym l) ∙ spoken-there (in_step h) k (subst IsSome f s) in
     let q = room_for (book_in b) (accepted-holds r o v).1 c in
     omega (arith, q, length-outgoing b)
 
-module _ (b : List ℕ) (h : Current) (loaded : h ≡ current_in b) (v : Verdict) where
+module _ (b : List ℕ) (h : Current) (loaded : h ≡ current_in b) where
   abbrev p : Member
   p = own_in_book b
 
   -- ---- register
 
-  module _ (e : v ≡ register_verdict h (get_or b outgoing_at 0)) where
-    register-ruled : verdict_of (registers p (book_in b)) ≡ v
-    register-ruled = register-rule b p ∙ sym (e ∙ ap (λ (z : Current). register_verdict z (get_or b outgoing_at 0)) loaded)
+  register-ruled : (v : Verdict) → v ≡ register_verdict h (get_or b outgoing_at 0) → verdict_of (registers p (book_in b)) ≡ v
+  register-ruled v e = register-rule b p ∙ sym (e ∙ ap (λ (z : Current). register_verdict z (get_or b outgoing_at 0)) loaded)
 
-    pub register-refused : (y : Refusal) (r : Reply) → v ≡ Refused y → r ≡ replied (Refused y) no_event
-        → (r ≡ reply_of (registers p (book_in b))) × (b ≡ left (verdict_of (registers p (book_in b))) (register_bytes b) b)
-    register-refused y r w = refused-by (registers p (book_in b)) y (register_bytes b) b r (register-ruled ∙ w)
+  pub register-refused : (y : Refusal) → Err y ≡ register_verdict h (get_or b outgoing_at 0)
+      → Answered (registers p (book_in b)) (register_bytes b) b (Err y) b
+  register-refused y e = refused-by (registers p (book_in b)) y (register_bytes b) b (register-ruled (Err y) e)
 
-    pub register-fits : (m : Said) → m ≡ spoken h 3 0 → v ≡ Accepted → m.there ≡ true → get_or b outgoing_at 0 < max_outgoing
-    register-fits m f w = said-room b (registers p (book_in b)) (register-room b p) (register-ruled ∙ w) h loaded m 3 0 f
+  module _ (e : Ok tt ≡ register_verdict h (get_or b outgoing_at 0)) where
+    pub register-fits : (m : Option Carried) → m ≡ spoken h Registered → IsSome m → get_or b outgoing_at 0 < max_outgoing
+    register-fits m f s = said-room b (registers p (book_in b)) (register-room b p) (register-ruled (Ok tt) e) h loaded Registered m f s
 
-    pub register-done : v ≡ Accepted → (m : Said) → m ≡ spoken h 3 0 → (ev : Event) → ev ≡ happened 7 p (named (id_of h.client.view)) 0 0
-        → (c : List ℕ) → c ≡ said_bytes m b
-        → (record { verdict = Accepted; event = ev } ≡ reply_of (registers p (book_in b)))
-        × (set c registered_at 1 ≡ left (verdict_of (registers p (book_in b))) (register_bytes b) b)
+    pub register-done : (m : Option Carried) → m ≡ spoken h Registered → (c : List ℕ) → c ≡ said_bytes m b
+        → Answered (registers p (book_in b)) (register_bytes b) b (Ok (Some (Register (member_number p) h.client.view.id))) (set c registered_at 1)
     unfolding register_bytes book_in
-    register-done w m f ev g c k =
-        accepted-by (registers p (book_in b)) (register_bytes b) b ev _ (register-ruled ∙ w)
-        (rw (g ∙ ap (λ (z : Current). happened 7 p (named (id_of z.client.view)) 0 0) loaded) (register-event b p))
+    register-done m f c k =
+        accepted-by (registers p (book_in b)) (register_bytes b) b _ _ (register-ruled (Ok tt) e)
+        (rw loaded (register-event b p))
         (ap (λ (z : List ℕ). set z registered_at 1)
-        (k ∙ ap (λ (z : Said). said_bytes z b) (f ∙ ap (λ (z : Current). spoken z 3 0) loaded) ∙ said-registered (current_in b) b))
+        (k ∙ ap (λ (z : Option Carried). said_bytes z b) f ∙ ap (λ (z : Current). said_bytes (spoken z Registered) b) loaded
+        ∙ said-registered (current_in b) b))
 
   -- ---- tell
 
-  module _ (e : v ≡ tell_verdict h (get_or b outgoing_at 0)) where
-    tell-ruled : verdict_of (tells p (book_in b)) ≡ v
-    tell-ruled = tell-rule b p ∙ sym (e ∙ ap (λ (z : Current). tell_verdict z (get_or b outgoing_at 0)) loaded)
+  tell-ruled : (v : Verdict) → v ≡ tell_verdict h (get_or b outgoing_at 0) → verdict_of (tells p (book_in b)) ≡ v
+  tell-ruled v e = tell-rule b p ∙ sym (e ∙ ap (λ (z : Current). tell_verdict z (get_or b outgoing_at 0)) loaded)
 
-    pub tell-refused : (y : Refusal) (r : Reply) → v ≡ Refused y → r ≡ replied (Refused y) no_event
-        → (r ≡ reply_of (tells p (book_in b))) × (b ≡ left (verdict_of (tells p (book_in b))) (tell_bytes b) b)
-    tell-refused y r w = refused-by (tells p (book_in b)) y (tell_bytes b) b r (tell-ruled ∙ w)
+  pub tell-refused : (y : Refusal) → Err y ≡ tell_verdict h (get_or b outgoing_at 0)
+      → Answered (tells p (book_in b)) (tell_bytes b) b (Err y) b
+  tell-refused y e = refused-by (tells p (book_in b)) y (tell_bytes b) b (tell-ruled (Err y) e)
 
-    pub tell-fits : (m : Said) → m ≡ spoken h 4 h.handed.0 → v ≡ Accepted → m.there ≡ true → get_or b outgoing_at 0 < max_outgoing
-    tell-fits m f w = said-room b (tells p (book_in b)) (tell-room b p) (tell-ruled ∙ w) h loaded m 4 h.handed.0 f
+  module _ (e : Ok tt ≡ tell_verdict h (get_or b outgoing_at 0)) where
+    pub tell-fits : (m : Option Carried) → m ≡ spoken h (Told h.handed.0) → IsSome m → get_or b outgoing_at 0 < max_outgoing
+    tell-fits m f s = said-room b (tells p (book_in b)) (tell-room b p) (tell-ruled (Ok tt) e) h loaded (Told h.handed.0) m f s
 
-    pub tell-done : v ≡ Accepted → (m : Said) → m ≡ spoken h 4 h.handed.0 → (ev : Event) → ev ≡ no_event
-        → (c : List ℕ) → c ≡ said_bytes m b
-        → (record { verdict = Accepted; event = ev } ≡ reply_of (tells p (book_in b)))
-        × (set c told_at h.handed.0 ≡ left (verdict_of (tells p (book_in b))) (tell_bytes b) b)
+    pub tell-done : (m : Option Carried) → m ≡ spoken h (Told h.handed.0) → (c : List ℕ) → c ≡ said_bytes m b
+        → Answered (tells p (book_in b)) (tell_bytes b) b (Ok None) (set c told_at h.handed.0)
     unfolding tell_bytes book_in record_in
-    tell-done w m f ev g c k =
+    tell-done m f c k =
         let said : c ≡ queued_if (client_is_carrier (book_in b)) (told (current_in b).handed.0) b =
-        k ∙ ap (λ (z : Said). said_bytes z b) (f ∙ ap (λ (z : Current). spoken z 4 z.handed.0) loaded) ∙ said-told (current_in b) b (current_in b).handed.0
+        k ∙ ap (λ (z : Option Carried). said_bytes z b) f ∙ ap (λ (z : Current). said_bytes (spoken z (Told z.handed.0)) b) loaded
+        ∙ said-told (current_in b) b (current_in b).handed.0
         in
-        accepted-by (tells p (book_in b)) (tell_bytes b) b ev _ (tell-ruled ∙ w) (rw g (tell-event b p))
+        accepted-by (tells p (book_in b)) (tell_bytes b) b _ _ (tell-ruled (Ok tt) e) (tell-event b p)
         (λ i. set (said i) told_at (loaded i).handed.0)
 
   -- ---- send: the record stays
 
-  module _ (e : v ≡ send_verdict h (get_or b outgoing_at 0)) (x : ℕ) where
-    send-ruled : verdict_of (sends p x (book_in b)) ≡ v
-    send-ruled = send-rule b p x ∙ sym (e ∙ ap (λ (z : Current). send_verdict z (get_or b outgoing_at 0)) loaded)
+  module _ (x : ℕ) where
+    send-ruled : (v : Verdict) → v ≡ send_verdict h (get_or b outgoing_at 0) → verdict_of (sends p x (book_in b)) ≡ v
+    send-ruled v e = send-rule b p x ∙ sym (e ∙ ap (λ (z : Current). send_verdict z (get_or b outgoing_at 0)) loaded)
 
-    pub send-refused : (y : Refusal) (r : Reply) → v ≡ Refused y → r ≡ replied (Refused y) no_event
-        → (r ≡ reply_of (sends p x (book_in b))) × (b ≡ left (verdict_of (sends p x (book_in b))) (send_bytes x b) b)
-    send-refused y r w = refused-by (sends p x (book_in b)) y (send_bytes x b) b r (send-ruled ∙ w)
+    pub send-refused : (y : Refusal) → Err y ≡ send_verdict h (get_or b outgoing_at 0)
+        → Answered (sends p x (book_in b)) (send_bytes x b) b (Err y) b
+    send-refused y e = refused-by (sends p x (book_in b)) y (send_bytes x b) b (send-ruled (Err y) e)
 
-    pub send-fits : (m : Said) → m ≡ spoken h 1 x → v ≡ Accepted → m.there ≡ true → get_or b outgoing_at 0 < max_outgoing
-    send-fits m f w = said-room b (sends p x (book_in b)) (send-room b p x) (send-ruled ∙ w) h loaded m 1 x f
+    module _ (e : Ok tt ≡ send_verdict h (get_or b outgoing_at 0)) where
+      pub send-fits : (m : Option Carried) → m ≡ spoken h (Client x) → IsSome m → get_or b outgoing_at 0 < max_outgoing
+      send-fits m f s = said-room b (sends p x (book_in b)) (send-room b p x) (send-ruled (Ok tt) e) h loaded (Client x) m f s
 
-    pub send-done : v ≡ Accepted → (m : Said) → m ≡ spoken h 1 x → (ev : Event) → ev ≡ happened 8 p (named (id_of h.client.view)) 0 x
-        → (y : List ℕ) → y ≡ said_bytes m b
-        → (record { verdict = Accepted; event = ev } ≡ reply_of (sends p x (book_in b))) × (y ≡ left (verdict_of (sends p x (book_in b))) (send_bytes x b) b)
-    unfolding send_bytes book_in
-    send-done w m f ev g y k =
-        accepted-by (sends p x (book_in b)) (send_bytes x b) b ev y (send-ruled ∙ w)
-        (rw (g ∙ ap (λ (z : Current). happened 8 p (named (id_of z.client.view)) 0 x) loaded) (send-event b p x))
-        (k ∙ ap (λ (z : Said). said_bytes z b) (f ∙ ap (λ (z : Current). spoken z 1 x) loaded) ∙ said-client (current_in b) b x)
+      pub send-done : (m : Option Carried) → m ≡ spoken h (Client x) → (y : List ℕ) → y ≡ said_bytes m b
+          → Answered (sends p x (book_in b)) (send_bytes x b) b (Ok (Some (Send (member_number p) h.client.view.id x))) y
+      unfolding send_bytes book_in
+      send-done m f y k =
+          accepted-by (sends p x (book_in b)) (send_bytes x b) b _ y (send-ruled (Ok tt) e)
+          (rw loaded (send-event b p x))
+          (k ∙ ap (λ (z : Option Carried). said_bytes z b) f ∙ ap (λ (z : Current). said_bytes (spoken z (Client x)) b) loaded
+          ∙ said-client (current_in b) b x)

@@ -10,12 +10,11 @@ use lib.ListN.{length, get_or, set, length-take}
 use lib.Seq.{set-get_or}
 use Rattle.numbers.specs.Number.{put}
 use Rattle.views.specs.declared.View.{View}
-use Rattle.views.specs.declared.list.Lookup.{Lookup}
-use Rattle.views.specs.declared.list.Lookup.TheVariants.{Found, Missing}
+use Rattle.std.specs.Prelude.{Option, Some, None, Ok, Err}
+use Rattle.views.specs.declared.refusal.Refusal.{Refusal}
 use Rattle.views.specs.declared.refusal.Refusal.TheVariants.{TooManyOpen}
-use Rattle.views.specs.declared.refusal.Verdict.TheVariants.{Accepted, Refused}
 use Rattle.views.specs.Limits.{max_open, max_ordered}
-use Rattle.views.specs.Refusals.{left}
+use Rattle.views.specs.Refusals.{Verdict, left}
 use Rattle.views.specs.Lists.{id_of, list_of, find_of, union_of, above_of}
 use Rattle.views.proofs.SetLaws.{known}
 use Rattle.wire.specs.declared.Message.{Message as Carried}
@@ -25,7 +24,8 @@ use Rattle.wire.specs.declared.merging.Merged.{Merged}
 use Rattle.wire.specs.Merges.{Merges}
 use Rattle.wire.proofs.ReaderLaws.{length-views_in, list-views_in}
 use Rattle.rules.specs.Data.{Member, Message, client, info, registered, told, Book as Ruled, need, after}
-use Rattle.rules.specs.Member.{client_is_carrier, own_or, settled_by, learned, delivered}
+use Rattle.rules.specs.Member.{Done, client_is_carrier, own_or, settled_by, learned, delivered}
+use Rattle.rules.proofs.Holding.{Holds, gives, need-holds}
 use Rattle.rules.specs.Alone.{info_of, message_of}
 use Rattle.book_bytes.specs.declared.Held.{Held}
 use Rattle.slots.specs.Changes.{gained}
@@ -36,21 +36,36 @@ use Rattle.book_bytes.specs.Places.{settled_at, taken_at, infos_at, registration
 use Rattle.book_bytes.specs.Records.{record_in, store_opens, store_held}
 use Rattle.book_bytes.specs.Books.{book_in}
 use Rattle.book_bytes.proofs.Opens.{opens_in}
-use Rattle.events.specs.declared.Reply.{Reply}
-use Rattle.events.specs.Replies.{no_event, replied}
-use Rattle.book_steps.specs.Acts.{few_open, gaining, one_more, noted, held_after, take_bytes}
+use Rattle.events.specs.Replies.{event_of}
+use Rattle.book_steps.specs.Acts.{few_open, taking, one_more, noted, held_after, take_bytes}
 use Rattle.book_steps.specs.ArrivalParts.{Took}
+use Rattle.book_steps.proofs.Committed.{Answered, refused-by, accepted-by}
 
 -- ---- the verdict: 43, or the message is taken
 
-module _ (q : Member) (m : Message) (b : List ℕ) (r : Reply) where
-  took : length (delivered q m (book_in b)).held.opens ≤ max_open → r ≡ replied Accepted no_event → (d : List ℕ) → d ≡ take_bytes q m b → Took q m b d r
-  unfolding few_open after need replied left
-  took few e d f = rw (le-leb _ _ few) (e, f)
+module _ (q : Member) (m : Message) (b : List ℕ) where
+  took : length (delivered q m (book_in b)).held.opens ≤ max_open → (d : List ℕ) → d ≡ take_bytes q m b → Took q m b d (Ok tt)
+  unfolding few_open after need left
+  took few d f = rw (le-leb _ _ few) (refl, f)
 
-  over : max_open < length (delivered q m (book_in b)).held.opens → r ≡ replied (Refused TooManyOpen) no_event → Took q m b b r
-  unfolding few_open after need replied left
-  over many e = rw (lt-leb _ _ many) (e, refl)
+  over : max_open < length (delivered q m (book_in b)).held.opens → Took q m b b (Err TooManyOpen)
+  unfolding few_open after need left
+  over many = rw (lt-leb _ _ many) (refl, refl)
+
+  -- a message taken shows nothing
+  taking-quiet : Holds (λ (z : Done). event_of z.answer ≡ None) (taking q m (book_in b))
+  unfolding few_open after
+  taking-quiet = need-holds _ _ _ (λ t. gives refl)
+
+  -- the reply
+  module _ (d : List ℕ) where
+    pub took-reply : Took q m b d (Ok tt)
+        → Answered (taking q m (book_in b)) (take_bytes q m b) b (Ok None) d
+    took-reply (e, f) = ((accepted-by (taking q m (book_in b)) d b None d (sym e) taking-quiet refl).0, f)
+
+    pub over-reply : (x : Refusal) → Took q m b d (Err x)
+        → Answered (taking q m (book_in b)) (take_bytes q m b) b (Err x) d
+    over-reply x (e, f) = ((refused-by (taking q m (book_in b)) x d b (sym e)).0, f)
 
 -- ---- there is room to count one message more, also after what comes before that
 
@@ -92,7 +107,8 @@ module _ (b d : List ℕ) (r : Ready b) where
       let counted = set settled opens_at h.opens.count in
       let first = store_view-changed b settled_at h.settled in
       let second = set-changed settled opens_at h.opens.count in
-      let third = store_views-changed counted (opens_at + 1) (list_of h.opens) (omega (arith, r.0, first.long, second.long, length-take h.opens.count h.opens.at)) in
+      let third =
+      store_views-changed counted (opens_at + 1) (list_of h.opens) (omega (arith, r.0, first.long, second.long, length-take h.opens.count h.opens.at)) in
       rw e (ready-kept b (store_views counted (opens_at + 1) (list_of h.opens)) (third.long ∙ second.long ∙ first.long)
       (third.below taken_at (omega arith) ∙ second.below taken_at (omega arith) ∙ first.past taken_at (omega arith)) r)
 
@@ -109,18 +125,17 @@ unfolding delivered
 client-held q x b =
     ⊎_elim (λ (t : client_is_carrier b ≡ true). rw t) (λ (t : client_is_carrier b ≡ false). rw t) (known (client_is_carrier b))
 
-module _ (q : Member) (b : List ℕ) (r : Reply) (e : r ≡ replied Accepted no_event) (d : List ℕ) where
-  pub took-client : (x : ℕ) → d ≡ one_more (gained b (gaining b) q x) → Took q (client x) b d r
-  unfolding take_bytes
-  took-client x f = took q (client x) b r (rw (client-held q x (book_in b)) (held-few b)) e d f
+module _ (q : Member) (b d : List ℕ) where
+  pub took-client : (x : ℕ) → d ≡ take_bytes q (client x) b → Took q (client x) b d (Ok tt)
+  took-client x f = took q (client x) b (rw (client-held q x (book_in b)) (held-few b)) d f
 
-  pub took-registered : d ≡ one_more (noted registrations_at q b) → Took q registered b d r
+  pub took-registered : d ≡ one_more (noted registrations_at q b) → Took q registered b d (Ok tt)
   unfolding take_bytes delivered
-  took-registered f = took q registered b r (held-few b) e d f
+  took-registered f = took q registered b (held-few b) d f
 
-  pub took-told : (k : ℕ) → d ≡ one_more (set b (tolds_at + q) k) → Took q (told k) b d r
+  pub took-told : (k : ℕ) → d ≡ one_more (set b (tolds_at + q) k) → Took q (told k) b d (Ok tt)
   unfolding take_bytes delivered
-  took-told k f = took q (told k) b r (held-few b) e d f
+  took-told k f = took q (told k) b (held-few b) d f
 
 -- ---- info
 
@@ -135,15 +150,15 @@ module _ (b : List ℕ) (x own : View) (e : own ≡ view_in b settled_at) where
   settled-own h = rw (le-ltb (id_of (view_in b settled_at)) (id_of x) (omega (arith, read))) e
 
   module _ (few : get_or b opens_at 0 ≤ max_open) (h : id_of own < id_of x) where
-    sought : (l : Lookup) → find_of (id_of x) (views_in b (opens_at + 1) (get_or b opens_at 0)) ≡ l → own_or x l ≡ settled_by x (book_in b).held
+    sought : (l : Option View) → find_of (id_of x) (views_in b (opens_at + 1) (get_or b opens_at 0)) ≡ l → own_or x l ≡ settled_by x (book_in b).held
     unfolding settled_by book_in
     sought l f = rw (lt-ltb (id_of (book_in b).held.settled) (id_of x) (omega (arith, read)), opens_in b few, f)
 
-    pub settled-found : (v : View) → find_of (id_of x) (views_in b (opens_at + 1) (get_or b opens_at 0)) ≡ Found v → v ≡ settled_by x (book_in b).held
-    settled-found v f = sought (Found v) f
+    pub settled-found : (v : View) → find_of (id_of x) (views_in b (opens_at + 1) (get_or b opens_at 0)) ≡ Some v → v ≡ settled_by x (book_in b).held
+    settled-found v f = sought (Some v) f
 
-    pub settled-new : find_of (id_of x) (views_in b (opens_at + 1) (get_or b opens_at 0)) ≡ Missing → x ≡ settled_by x (book_in b).held
-    settled-new f = sought Missing f
+    pub settled-new : find_of (id_of x) (views_in b (opens_at + 1) (get_or b opens_at 0)) ≡ None → x ≡ settled_by x (book_in b).held
+    settled-new f = sought None f
 
 -- what is held after it, of the open views and those that came put together where they lie
 pub held-merged : (b list : List ℕ) (from n : ℕ) (x settled : View) (m : Merged) → get_or b opens_at 0 ≤ max_open → settled ≡ settled_by x (book_in b).held
@@ -152,20 +167,21 @@ pub held-merged : (b list : List ℕ) (from n : ℕ) (x settled : View) (m : Mer
 unfolding held_after learned book_in
 held-merged b list from n x settled m few e w = rw (w.views, e, opens_in b few)
 
-module _ (q : Member) (v : View) (l : List View) (b : List ℕ) (next : Held) (e : next ≡ held_after v l b) (r : Reply) where
+module _ (q : Member) (v : View) (l : List View) (b : List ℕ) (next : Held) (e : next ≡ held_after v l b) where
   counted : next.opens.count ≡ length (delivered q (info v l) (book_in b)).held.opens
   unfolding held_after delivered
   counted = ap (λ (h : Held). h.opens.count) e
 
-  pub took-info : next.opens.count ≤ max_open → r ≡ replied Accepted no_event → (d : List ℕ) → d ≡ one_more (noted infos_at q (store_held b next)) → Took q (info v l) b d r
+  pub took-info : next.opens.count ≤ max_open → (d : List ℕ) → d ≡ one_more (noted infos_at q (store_held b next)) → Took q (info v l) b d (Ok tt)
   unfolding take_bytes
-  took-info few f d g = took q (info v l) b r (omega (arith, counted)) f d (g ∙ ap (λ (h : Held). one_more (noted infos_at q (store_held b h))) e)
+  took-info few d g = took q (info v l) b (omega (arith, counted)) d (g ∙ ap (λ (h : Held). one_more (noted infos_at q (store_held b h))) e)
 
-  pub over-info : max_open < next.opens.count → r ≡ replied (Refused TooManyOpen) no_event → Took q (info v l) b b r
-  over-info many f = over q (info v l) b r (omega (arith, counted)) f
+  pub over-info : max_open < next.opens.count → Took q (info v l) b b (Err TooManyOpen)
+  over-info many = over q (info v l) b (omega (arith, counted))
 
 -- with nothing open on either side the settled view alone is stored
-settled-alone : (b : List ℕ) (x own settled : View) → get_or b opens_at 0 ≡ 0 → own ≡ view_in b settled_at → settled ≡ settled_by x (record { settled = own; opens = [] })
+settled-alone : (b : List ℕ) (x own settled : View) → get_or b opens_at 0 ≡ 0 → own ≡ view_in b settled_at
+    → settled ≡ settled_by x (record { settled = own; opens = [] })
     → store_view b settled_at settled ≡ store_held b (held_after x [] b)
 unfolding store_held store_opens held_after learned book_in record_in above_of union_of views_in
 settled-alone b x own settled e f g =
@@ -184,21 +200,23 @@ unfolding views_in
 views-split list from zero h = absurd (omega arith)
 views-split list from (suc n) h = let e : suc n - 1 ≡ n = omega arith in rw e
 
-module _ (q : Member) (b list : List ℕ) (from n : ℕ) (r : Reply) (d : List ℕ) where
+module _ (q : Member) (b list : List ℕ) (from n : ℕ) (d : List ℕ) where
   -- with an open view on either side
-  pub inform-long : (x : View) → 1 ≤ n → x ≡ view_in list from → Took q (info x (views_in list (from + 5) (n - 1))) b d r → Took q (info_of (views_in list from n)) b d r
-  inform-long x h e t = rw (views-split list from n h, ← e) t
+  pub inform-long : (x : View) → 1 ≤ n → x ≡ view_in list from → (r : Verdict)
+      → Took q (info x (views_in list (from + 5) (n - 1))) b d r → Took q (info_of (views_in list from n)) b d r
+  inform-long x h e r t = rw (views-split list from n h, ← e) t
 
   -- with none
   pub inform-short : (x own settled : View) → n ≡ 1 → get_or b opens_at 0 ≡ 0 → x ≡ view_in list from → own ≡ view_in b settled_at
-      → settled ≡ settled_by x (record { settled = own; opens = [] }) → (w : List ℕ) → w ≡ store_view b settled_at settled → r ≡ replied Accepted no_event
-      → d ≡ one_more (noted infos_at q w) → Took q (info_of (views_in list from n)) b d r
+      → settled ≡ settled_by x (record { settled = own; opens = [] }) → (w : List ℕ) → w ≡ store_view b settled_at settled
+      → d ≡ one_more (noted infos_at q w) → Took q (info_of (views_in list from n)) b d (Ok tt)
   unfolding views_in
-  inform-short x own settled one none e f g w h i j =
+  inform-short x own settled one none e f g w h j =
       let next : w ≡ store_held b (held_after x [] b) = h ∙ settled-alone b x own settled none f g in
-      rw (one, ← e) (took-info q x [] b (held_after x [] b) refl r (alone-few b x none) i d (j ∙ ap (λ (z : List ℕ). one_more (noted infos_at q z)) next))
+      rw (one, ← e) (took-info q x [] b (held_after x [] b) refl (alone-few b x none) d (j ∙ ap (λ (z : List ℕ). one_more (noted infos_at q z)) next))
 
 -- ---- any message, as it is carried
 
-pub took-carried : (q : Member) (m k : Carried) (l : List View) (b d : List ℕ) (r : Reply) → m ≡ k → Took q (message_of k l) b d r → Took q (message_of m l) b d r
+pub took-carried : (q : Member) (m k : Carried) (l : List View) (b d : List ℕ) (r : Verdict) → m ≡ k
+    → Took q (message_of k l) b d r → Took q (message_of m l) b d r
 took-carried q m k l b d r e t = rw e t

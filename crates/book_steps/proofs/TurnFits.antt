@@ -10,8 +10,7 @@ use lib.Dec.{ltb}
 use lib.ListN.{length}
 use lib.Pow.{pow-lt}
 use Rattle.views.specs.declared.View.{View}
-use Rattle.views.specs.declared.list.Lookup.{Lookup}
-use Rattle.views.specs.declared.list.Lookup.TheVariants.{Found, Missing}
+use Rattle.std.specs.Prelude.{Option, Some, None}
 use Rattle.views.specs.Limits.{max_members, max_views, max_open}
 use Rattle.views.specs.Lists.{id_of, find_of, insert_of, union_of, above_of, list_of, placed}
 use Rattle.views.specs.Sets.{with_member}
@@ -54,9 +53,9 @@ placed-fits l few f = record { list = l; places = refl; few = few; each = f }
 
 -- ---- what is held
 
-own-fits : (x : View) (l : List View) (o : Lookup) → find_of (id_of x) l ≡ o → ViewFits x → EachFits l → ViewFits (own_or x o)
-own-fits x l (Found v) e f g = each_in l g v (find-in (id_of x) l v e).0
-own-fits x l Missing e f g = f
+own-fits : (x : View) (l : List View) (o : Option View) → find_of (id_of x) l ≡ o → ViewFits x → EachFits l → ViewFits (own_or x o)
+own-fits x l (Some v) e f g = each_in l g v (find-in (id_of x) l v e).0
+own-fits x l None e f g = f
 
 settled-by-fits : (x : View) (h : Held) → ViewFits x → ViewFits h.settled → EachFits h.opens → ViewFits (settled_by x h)
 unfolding settled_by

@@ -1,18 +1,15 @@
--- A step on the small record that is lent: what it asks of the record, and what it gives and leaves.
-use Rattle.std.specs.Prelude.{◌≤◌}
+-- A step on the small record that is lent: what it gives and leaves.
+use Rattle.std.specs.Prelude.{◌≡◌, Result, Ok, Err}
+use Rattle.views.specs.declared.refusal.Refusal.{Refusal}
+use Rattle.views.specs.Refusals.{Verdict, verdict_given}
 use Rattle.book_bytes.specs.declared.Record.{Record}
-use Rattle.record_steps.specs.declared.Stepped.{Stepped}
-use Rattle.record_steps.specs.Turns.{attempt_turn, collect_turn}
-use Rattle.book_steps.specs.declared.lent.Kind.{Kind}
-use Rattle.book_steps.specs.declared.lent.Kind.TheVariants.{Attempt, Collect}
-use Rattle.book_steps.specs.Parts.{few_stepped}
 
--- what a step asks: a sound book's record has it
-unfoldable pub asks : Kind → Record → Type 0
-asks (Attempt n) h = h.side ≤ 1
-asks (Collect n) h = Unit {0}
+-- the record that a step gave, or the old one where it was refused
+abbrev pub record_left : Result Record Refusal → Record → Record
+record_left (Ok h) old = h
+record_left (Err r) old = old
 
--- the turn of the record, 43 last in an attempt
-unfoldable pub turn_of : Kind → Record → Stepped
-turn_of (Attempt n) h = few_stepped (attempt_turn n h) h
-turn_of (Collect n) h = collect_turn n h
+-- a step that may give r of those of which Gives holds
+abbrev pub Turned : (Result Record Refusal → Type 0) → Record → Record → Verdict → Type 0
+Turned Gives old new v =
+    (r : Result Record Refusal) × Gives r × (v ≡ verdict_given r) × (new ≡ record_left r old)

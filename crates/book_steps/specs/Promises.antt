@@ -1,9 +1,9 @@
 -- What is promised of the walk that joins an info's open views to a book's.
-use Rattle.std.specs.Prelude.{◌≡◌, true, List, ◌++◌, ℕ, ◌+◌, ◌-◌, get_or}
+use Rattle.std.specs.Prelude.{◌≡◌, true, List, ◌++◌, ℕ, ◌+◌, ◌-◌, get_or, Ok}
 use Rattle.views.specs.declared.View.{View}
-use Rattle.views.specs.declared.refusal.Verdict.TheVariants.{Accepted}
 use Rattle.views.specs.Sizes.{view_size}
 use Rattle.views.specs.Lists.{id_of, rises_above}
+use Rattle.wire.specs.declared.Reading.{Reading}
 use Rattle.wire.specs.declared.merging.Merged.{Merged}
 use Rattle.wire.specs.Reader.{views_at, view_count, views_in, read_front}
 use Rattle.wire.specs.Merges.{different_in, Merges}
@@ -23,5 +23,5 @@ pub record InfoTurns : Type 0 where
   pub queued : (b : List ℕ) → bytes_sound b ≡ true → (x : View) (l : List View) → rises_above (id_of x) l ≡ true
       → TurnsWith b l
   -- with the open views of a message that was read, by itself or in a packet; they stand behind the settled one
-  pub read : (b : List ℕ) → bytes_sound b ≡ true → (c : List ℕ) → (read_front c).verdict ≡ Accepted
+  pub read : (b : List ℕ) → bytes_sound b ≡ true → (c : List ℕ) (r : Reading) → read_front c ≡ Ok r
       → TurnsWith b (views_in c (views_at + view_size) (view_count c - 1))

@@ -10,13 +10,10 @@ ghost use Rattle.book_bytes.specs.Records.{store_seat};
 ghost use Rattle.book_bytes.specs.Books.{book_in, bytes_sound, own_in_book, members_in};
 ghost use Rattle.record_steps.specs.Turns.{seat};
 ghost use Rattle.book_steps.specs.Acts.{announced, unnoted, join_bytes, few_open, attempt_bytes, collect_bytes};
-ghost use Rattle.book_steps.specs.Parts.{attempt_event};
 
 use crate::lent;
-use crate::lent::Kind;
-use book_bytes::{Record, Seat};
-use events::{Event, Reply, kinds};
-use views::refusal::Verdict;
+use book_bytes::Seat;
+use events::{Event, Reply};
 use views::{Member, View};
 
 // The inward list of a carrier view not attempted goes, and outgoing holds one info with what is held, copied as it
@@ -51,9 +48,7 @@ fn enter(b: &mut [u8], v: View)
         view: v,
     };
     book_bytes::store_seat(b, book_bytes::CARRIER, seat);
-    let from = book_bytes::TAKEN;
-    let to = book_bytes::SIDE;
-    wire::writer::clear(&mut b[from..to]);
+    b[book_bytes::TAKEN..book_bytes::SIDE].fill(0);
 }
 
 // The view v becomes the carrier view.
@@ -64,33 +59,10 @@ pub fn join(b: &mut [u8], v: View) -> Reply
         (join_bytes v b.old) b.old) }
 {
     let carrier = book_bytes::load_seat(b, book_bytes::CARRIER);
-    let p = Member(b[book_bytes::SELF]);
-    let verdict = record_steps::carrier_view::join(p, v, carrier);
-    match verdict {
-        Verdict::Refused(r) => events::refuse(r),
-        Verdict::Accepted => {
-            announce(b);
-            enter(b, v);
-            Reply {
-                verdict: Verdict::Accepted,
-                event: events::no_event(),
-            }
-        }
-    }
-}
-
-// The event of an attempt of the carrier view.
-fn attempted(h: Record, member: Member) -> Event
-    ensures { result ≡ attempt_event h member.0 }
-{
-    let view = h.carrier.view;
-    Event {
-        kind: kinds::ATTEMPT,
-        member,
-        view,
-        sender: Member(0),
-        entry: 0,
-    }
+    record_steps::carrier_view::join(Member(b[book_bytes::SELF]), v, carrier)?;
+    announce(b);
+    enter(b, v);
+    Ok(None)
 }
 
 // The inward list of a side goes.
@@ -111,22 +83,13 @@ pub fn attempt(b: &mut [u8]) -> Reply
         (book_in b.old)))) (attempt_bytes b.old) b.old) }
 {
     let h = book_bytes::load(b);
-    let t = Kind::Attempt(b[book_bytes::MEMBERS]);
-    let s = lent::lend(h, t);
-    let verdict = s.verdict;
-    match verdict {
-        Verdict::Refused(r) => events::refuse(r),
-        Verdict::Accepted => {
-            let e = attempted(h, Member(b[book_bytes::SELF]));
-            empty(b, h.side);
-            let next = s.book;
-            book_bytes::store(b, next);
-            Reply {
-                verdict: Verdict::Accepted,
-                event: e,
-            }
-        }
-    }
+    let n = b[book_bytes::MEMBERS];
+    let step = |h| lent::few_open(record_steps::carrier_view::attempt(n, h)?);
+    let next = lent::lend(h, step)?;
+    let p = Member(b[book_bytes::SELF]);
+    empty(b, h.side);
+    book_bytes::store(b, next);
+    Ok(Some(Event::Attempt(p, h.carrier.view)))
 }
 
 // The carrier view becomes settled; only open views above it remain.
@@ -137,8 +100,8 @@ pub fn collect(b: &mut [u8]) -> Reply
         (collect_bytes b.old) b.old) }
 {
     let h = book_bytes::load(b);
-    let t = Kind::Collect(b[book_bytes::MEMBERS]);
-    let s = lent::lend(h, t);
-    let e = events::no_event();
-    crate::keep(b, s, e)
+    let n = b[book_bytes::MEMBERS];
+    let next = lent::lend(h, |h| record_steps::carrier_view::collect(n, h))?;
+    book_bytes::store(b, next);
+    Ok(None)
 }

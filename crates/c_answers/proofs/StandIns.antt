@@ -2,7 +2,7 @@
 use mathlib.Core.Path.{◌≡◌, refl}
 use mathlib.Core.Logic.{⊎_elim}
 use mathlib.Core.Bool.{Bool, true, false, not}
-use mathlib.Core.Option.{Option, none, some}
+use Rattle.std.specs.Prelude.{Option, None, Some}
 use Prim.Native.Nat.{ℕ, ◌^◌, ◌≤◌}
 use native.Mathlib.Nat.{pow-le-pow_right}
 use native.Mathlib.Omega.{arith}
@@ -33,11 +33,11 @@ pub unmet-alike : {A : Type 0} (s t : Bool) (r : Refusal) (x y : Result A) → s
 unfolding need
 unmet-alike s t r x y p q = rw (p, q) (r, refl, refl)
 
-pub view-alike : {A : Type 0} (o : Option View) (r : Refusal) (f g : View → Result A) → ((v : View) → o ≡ some v → RefusedAlike (f v) (g v))
+pub view-alike : {A : Type 0} (o : Option View) (r : Refusal) (f g : View → Result A) → ((v : View) → o ≡ Some v → RefusedAlike (f v) (g v))
     → RefusedAlike (with_view o r f) (with_view o r g)
 unfolding with_view
-view-alike none r f g h = (r, refl, refl)
-view-alike (some v) r f g h = h v refl
+view-alike None r f g h = (r, refl, refl)
+view-alike (Some v) r f g h = h v refl
 
 pub after-alike : {A B : Type 0} (x : Result A) (f g : A → Result B) → ((a : A) → RefusedAlike (f a) (g a)) → RefusedAlike (after x f) (after x g)
 unfolding after

@@ -1,7 +1,7 @@
 -- Each call with a stand-in for a number that does not fit into a byte is the call with the number itself.
 use mathlib.Core.Path.{◌≡◌, refl, sym, ap, ◌∙◌}
 use mathlib.Core.Bool.{Bool, true, false}
-use mathlib.Core.Option.{some}
+use Rattle.std.specs.Prelude.{Some, Ok, Err}
 use mathlib.Core.List.{List, [], ◌∷◌}
 use Prim.Native.Nat.{ℕ, ◌≤◌}
 use native.Mathlib.Omega.{arith}
@@ -9,7 +9,6 @@ use borrow.Author.Tests.{le-ltb}
 use lib.Dec.{ltb}
 use Rattle.views.specs.declared.View.{View}
 use Rattle.views.specs.declared.refusal.Refusal.TheVariants.{RecordsUnsound}
-use Rattle.views.specs.declared.refusal.Verdict.TheVariants.{Accepted, Refused}
 use Rattle.views.specs.Limits.{max_members}
 use Rattle.views.specs.Sets.{has, fits}
 use Rattle.views.specs.Lists.{view_of}
@@ -24,10 +23,10 @@ use Rattle.book_bytes.specs.Books.{book_in, layout_fits, members_in, own_in_book
 use Rattle.book_steps.specs.Acts.{join_bytes}
 use Rattle.book_bytes.specs.Starts.{start_bytes}
 use Rattle.member.specs.Calls.{on_book, start_call, join_call, deliver_call, deliver_bytes, messages_in, packet_call, take_each, count_of, packet_bytes, delivered_of}
-use Rattle.c_answers.specs.Answers.{delivery_size, sized, narrowed}
+use Rattle.c_answers.specs.Answers.{given_bytes, delivery_size, delivery_bytes, sized, narrowed}
 use Rattle.c_answers.proofs.StandIns.{RefusedAlike, need-alike, unmet-alike, view-alike, after-alike, by_width, within-large, fits-none, fits-large, has-large}
 use Rattle.dvs.specs.BookCalls.{Gives}
-use Rattle.dvs.specs.MessageCalls.{accounted, Delivers}
+use Rattle.dvs.specs.MessageCalls.{Delivers}
 
 gives-alike : {A : Type 0} (x y : Result A) (new new' b b' : List ℕ) (k : ℕ) → RefusedAlike x y → Gives (verdict_of x) new b b' k → Gives (verdict_of y) new' b b' k
 unfolding left
@@ -93,11 +92,11 @@ module _ (b b' : List ℕ) (k : ℕ) where
   abbrev Delivered : List ℕ → ℕ → Type 0
   Delivered s q = Gives (verdict_of (deliver_call s q b)) (deliver_bytes s q b) b b' k
 
-  carrier-fits : book_sound (members_in b) (book_in b) ≡ true → (v : View) → (book_in b).carrier.view ≡ some v → set_fits (members_in b) v ≡ true
+  carrier-fits : book_sound (members_in b) (book_in b) ≡ true → (v : View) → (book_in b).carrier.view ≡ Some v → set_fits (members_in b) v ≡ true
   unfolding book_sound
   carrier-fits h v e =
       let (_, (_, (_, (_, (_, (f, _)))))) = conditions-say _ h in
-      let g : set_fits_if (members_in b) (some v) ≡ true = rw e at f in
+      let g : set_fits_if (members_in b) (Some v) ≡ true = rw e at f in
       g
 
   -- no sender that large is in a view, so a message from it is refused, as one from 255 is
@@ -124,10 +123,10 @@ module _ (b b' : List ℕ) (k : ℕ) where
   each-alike : (l : List (Result Sent)) (q : ℕ) → 256 ≤ q
       → (x : Delivery) × (x.count ≡ 0) × (deliveries_one_by_one (members_in b) (own_in_book b) l 255 (book_in b) ≡ x) × (deliveries_one_by_one (members_in b) (own_in_book b) l q (book_in b) ≡ x)
   unfolding deliveries_one_by_one
-  each-alike [] q h = (record { count = 0; stopped = Accepted; book = book_in b }, refl, refl, refl)
+  each-alike [] q h = (record { count = 0; stopped = Ok tt; book = book_in b }, refl, refl, refl)
   each-alike (read ∷ l) q h =
       let (r, e, f) = message-alike read q h in
-      (record { count = 0; stopped = Refused r; book = book_in b }, refl, rw e refl, rw f refl)
+      (record { count = 0; stopped = Err r; book = book_in b }, refl, rw e refl, rw f refl)
 
   packet-alike : (s : List ℕ) (q : ℕ) → 256 ≤ q → (packet_call s 255 b ≡ packet_call s q b) × (packet_bytes s 255 b ≡ packet_bytes s q b)
   unfolding packet_call packet_alone packet_bytes take_each
@@ -147,9 +146,9 @@ module _ (b b' : List ℕ) (k : ℕ) where
   packeted-sender s e e' q h d =
       let (call, bytes) = packet-alike s q h in
       record {
-        number = d.number ∙ ap (λ (c : Result Delivery). code_of (sized e delivery_size (verdict_of c))) call;
-        book = d.book ∙ (λ i. left (sized e delivery_size (verdict_of (call i))) (bytes i) b);
-        delivery = d.delivery ∙ ap (λ (c : Result Delivery). left (sized e delivery_size (verdict_of c)) (accounted (delivered_of c)) e) call;
+        number = d.number ∙ ap (λ (c : Result Delivery). code_of (sized e delivery_size (delivered_of c))) call;
+        book = d.book ∙ (λ i. left (sized e delivery_size (delivered_of (call i))) (bytes i) b);
+        delivery = d.delivery ∙ ap (λ (c : Result Delivery). given_bytes delivery_bytes (sized e delivery_size (delivered_of c)) e) call;
       }
 
   pub packet-narrowed : (s e e' : List ℕ) (q : ℕ) → Packeted s e e' (narrowed 255 q) → Packeted s e e' q

@@ -30,10 +30,9 @@ use lib.Dec.{eqb}
 use lib.ListN.{length}
 use Rattle.views.specs.declared.View.{View}
 use Rattle.views.specs.declared.refusal.Refusal.TheVariants.{RecordsUnsound}
-use Rattle.views.specs.declared.refusal.Verdict.{Verdict}
-use Rattle.views.specs.declared.refusal.Verdict.TheVariants.{Accepted, Refused}
+use Rattle.views.specs.Refusals.{Verdict, number_of, code_of, left}
+use Rattle.std.specs.Prelude.{Ok, Err}
 use Rattle.views.specs.Limits.{max_views}
-use Rattle.views.specs.Refusals.{number_of, code_of, left}
 use Rattle.views.specs.Sets.{one}
 use Rattle.views.proofs.Numbers.{never-0}
 use Rattle.wire.proofs.TripViews.{AreBytes, get-fits}
@@ -53,15 +52,15 @@ use Rattle.group_bytes.proofs.GroupForms.{refused_none}
 use Rattle.events.proofs.ShownLaws.{shown-append}
 use Rattle.c_answers.specs.Answers.{event_size, length_size, length_bytes, found_bytes}
 use Rattle.c_answers.proofs.AnswerLaws.{sized-met, sized-unmet}
-use Rattle.group_crossing.specs.Queries.{is_wanted, ids_of, found_in, store_ids, lookup_of}
+use Rattle.group_crossing.specs.Queries.{is_wanted, ids_of, found_in, store_ids}
 use Rattle.group_crossing.specs.QueryParts.{pick_at}
 use Rattle.group_crossing.proofs.QueryLaws.{found_below, few-below}
 use Rattle.group_crossing.proofs.QueryCases.{ranged}
 use Rattle.group_run.specs.Records.{step_size, step_at, steps_from, steps_in, events_in}
 use Rattle.group_run.specs.Runs.{go_on_verdict}
 use Rattle.dvs.specs.GroupCalls.{Begins, Steps, stepping, GoesOn, Forms, forming}
-use Rattle.dvs.specs.CrossingCalls.{crossing, Crosses, seeking, Seeks}
-use Rattle.dvs.specs.Promises.{Called, none, call, list, form, Demand3, Finality, NeverWedged, CrossingTold, Crossings}
+use Rattle.dvs.specs.CrossingCalls.{crossing, seeking}
+use Rattle.dvs.specs.Promises.{Called, none, call, list, form, Demand3, Finality, NeverWedged, Crossings}
 use Rattle.dvs.proofs.GroupLaws.{step_left}
 use Rattle.dvs.proofs.FormLaws.{form-left}
 
@@ -93,7 +92,7 @@ module _ (r : Ranges) {d f : Ranges} {l : List (Outward ℕ)} (t : Led d l f) wh
 
 module _ (r d f : Ranges) (c : Step) (e e' : List ℕ) (x : ℕ) (l : List (Outward ℕ)) (g : Given c) (s : Steps r c d e e' x) where
   abbrev shown : List (Outward ℕ)
-  shown = shown_by (stepping r c e) (step_reply r c).event
+  shown = shown_by (stepping r c e)
 
   call-led : Led d l f → Led r (shown ++ l) f
   unfolding left events_shown replies_of last_ranges
@@ -101,16 +100,15 @@ module _ (r d f : Ranges) (c : Step) (e e' : List ℕ) (x : ℕ) (l : List (Outw
     where
       go : (b : Bool) → eqb (length e) event_size ≡ b → Led r (shown ++ l) f
       go true h =
-          let v : stepping r c e ≡ (step_reply r c).verdict = sized-met e event_size (step_reply r c).verdict (eqb-true _ _ h) in
+          let v : stepping r c e ≡ step_reply r c = sized-met e event_size (step_reply r c) (eqb-true _ _ h) in
           let list : d.list ≡ (step_ranges r c).list = rw v at s.list ∙ sym (step_left r c (λ (z : Ranges). z.list)) in
           let books : d.books ≡ (step_ranges r c).books = rw v at s.books ∙ sym (step_left r c (λ (z : Ranges). z.books)) in
           let queues : d.queues ≡ (step_ranges r c).queues = rw v at s.queues ∙ sym (step_left r c (λ (z : Ranges). z.queues)) in
           let one = taking r t (c ∷ []) (one-given c g) (same-ranges d (step_ranges r c) list books queues) in
-          let events : shown_by (step_reply r c).verdict (step_reply r c).event ++ [] ≡ shown
-          = append-nil _ ∙ ap (λ (w : Verdict). shown_by w (step_reply r c).event) (sym v) in
+          let events : shown_by (step_reply r c) ++ [] ≡ shown = append-nil _ ∙ ap shown_by (sym v) in
           subst (λ (k : List (Outward ℕ)). Led r (k ++ l) f) events one
       go false h =
-          let v : stepping r c e ≡ Refused RecordsUnsound = sized-unmet e event_size (step_reply r c).verdict (eqb-false _ _ h) in
+          let v : stepping r c e ≡ Err RecordsUnsound = sized-unmet e event_size (step_reply r c) (eqb-false _ _ h) in
           rw v (leaving r t (same-ranges d r (rw v at s.list) (rw v at s.books) (rw v at s.queues)))
 
 -- ---- a call of a list is its steps, or none if it is refused
@@ -134,11 +132,11 @@ module _ (r d f : Ranges) (b a a' : List ℕ) (x : ℕ) (l : List (Outward ℕ))
       steps = steps_in b
 
       go : (v : Verdict) → go_on_verdict r b a ≡ v → Led r (listed ++ l) f
-      go Accepted v =
+      go (Ok u) v =
           let same : d ≡ last_ranges r steps = same-ranges d (last_ranges r steps) (rw v at s.went.list) (rw v at s.went.books) (rw v at s.went.queues) in
           let all = taking r t steps (listed-given b w (length b / step_size) 0) same in
           rw v (subst (λ (k : List (Outward ℕ)). Led r (k ++ l) f) (sym (s.went.shown v)) all)
-      go (Refused q) v = rw v (leaving r t (same-ranges d r (rw v at s.went.list) (rw v at s.went.books) (rw v at s.went.queues)))
+      go (Err q) v = rw v (leaving r t (same-ranges d r (rw v at s.went.list) (rw v at s.went.books) (rw v at s.went.queues)))
 
 -- ---- a call of form is its steps, or none if it is refused or the count range is not of its length
 
@@ -155,8 +153,8 @@ module _ (r d f : Ranges) (g : Identifier) (c c' : List ℕ) (x : ℕ) (l : List
 
       -- a refused call has no step to show
       shown-left : (v : Verdict) → form_verdict r g ≡ v → left v (events_shown (replies_of r steps)) [] ≡ events_shown (replies_of r steps)
-      shown-left Accepted h = refl
-      shown-left (Refused q) h = ap (λ (k : List Step). events_shown (replies_of r k)) (sym (refused_none r g q h))
+      shown-left (Ok u) h = refl
+      shown-left (Err q) h = ap (λ (k : List Step). events_shown (replies_of r k)) (sym (refused_none r g q h))
 
       go : (b : Bool) → eqb (length c) length_size ≡ b → Led r (formed ++ l) f
       go true h =
@@ -167,7 +165,7 @@ module _ (r d f : Ranges) (g : Identifier) (c c' : List ℕ) (x : ℕ) (l : List
           let all = taking r t steps (taken-given r g w) (same-ranges d (last_ranges r steps) list books queues) in
           rw (v, shown-left (form_verdict r g) refl) all
       go false h =
-          let v : forming r g c ≡ Refused RecordsUnsound = sized-unmet c length_size (form_verdict r g) (eqb-false _ _ h) in
+          let v : forming r g c ≡ Err RecordsUnsound = sized-unmet c length_size (form_verdict r g) (eqb-false _ _ h) in
           rw v (leaving r t (same-ranges d r (rw v at s.list) (rw v at s.books) (rw v at s.queues)))
 
 -- ---- any calls
@@ -212,8 +210,8 @@ never-wedged-calls n S r d f l b k =
 -- 0 is the number of no refusal, so what a call that gave 0 has left is what was accepted
 zero_left : {A : Type 0} (v : Verdict) (x y : A) → 0 ≡ code_of v → left v x y ≡ x
 unfolding left
-zero_left Accepted x y e = refl
-zero_left (Refused q) x y e = absurd (eqb-false (number_of q) 0 (never-0 q) (sym e))
+zero_left (Ok u) x y e = refl
+zero_left (Err q) x y e = absurd (eqb-false (number_of q) 0 (never-0 q) (sym e))
 
 ids-length : (l : List View) → length (ids_of l) ≡ length l
 ids-length [] = refl
@@ -248,6 +246,6 @@ crossings-calls n S r d f l b k =
             newest_in f g,
             subst (λ (y : Ranges). NewestBefore S l g (newest_in y g)) last
                 (subst (λ (m : List (Outward ℕ)). NewestBefore S m g (newest_in (last_ranges z steps) g)) shown told),
-            q.found ∙ zero_left (seeking f o) (found_bytes (lookup_of (newest_in f g))) o q.number,
+            q.found ∙ zero_left (seeking f o) (found_bytes (newest_in f g)) o q.number,
           );
     }

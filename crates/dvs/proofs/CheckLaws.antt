@@ -5,15 +5,16 @@ use mathlib.Core.List.{List}
 use Prim.Native.Nat.{ℕ}
 use lib.Dec.{ltb}
 use Rattle.views.specs.declared.refusal.Refusal.TheVariants.{RecordsUnsound, NoSuchMember}
-use Rattle.views.specs.declared.refusal.Verdict.TheVariants.{Accepted, Refused}
-use Rattle.views.specs.Refusals.{code_of, require}
+use Rattle.std.specs.Prelude.{Ok, Err}
+use Rattle.views.specs.Refusals.{Verdict, code_of, require}
 use Rattle.book_bytes.specs.Books.{bytes_sound, members_in, own_in_book}
 use Rattle.member.specs.Parts.{admitted}
 use Rattle.group_bytes.specs.Groups.{Ranges, ranges_sound}
 use Rattle.dvs.specs.BookCalls.{checking}
 use Rattle.dvs.specs.GroupCalls.{group_checking}
 
-tested : (s t : Bool) → cond s (cond t Accepted (Refused NoSuchMember)) (Refused RecordsUnsound) ≡ require s RecordsUnsound (require t NoSuchMember Accepted)
+tested : (s t : Bool)
+    → ◌≡◌ {A = Verdict} (cond s (cond t (Ok tt) (Err NoSuchMember)) (Err RecordsUnsound)) (require s RecordsUnsound (require t NoSuchMember (Ok tt)))
 unfolding require
 tested true true = refl
 tested true false = refl

@@ -3,17 +3,18 @@ use mathlib.Core.Path.{◌≡◌, refl, ap, ◌∙◌}
 use mathlib.Core.List.{List}
 use Prim.Native.Nat.{ℕ}
 use lib.ListN.{length}
-use Rattle.views.specs.declared.refusal.Verdict.{Verdict}
-use Rattle.views.specs.declared.refusal.Verdict.TheVariants.{Accepted, Refused}
-use Rattle.views.specs.Refusals.{code_of, left}
+use Rattle.views.specs.Refusals.{Verdict, code_of, left}
+use Rattle.std.specs.Prelude.{Ok, Err}
+use Rattle.std.specs.Prelude.{Result as Given}
+use Rattle.views.specs.declared.refusal.Refusal.{Refusal}
 use Rattle.rules.specs.Data.{Identifier}
 use Rattle.group_bytes.specs.Groups.{Ranges}
 use Rattle.group_bytes.specs.Steps.{last_ranges}
 use Rattle.group_bytes.specs.Forming.{form_verdict, form_taken}
 use Rattle.group_bytes.proofs.GroupForms.{form-refused}
 use Rattle.group_form.specs.FormCalls.{Formed}
-use Rattle.c_answers.specs.Answers.{length_size, length_bytes}
-use Rattle.c_answers.proofs.AnswerLaws.{sized-met, sized-unmet}
+use Rattle.c_answers.specs.Answers.{given_bytes, length_size, length_bytes}
+use Rattle.c_answers.proofs.AnswerLaws.{sized-met, sized-unmet, let-number, let-bytes}
 use Rattle.dvs.specs.GroupCalls.{Forms}
 
 pub forms-unsized : (r : Ranges) (g : Identifier) (c : List ℕ) (x : ℕ) → (length c ≡ length_size → ⊥) → x ≡ 4 → Forms r g r c c x
@@ -29,16 +30,17 @@ unfolding left
 form-left r g f = go (form_verdict r g) refl
   where
     go : (v : Verdict) → form_verdict r g ≡ v → f (last_ranges r (form_taken r g)) ≡ left v (f (last_ranges r (form_taken r g))) (f r)
-    go Accepted e = refl
-    go (Refused w) e = ap f (form-refused r g w e)
+    go (Ok u) e = refl
+    go (Err w) e = ap f (form-refused r g w e)
 
-pub forms-call : (r d : Ranges) (g : Identifier) (c c' : List ℕ) (v : Verdict) (k x : ℕ) → length c ≡ length_size → Formed r g d v k
-    → (x ≡ code_of v) × (c' ≡ left v (length_bytes k) c) → Forms r g d c c' x
-forms-call r d g c c' v k x n h a =
+pub forms-call : (r d : Ranges) (g : Identifier) (c c' : List ℕ) (y : Given ℕ Refusal) (x : ℕ) → length c ≡ length_size → Formed r g d y
+    → (x ≡ code_of y) × (c' ≡ given_bytes length_bytes y c) → Forms r g d c c' x
+forms-call r d g c c' y x n h a =
     let w = sized-met c length_size (form_verdict r g) n in
-    let number : x ≡ code_of (form_verdict r g) = a.0 ∙ ap code_of h.verdict in
+    let many = length (form_taken r g) in
+    let number : x ≡ code_of (form_verdict r g) = a.0 ∙ ap code_of h.reply ∙ let-number length_bytes many c _ in
     let count : c' ≡ left (form_verdict r g) (length_bytes (length (form_taken r g))) c
-    = a.1 ∙ ap (λ (y : Verdict). left y (length_bytes k) c) h.verdict ∙ ap (λ (j : ℕ). left (form_verdict r g) (length_bytes j) c) h.count in
+    = a.1 ∙ ap (λ (z : Given ℕ Refusal). given_bytes length_bytes z c) h.reply ∙ let-bytes length_bytes many c _ in
     record {
       number = rw w number;
       list = rw w (h.list ∙ form-left r g (λ (z : Ranges). z.list));

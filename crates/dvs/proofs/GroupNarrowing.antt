@@ -4,8 +4,6 @@ use mathlib.Core.Logic.{inl, inr, ⊎_elim}
 use mathlib.Core.Bool.{true, false}
 use Prim.Native.Nat.{ℕ, ◌≤◌}
 use native.Mathlib.Omega.{arith}
-use Rattle.views.specs.declared.refusal.Refusal.TheVariants.{RecordsUnsound, UnknownStep}
-use Rattle.views.specs.declared.refusal.Verdict.TheVariants.{Refused}
 use Rattle.views.specs.Limits.{max_members}
 use Rattle.views.proofs.SetLaws.{known}
 use Rattle.views.specs.Refusals.{left}
@@ -13,8 +11,7 @@ use Rattle.views.specs.Sets.{fits}
 use Rattle.rules.specs.Sound.{within}
 use Rattle.rules.specs.Group.{start}
 use Rattle.rules.proofs.TestLaws.{within-says}
-use Rattle.events.specs.declared.Reply.{Reply}
-use Rattle.events.specs.Replies.{no_event, replied}
+use Rattle.events.specs.Replies.{Reply}
 use Rattle.group_bytes.specs.Groups.{Ranges, ranges_sound}
 use Rattle.group_bytes.specs.Steps.{start_result}
 use Rattle.group.specs.StepCalls.{asked, Went}
@@ -57,9 +54,9 @@ step-narrowed r d kind first second x =
     by_width (λ k. Went r (asked k first second) d x) 0 kind (λ h.
     ⊎_elim
     (λ (s : ranges_sound r ≡ true).
-    went-alike r d (asked 0 first second) (asked kind first second) x (replied (Refused UnknownStep) no_event)
-    (unknown-went r s (asked 0 first second) (inl refl) _ refl) (unknown-went r s (asked kind first second) (inr (omega arith)) _ refl))
+    went-alike r d (asked 0 first second) (asked kind first second) x _
+    (unknown-went r s (asked 0 first second) (inl refl)) (unknown-went r s (asked kind first second) (inr (omega arith))))
     (λ (s : ranges_sound r ≡ false).
-    went-alike r d (asked 0 first second) (asked kind first second) x (replied (Refused RecordsUnsound) no_event)
-    (unsound-went r s (asked 0 first second) _ refl) (unsound-went r s (asked kind first second) _ refl))
+    went-alike r d (asked 0 first second) (asked kind first second) x _
+    (unsound-went r s (asked 0 first second)) (unsound-went r s (asked kind first second)))
     (known (ranges_sound r)))

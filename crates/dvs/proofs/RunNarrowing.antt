@@ -6,10 +6,9 @@ use Prim.Native.Nat.{ℕ, ◌≤◌}
 use lib.ListN.{length}
 use Rattle.views.specs.declared.refusal.Refusal.{Refusal}
 use Rattle.views.specs.declared.refusal.Refusal.TheVariants.{RecordsUnsound}
-use Rattle.views.specs.declared.refusal.Verdict.{Verdict}
-use Rattle.views.specs.declared.refusal.Verdict.TheVariants.{Refused}
+use Rattle.views.specs.Refusals.{Verdict, code_of, require, left}
+use Rattle.std.specs.Prelude.{Err}
 use Rattle.views.specs.Limits.{max_members}
-use Rattle.views.specs.Refusals.{code_of, require, left}
 use Rattle.views.specs.Sets.{fits}
 use Rattle.views.proofs.VerdictLaws.{never}
 use Rattle.rules.specs.Sound.{within}
@@ -23,7 +22,7 @@ use Rattle.c_answers.proofs.StandIns.{RefusedAlike, need-alike, unmet-alike, by_
 use Rattle.dvs.specs.GroupCalls.{Runs, GoesOn}
 
 -- the refusal of a run whose start is refused
-stops : (t : Bool) (x : Refusal) → (y : Refusal) × (require t RecordsUnsound (Refused x) ≡ Refused y)
+stops : (t : Bool) (x : Refusal) → (y : Refusal) × (◌≡◌ {A = Verdict} (require t RecordsUnsound (Err x)) (Err y))
 unfolding require
 stops true x = (x, refl)
 stops false x = (RecordsUnsound, refl)
@@ -36,9 +35,9 @@ module _ (r d : Ranges) (steps a a' : List ℕ) (x : ℕ) where
   unfolding run_verdict left
   gone-alike n n' S S' (z, p, q) h =
       let (y, e) = stops (paired (length steps) (length a)) z in
-      let old : run_verdict n S r steps a ≡ Refused y = rw p e in
-      let new : run_verdict n' S' r steps a ≡ Refused y = rw q e in
-      let number : x ≡ code_of (Refused y) = rw old at h.number in
+      let old : run_verdict n S r steps a ≡ Err y = rw p e in
+      let new : run_verdict n' S' r steps a ≡ Err y = rw q e in
+      let number : x ≡ code_of {A = Unit {0}} (Err y) = rw old at h.number in
       let list : d.list ≡ r.list = rw old at h.ran.list in
       let books : d.books ≡ r.books = rw old at h.ran.books in
       let queues : d.queues ≡ r.queues = rw old at h.ran.queues in

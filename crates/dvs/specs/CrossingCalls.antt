@@ -2,12 +2,11 @@
 -- set of a query, o and o' its buffer of identifiers before and after the call, c and c' the count. g is the identifier
 -- before which the newest view is sought, and o and o' are then that view's range.
 use Rattle.std.specs.Prelude.{◌≡◌, Bool, List, ℕ, length}
-use Rattle.views.specs.declared.refusal.Verdict.{Verdict}
-use Rattle.views.specs.Refusals.{code_of, left}
+use Rattle.views.specs.Refusals.{Verdict, code_of, left}
 use Rattle.rules.specs.Data.{Identifier}
 use Rattle.group_bytes.specs.Groups.{Ranges}
 use Rattle.group_bytes.specs.Crossing.{newest_in}
-use Rattle.group_crossing.specs.Queries.{found_in, store_ids, lookup_of, query_verdict}
+use Rattle.group_crossing.specs.Queries.{found_in, store_ids, query_verdict}
 use Rattle.c_answers.specs.Answers.{length_size, length_bytes, found_size, found_bytes, sized}
 use Rattle.dvs.specs.GroupCalls.{group_checking}
 
@@ -28,4 +27,4 @@ seeking r o = sized o found_size (group_checking r)
 -- the newest attempted view before g
 pub record Seeks (r : Ranges) (g : Identifier) (o o' : List ℕ) (x : ℕ) : Type 0 where
   pub number : x ≡ code_of (seeking r o)
-  pub found : o' ≡ left (seeking r o) (found_bytes (lookup_of (newest_in r g))) o
+  pub found : o' ≡ left (seeking r o) (found_bytes (newest_in r g)) o

@@ -1,12 +1,10 @@
 -- What the calls of the whole group give and leave: x is the number given, r the three ranges before the call and d
 -- after it, e and e' the event.
-use Rattle.std.specs.Prelude.{◌≡◌, List, ℕ, length}
+use Rattle.std.specs.Prelude.{◌≡◌, List, ℕ, length, Ok}
 use Rattle.views.specs.declared.refusal.Refusal.TheVariants.{RecordsUnsound}
-use Rattle.views.specs.declared.refusal.Verdict.{Verdict}
-use Rattle.views.specs.declared.refusal.Verdict.TheVariants.{Accepted}
-use Rattle.views.specs.Refusals.{code_of, require, left}
+use Rattle.views.specs.Refusals.{Verdict, code_of, require, left}
 use Rattle.rules.specs.Data.{Identifier, Step}
-use Rattle.events.specs.Replies.{verdict_of}
+use Rattle.events.specs.Replies.{Reply, event_in, verdict_of}
 use Rattle.group_bytes.specs.Groups.{Ranges, ranges_sound}
 use Rattle.group_bytes.specs.Starts.{start_ranges}
 use Rattle.group_bytes.specs.Steps.{start_result, step_ranges, step_reply, last_ranges}
@@ -22,15 +20,15 @@ pub record Begins (r : Ranges) (n S : ℕ) (d : Ranges) (x : ℕ) : Type 0 where
   pub queues : d.queues ≡ (left (verdict_of (start_result n S r)) (start_ranges n S r) r).queues
 
 -- 4 for an event range of another length, then the step's own verdict
-abbrev pub stepping : Ranges → Step → List ℕ → Verdict
-stepping r c e = sized e event_size (step_reply r c).verdict
+abbrev pub stepping : Ranges → Step → List ℕ → Reply
+stepping r c e = sized e event_size (step_reply r c)
 
 pub record Steps (r : Ranges) (c : Step) (d : Ranges) (e e' : List ℕ) (x : ℕ) : Type 0 where
   pub number : x ≡ code_of (stepping r c e)
   pub list : d.list ≡ left (stepping r c e) (step_ranges r c).list r.list
   pub books : d.books ≡ left (stepping r c e) (step_ranges r c).books r.books
   pub queues : d.queues ≡ left (stepping r c e) (step_ranges r c).queues r.queues
-  pub event : e' ≡ left (stepping r c e) (event_bytes (step_reply r c).event) e
+  pub event : e' ≡ left (stepping r c e) (event_bytes (event_in (step_reply r c))) e
 
 -- a run of n members with the first set S: it takes the steps in turn and makes the answers a into a'
 pub record Runs (n S : ℕ) (r : Ranges) (steps a : List ℕ) (d : Ranges) (a' : List ℕ) (x : ℕ) : Type 0 where
@@ -56,4 +54,4 @@ pub record Forms (r : Ranges) (g : Identifier) (d : Ranges) (c c' : List ℕ) (x
 
 -- whether the ranges are a group that the steps take: 4
 unfoldable pub group_checking : Ranges → Verdict
-group_checking r = require (ranges_sound r) RecordsUnsound Accepted
+group_checking r = require (ranges_sound r) RecordsUnsound (Ok tt)

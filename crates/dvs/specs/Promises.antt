@@ -1,13 +1,13 @@
 -- Demand 3, never wedged, what is final and what the crossing queries say, of a host's calls: a start of a group that
 -- gave 0, then calls of step, of a list of steps and of form in any order, each on the ranges left before.
 -- Demand 2 of its messages: what is read is written again, and what is written is read again.
-use Rattle.std.specs.Prelude.{◌≡◌, Bool, true, List, [], ◌++◌, ℕ, ◌^◌, ◌<◌, ◌≤◌, length, take}
-use Rattle.std.proofs.Math.Option.{Option}
+use Rattle.std.specs.Prelude.{◌≡◌, Bool, true, List, [], ◌++◌, ℕ, ◌^◌, ◌<◌, ◌≤◌, length, take, Ok, Option}
 use Rattle.views.specs.declared.View.{View}
 use Rattle.views.specs.Limits.{max_views}
 use Rattle.views.specs.Refusals.{left}
 use Rattle.views.specs.Sets.{one}
 use Rattle.wire.specs.Widths.{AreBytes}
+use Rattle.wire.specs.declared.Reading.{Reading}
 use Rattle.wire.specs.Reader.{read_front}
 use Rattle.wire.specs.Writer.{frame_bytes, overwritten}
 use Rattle.wire.specs.Records.{record_size, record_bytes, frame_of}
@@ -17,12 +17,12 @@ use Rattle.rules.specs.Promise.{Promised}
 use Rattle.rules.specs.Final.{SafeIsFinal}
 use Rattle.rules.specs.Crossing.{Crossed, NewestBefore}
 use Rattle.group_bytes.specs.Groups.{Ranges, ranges_sound}
-use Rattle.group_bytes.specs.Steps.{step_reply, replies_of}
+use Rattle.group_bytes.specs.Steps.{replies_of}
 use Rattle.group_bytes.specs.Forming.{form_taken}
 use Rattle.events.specs.Shown.{shown_by, events_shown}
 use Rattle.group_bytes.specs.Promises.{Given}
 use Rattle.c_answers.specs.Answers.{length_size, length_bytes, found_bytes}
-use Rattle.group_crossing.specs.Queries.{is_wanted, ids_of, found_in, store_ids, lookup_of}
+use Rattle.group_crossing.specs.Queries.{is_wanted, ids_of, found_in, store_ids}
 use Rattle.group_run.specs.Records.{events_in}
 use Rattle.group_run.specs.Runs.{go_on_verdict}
 use Rattle.dvs.specs.MessageCalls.{Reads, ReadsFront, Writes}
@@ -36,7 +36,7 @@ pub data Called : Ranges → List (Outward ℕ) → Ranges → Type 0 where
   none : {r : Ranges} → Called r [] r
   call : {r d f : Ranges} {l : List (Outward ℕ)} (c : Step) (e e' : List ℕ) (x : ℕ)
       → Given c → Steps r c d e e' x → Called d l f
-      → Called r (shown_by (stepping r c e) (step_reply r c).event ++ l) f
+      → Called r (shown_by (stepping r c e) ++ l) f
   list : {r d f : Ranges} {l : List (Outward ℕ)} (steps a a' : List ℕ) (x : ℕ)
       → AreBytes steps → GoesOn r steps a d a' x → Called d l f
       → Called r (left (go_on_verdict r steps a) (events_in a') [] ++ l) f
@@ -68,7 +68,7 @@ pub record CrossingTold (S : ℕ) (l : List (Outward ℕ)) (f : Ranges) : Type 0
   -- 32 places are enough for any query
   pub few : (hold : Bool) (T : ℕ) → length (found_in f hold T) ≤ max_views
   pub sought : (g : Identifier) (o o' : List ℕ) → Seeks f g o o' 0
-      → (found : Option View) × NewestBefore S l g found × (o' ≡ found_bytes (lookup_of found))
+      → (found : Option View) × NewestBefore S l g found × (o' ≡ found_bytes found)
 
 abbrev pub Crossings : Type 0
 Crossings =
@@ -87,9 +87,9 @@ pub record Demand2 : Type 0 where
       → (x ≡ 0) × (k' ≡ m)
   -- the same of dvs_read_front: the record that it made of the front of s is written as those bytes, and what dvs_write
   -- wrote is read from the front of the buffer, whatever lies behind it
-  pub front-then-written : (s m m' j j' o o' l l' : List ℕ) (x : ℕ) → AreBytes s → ReadsFront s m m' j j' 0
-      → (read_front s).taken ≤ length o → length l ≡ length_size → Writes m' o o' l l' x
-      → (x ≡ 0) × (o' ≡ overwritten (take (read_front s).taken s) o) × (l' ≡ j')
+  pub front-then-written : (s m m' j j' o o' l l' : List ℕ) (x : ℕ) (r : Reading) → AreBytes s
+      → ReadsFront s m m' j j' 0 → read_front s ≡ Ok r → r.taken ≤ length o → length l ≡ length_size
+      → Writes m' o o' l l' x → (x ≡ 0) × (o' ≡ overwritten (take r.taken s) o) × (l' ≡ j')
   pub written-then-front : (m o o' l l' k k' j j' : List ℕ) (x : ℕ) → AreBytes m
       → record_bytes (canonical (frame_of m)) ≡ m → Writes m o o' l l' 0 → length k ≡ record_size
       → length j ≡ length_size → ReadsFront o' k k' j j' x → (x ≡ 0) × (k' ≡ m) × (j' ≡ l')

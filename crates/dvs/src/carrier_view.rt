@@ -19,9 +19,7 @@ pub extern "C" fn dvs_join(book: &mut [u8], view: u32, set: u32) -> u32
         id: ViewId(view),
         set: c_answers::narrow(set, 0),
     };
-    let r = member::carrier_view::join(book, joined);
-    let v = r.verdict;
-    c_answers::code(v)
+    c_answers::code(member::carrier_view::join(book, joined))
 }
 
 // The carrier view is attempted: it becomes the client view.
@@ -33,8 +31,7 @@ pub extern "C" fn dvs_attempt(book: &mut [u8], event: &mut [u8]) -> u32
     if event.len() != c_answers::EVENT {
         return c_answers::refused(Refusal::RecordsUnsound);
     }
-    let r = member::carrier_view::attempt(book);
-    c_answers::answer(event, r)
+    c_answers::answer(event, member::carrier_view::attempt(book))
 }
 
 // The carrier view, registered by all its members, becomes settled.
@@ -43,7 +40,5 @@ pub extern "C" fn dvs_collect(book: &mut [u8]) -> u32
     ensures { Gives (verdict_of (collect_call book.old)) (collect_bytes book.old)
         book.old book.new result }
 {
-    let r = member::carrier_view::collect(book);
-    let v = r.verdict;
-    c_answers::code(v)
+    c_answers::code(member::carrier_view::collect(book))
 }

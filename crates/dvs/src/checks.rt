@@ -12,8 +12,7 @@ use views::refusal::Refusal;
 pub extern "C" fn dvs_check(book: &[u8]) -> u32
     ensures { result ≡ code_of (checking book.now) }
 {
-    let v = member::admit(book);
-    c_answers::code(v)
+    c_answers::code(member::admit(book))
 }
 
 // Whether the three ranges are a group that every step takes.

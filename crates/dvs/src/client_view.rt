@@ -16,8 +16,7 @@ pub extern "C" fn dvs_register(book: &mut [u8], event: &mut [u8]) -> u32
     if event.len() != c_answers::EVENT {
         return c_answers::refused(Refusal::RecordsUnsound);
     }
-    let r = member::client_view::register(book);
-    c_answers::answer(event, r)
+    c_answers::answer(event, member::client_view::register(book))
 }
 
 // The client sends an entry number in the client view.
@@ -29,8 +28,7 @@ pub extern "C" fn dvs_send(book: &mut [u8], entry: u64, event: &mut [u8]) -> u32
     if event.len() != c_answers::EVENT {
         return c_answers::refused(Refusal::RecordsUnsound);
     }
-    let r = member::client_view::send(book, entry);
-    c_answers::answer(event, r)
+    c_answers::answer(event, member::client_view::send(book, entry))
 }
 
 // The next entry of the client view is given to the client.
@@ -42,8 +40,7 @@ pub extern "C" fn dvs_hand(book: &mut [u8], event: &mut [u8]) -> u32
     if event.len() != c_answers::EVENT {
         return c_answers::refused(Refusal::RecordsUnsound);
     }
-    let r = member::client_view::hand(book);
-    c_answers::answer(event, r)
+    c_answers::answer(event, member::client_view::hand(book))
 }
 
 // The others are told how many entries the client has.
@@ -52,9 +49,7 @@ pub extern "C" fn dvs_tell(book: &mut [u8]) -> u32
     ensures { Gives (verdict_of (tell_call book.old)) (tell_bytes book.old)
         book.old book.new result }
 {
-    let r = member::client_view::tell(book);
-    let v = r.verdict;
-    c_answers::code(v)
+    c_answers::code(member::client_view::tell(book))
 }
 
 // The next entry that every client of the view has is reported safe.
@@ -66,6 +61,5 @@ pub extern "C" fn dvs_safe(book: &mut [u8], event: &mut [u8]) -> u32
     if event.len() != c_answers::EVENT {
         return c_answers::refused(Refusal::RecordsUnsound);
     }
-    let r = member::client_view::safe(book);
-    c_answers::answer(event, r)
+    c_answers::answer(event, member::client_view::safe(book))
 }

@@ -23,9 +23,8 @@ fn cross(
     if count.len() != c_answers::LENGTH {
         return c_answers::refused(Refusal::RecordsUnsound);
     }
-    let r = group_crossing::query(list, books, queues, hold, c_answers::narrow(set, 0), views);
-    let v = r.verdict;
-    c_answers::measure(count, v, r.count)
+    let found = group_crossing::query(list, books, queues, hold, c_answers::narrow(set, 0), views);
+    c_answers::measure(count, found)
 }
 
 // The attempted views with which the set shares a member.

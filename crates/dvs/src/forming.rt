@@ -21,7 +21,6 @@ pub extern "C" fn dvs_group_form(
     if count.len() != c_answers::LENGTH {
         return c_answers::refused(Refusal::RecordsUnsound);
     }
-    let r = group_form::form(list, books, queues, ViewId(view));
-    let v = r.verdict;
-    c_answers::measure(count, v, r.steps as usize)
+    let taken = group_form::form(list, books, queues, ViewId(view));
+    c_answers::measure(count, taken.map(|steps| steps as usize))
 }

@@ -6,7 +6,7 @@ ghost use Rattle.dvs.specs.MessageCalls.{Passes, Delivers, Reads, ReadsFront, Wr
 ghost use Rattle.dvs.specs.BookCalls.{Gives};
 
 use views::Member;
-use views::refusal::{Refusal, Verdict};
+use views::refusal::Refusal;
 use wire::format;
 
 // The first outgoing message goes to the front of the buffer, and its length to `length`.
@@ -18,9 +18,7 @@ pub extern "C" fn dvs_pass(book: &mut [u8], buffer: &mut [u8], length: &mut [u8]
     if length.len() != c_answers::LENGTH {
         return c_answers::refused(Refusal::RecordsUnsound);
     }
-    let r = member::messages::pass::pass(book, buffer);
-    let v = r.verdict;
-    c_answers::measure(length, v, r.length)
+    c_answers::measure(length, member::messages::pass::pass(book, buffer))
 }
 
 // The next message of the carrier view's order is taken.
@@ -29,9 +27,11 @@ pub extern "C" fn dvs_deliver(book: &mut [u8], bytes: &[u8], sender: u32) -> u32
     ensures { Gives (verdict_of (deliver_call bytes.now sender book.old))
         (deliver_bytes bytes.now sender book.old) book.old book.new result }
 {
-    let r = member::messages::deliver::deliver(book, bytes, Member(c_answers::narrow(sender, 255)));
-    let v = r.verdict;
-    c_answers::code(v)
+    c_answers::code(member::messages::deliver::deliver(
+        book,
+        bytes,
+        Member(c_answers::narrow(sender, 255)),
+    ))
 }
 
 // The messages in `bytes`, one behind the other and all from one sender, are taken up to the first refusal. How many
@@ -49,10 +49,8 @@ pub extern "C" fn dvs_deliver_packet(
     if delivery.len() != c_answers::DELIVERY {
         return c_answers::refused(Refusal::RecordsUnsound);
     }
-    let r = member::messages::packet::deliver(book, bytes, Member(c_answers::narrow(sender, 255)));
-    let v = r.verdict;
-    let stopped = r.stopped;
-    c_answers::account(delivery, v, r.count, stopped)
+    let q = Member(c_answers::narrow(sender, 255));
+    c_answers::account(delivery, member::messages::packet::deliver(book, bytes, q))
 }
 
 // The message at the front of the bytes is read into the record, and how many bytes it took goes to `length`.
@@ -67,9 +65,7 @@ pub extern "C" fn dvs_read_front(bytes: &[u8], message: &mut [u8], length: &mut 
     if length.len() != c_answers::LENGTH {
         return c_answers::refused(Refusal::RecordsUnsound);
     }
-    let f = wire::record::read_front(bytes, message);
-    let v = f.verdict;
-    c_answers::measure(length, v, f.taken)
+    c_answers::measure(length, wire::record::read_front(bytes, message))
 }
 
 // One message, which the bytes must be as a whole, is read into the record.
@@ -80,11 +76,7 @@ pub extern "C" fn dvs_read(bytes: &[u8], message: &mut [u8]) -> u32
     if message.len() != wire::record::RECORD {
         return c_answers::refused(Refusal::RecordsUnsound);
     }
-    let v = wire::record::read(bytes, message);
-    match v {
-        Verdict::Refused(why) => c_answers::refused(why),
-        Verdict::Accepted => 0,
-    }
+    c_answers::code(wire::record::read(bytes, message))
 }
 
 // The record's message goes to the front of the buffer, and its length to `length`.
@@ -102,7 +94,5 @@ pub extern "C" fn dvs_write(message: &[u8], buffer: &mut [u8], length: &mut [u8]
     if !format::known(message[wire::record::KIND]) {
         return c_answers::refused(Refusal::UnknownKind);
     }
-    let r = wire::record::write(message, buffer);
-    let v = r.verdict;
-    c_answers::measure(length, v, r.length)
+    c_answers::measure(length, wire::record::write(message, buffer))
 }

@@ -17,7 +17,7 @@ pub extern "C" fn dvs_group_run(
         steps.now answers.old
         (ranges list.new books.new queues.new) answers.new result }
 {
-    let v = group_run::run(
+    c_answers::code(group_run::run(
         list,
         books,
         queues,
@@ -25,8 +25,7 @@ pub extern "C" fn dvs_group_run(
         c_answers::narrow(first_set, 0),
         steps,
         answers,
-    );
-    c_answers::code(v)
+    ))
 }
 
 // A group that exists takes every step in turn; each has the answer that `dvs_group_step` would give.
@@ -42,6 +41,5 @@ pub extern "C" fn dvs_group_steps(
         steps.now answers.old
         (ranges list.new books.new queues.new) answers.new result }
 {
-    let v = group_run::go_on(list, books, queues, steps, answers);
-    c_answers::code(v)
+    c_answers::code(group_run::go_on(list, books, queues, steps, answers))
 }

@@ -12,12 +12,10 @@ pub extern "C" fn dvs_start(book: &mut [u8], members: u32, first_set: u32, own: 
     ensures { Gives (verdict_of (start_call members first_set own book.old))
         (start_bytes members first_set own book.old) book.old book.new result }
 {
-    let r = member::start(
+    c_answers::code(member::start(
         book,
         c_answers::narrow(members, 0),
         c_answers::narrow(first_set, 0),
         Member(c_answers::narrow(own, 255)),
-    );
-    let v = r.verdict;
-    c_answers::code(v)
+    ))
 }

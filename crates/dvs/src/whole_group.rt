@@ -17,14 +17,13 @@ pub extern "C" fn dvs_group_start(
     ensures { Begins (ranges list.old books.old queues.old) members first_set
         (ranges list.new books.new queues.new) result }
 {
-    let v = group::start::start(
+    c_answers::code(group::start::start(
         list,
         books,
         queues,
         c_answers::narrow(members, 0),
         c_answers::narrow(first_set, 0),
-    );
-    c_answers::code(v)
+    ))
 }
 
 // One step of any kind with its operands; an accepted step writes the event.
@@ -45,13 +44,15 @@ pub extern "C" fn dvs_group_step(
     if event.len() != c_answers::EVENT {
         return c_answers::refused(Refusal::RecordsUnsound);
     }
-    let r = group::step::step(
-        list,
-        books,
-        queues,
-        c_answers::narrow(kind, 0),
-        first,
-        second,
-    );
-    c_answers::answer(event, r)
+    c_answers::answer(
+        event,
+        group::step::step(
+            list,
+            books,
+            queues,
+            c_answers::narrow(kind, 0),
+            first,
+            second,
+        ),
+    )
 }

@@ -2,13 +2,13 @@
 use mathlib.Core.Path.{◌≡◌, refl, sym, ap, ◌∙◌}
 use mathlib.Core.List.{List, [], ◌∷◌, ◌++◌, append_assoc}
 use Prim.Native.Nat.{ℕ}
+use Rattle.std.specs.Prelude.{Some}
 use Rattle.rules.specs.Data.{item, Event as Outward, attempt, register, send, hand, safe, Answer, ok, event, refusal}
 use Rattle.rules.specs.Runs.{events_of}
-use Rattle.events.specs.Replies.{outward_of, event_of}
-use Rattle.events.specs.declared.Reply.{Reply}
+use Rattle.events.specs.Replies.{Reply, outward_of, event_of}
 use Rattle.events.specs.Shown.{shown, shown_by, events_shown}
 
-outward-shown : (e : Outward ℕ) → shown (outward_of e) ≡ e ∷ []
+outward-shown : (e : Outward ℕ) → shown (Some (outward_of e)) ≡ e ∷ []
 unfolding shown
 outward-shown (attempt p v) = refl
 outward-shown (register p g) = refl
@@ -26,5 +26,5 @@ pub shown-append : (l m : List Reply) → events_shown (l ++ m) ≡ events_shown
 unfolding events_shown
 shown-append [] m = refl
 shown-append (x ∷ l) m =
-    let e = shown_by x.verdict x.event in
+    let e = shown_by x in
     ap (λ (k : List (Outward ℕ)). e ++ k) (shown-append l m) ∙ sym (append_assoc e (events_shown l) (events_shown m))

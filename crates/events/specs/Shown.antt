@@ -1,33 +1,29 @@
 -- The outward events that replies show.
-use Rattle.std.specs.Prelude.{cond, List, [], ◌∷◌, ◌++◌, ℕ, eqb}
-use Rattle.views.specs.declared.refusal.Verdict.{Verdict}
-use Rattle.views.specs.declared.refusal.Verdict.TheVariants.{Accepted, Refused}
-use Rattle.views.specs.Lists.{id_of}
+use Rattle.std.specs.Prelude.{List, [], ◌∷◌, ◌++◌, ℕ, Option, Some, None, Ok, Err}
 use Rattle.rules.specs.Data.{item, Event as Outward, attempt, register, send, hand, safe}
-use Rattle.events.specs.Kinds.{attempt_kind, register_kind, send_kind, hand_kind, safe_kind}
 use Rattle.events.specs.declared.Event.{Event}
-use Rattle.events.specs.declared.Reply.{Reply}
+use Rattle.events.specs.declared.Event.TheVariants.{Attempt, Register, Send, Hand, Safe}
+use Rattle.events.specs.Replies.{Reply}
 
--- the outward event that a reply shows, if it shows one: attempt P I S, register P I, send P I V, hand P I Q V, safe P
--- I Q V
-unfoldable pub shown : Event → List (Outward ℕ)
-shown e =
-    let k = e.kind in
-    let p = e.member.0 in
-    let g = id_of e.view in
-    let x = item e.sender.0 e.entry in
-    cond (eqb k attempt_kind) (attempt p e.view ∷ [])
-    (cond (eqb k register_kind) (register p g ∷ [])
-    (cond (eqb k send_kind) (send p g e.entry ∷ [])
-    (cond (eqb k hand_kind) (hand p g x ∷ [])
-    (cond (eqb k safe_kind) (safe p g x ∷ []) []))))
+-- attempt P I S, register P I, send P I V, hand P I Q V, safe P I Q V
+abbrev pub outward : Event → Outward ℕ
+outward (Attempt p v) = attempt p.0 v
+outward (Register p g) = register p.0 g.0
+outward (Send p g x) = send p.0 g.0 x
+outward (Hand p g x) = hand p.0 g.0 (item x.sender.0 x.entry)
+outward (Safe p g x) = safe p.0 g.0 (item x.sender.0 x.entry)
+
+-- the outward event that an accepted step shows, if it shows one
+unfoldable pub shown : Option Event → List (Outward ℕ)
+shown None = []
+shown (Some e) = outward e ∷ []
 
 -- a refusal or ok shows nothing
-abbrev pub shown_by : Verdict → Event → List (Outward ℕ)
-shown_by Accepted e = shown e
-shown_by (Refused r) e = []
+abbrev pub shown_by : Reply → List (Outward ℕ)
+shown_by (Ok e) = shown e
+shown_by (Err r) = []
 
 -- first to last
 unfoldable pub events_shown : List Reply → List (Outward ℕ)
 events_shown [] = []
-events_shown (x ∷ l) = shown_by x.verdict x.event ++ events_shown l
+events_shown (x ∷ l) = shown_by x ++ events_shown l

@@ -1,53 +1,35 @@
-// What a step says to the outside: its verdict and, where it has one, its outward event.
+// What a step says to the outside: its outward event, where it has one, or its refusal.
 #![tactic(auto)]
 
 pub mod kinds;
 
-ghost use Rattle.std.specs.Prelude.{◌≡◌};
-ghost use Rattle.views.specs.declared.refusal.Verdict.TheVariants.{Refused};
-ghost use Rattle.events.specs.Replies.{no_event, replied};
-
 use views::refusal::{Refusal, Verdict};
 use views::{Member, View, ViewId};
 
-// An outward event in numbers: the kind of its step, 0 for none, and 0 for what an event does not have.
-#[derive(Clone, Copy)]
-pub struct Event {
-    pub kind: u8,
-    pub member: Member,
-    pub view: View,
+// An entry of a view: the member that sent it, and its number.
+#[derive(Clone, Copy, Debug, PartialEq, Eq)]
+pub struct Item {
     pub sender: Member,
     pub entry: u64,
 }
 
-// What a call gives: the verdict, and the event of an accepted step that has one.
-#[derive(Clone, Copy)]
-pub struct Reply {
-    pub verdict: Verdict,
-    pub event: Event,
+// An outward event: the member, its view, and what the event is about.
+#[derive(Clone, Copy, Debug, PartialEq, Eq)]
+pub enum Event {
+    Attempt(Member, View),
+    Register(Member, ViewId),
+    Send(Member, ViewId, u64),
+    Hand(Member, ViewId, Item),
+    Safe(Member, ViewId, Item),
 }
 
-pub fn no_event() -> Event
-    ensures { result ≡ no_event }
-{
-    Event {
-        kind: 0,
-        member: Member(0),
-        view: View {
-            id: ViewId(0),
-            set: 0,
-        },
-        sender: Member(0),
-        entry: 0,
-    }
-}
+// What a call gives: the event of an accepted step that has one, or the refusal.
+pub type Reply = Result<Option<Event>, Refusal>;
 
-// The refusal alone.
-pub fn refuse(r: Refusal) -> Reply
-    ensures { result ≡ replied (Refused r) no_event }
-{
-    Reply {
-        verdict: Verdict::Refused(r),
-        event: no_event(),
-    }
+// What a packet's delivery gives: how many of its messages were delivered, and the verdict on the next, which stopped
+// it, if there is a next one.
+#[derive(Clone, Copy, Debug, PartialEq, Eq)]
+pub struct Delivered {
+    pub count: usize,
+    pub stopped: Verdict,
 }

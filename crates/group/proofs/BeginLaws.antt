@@ -1,26 +1,23 @@
 -- Start: its refusals in order, the books laid one after another, and what an accepted start leaves.
 use mathlib.Core.Path.{◌≡◌, refl, sym, ap, ◌∙◌}
-use mathlib.Core.Bool.{Bool, true, false}
+use mathlib.Core.Bool.{true, false}
 use mathlib.Core.List.{List, ◌++◌}
-use Prim.Native.Nat.{ℕ, zero, suc, ◌+◌, ◌*◌, ◌/◌, ◌%◌, ◌≤◌, ◌<◌}
+use Prim.Native.Nat.{ℕ, zero, suc, ◌*◌, ◌≤◌, ◌<◌}
 use native.Mathlib.Omega.{arith}
-use borrow.Author.Tests.{eq-eqb, ne_eqb, le-leb, lt-leb}
-use lib.Dec.{eqb}
+use borrow.Author.Tests.{le-leb, lt-leb}
 use lib.ListN.{length, take, drop, replicate, length-replicate}
 use Rattle.views.specs.declared.refusal.Refusal.{Refusal}
 use Rattle.views.specs.declared.refusal.Refusal.TheVariants.{MembersOutOfRange, FirstSetUnfit, ListLength, RecordsUnsound}
-use Rattle.views.specs.declared.refusal.Verdict.TheVariants.{Accepted, Refused}
+use Rattle.std.specs.Prelude.{Ok, Err}
 use Rattle.views.specs.Limits.{max_members, max_views}
-use Rattle.views.specs.Sizes.{view_size}
 use Rattle.views.specs.Refusals.{left}
 use Rattle.rules.specs.Data.{need}
-use Rattle.rules.specs.Sound.{conditions, set_fits}
+use Rattle.rules.specs.Sound.{set_fits}
 use Rattle.rules.specs.Group.{start, first_view}
-use Rattle.rules.proofs.Truth.{both-unit}
 use Rattle.events.specs.Replies.{verdict_of}
 use Rattle.book_bytes.specs.Places.{book_size}
 use Rattle.book_bytes.specs.Starts.{start_bytes}
-use Rattle.group_bytes.specs.Places.{room_of, books_size, book_bytes, with_book, queues_size, layout_at}
+use Rattle.group_bytes.specs.Places.{room_of, books_size, book_bytes, with_book, layout_at}
 use Rattle.group_bytes.specs.Groups.{Ranges}
 use Rattle.group_bytes.specs.Starts.{start_books, start_ranges}
 use Rattle.group_bytes.specs.Steps.{ranges_long, start_result}
@@ -31,31 +28,6 @@ use Rattle.group_bytes.proofs.GroupRuns.{start-holds}
 use Rattle.group.specs.StartCalls.{Began}
 use Rattle.group.specs.StartParts.{long_for}
 
--- ---- lengths
-
-module _ (l b q : ℕ) where
-  pub long-broken : (l % view_size ≡ 0 → ⊥) → false ≡ long_for l b q
-  unfolding long_for conditions
-  long-broken h = rw (ne_eqb _ _ h)
-
-  module _ (whole : l % view_size ≡ 0) where
-    pub long-books : (b ≡ books_size → ⊥) → false ≡ long_for l b q
-    unfolding long_for conditions
-    long-books h = rw (eq-eqb _ _ whole, ne_eqb _ _ h)
-
-    module _ (books : b ≡ books_size) where
-      pub long-none : l / view_size < 1 → true ≡ long_for l b q
-      unfolding long_for conditions
-      long-none h = rw (eq-eqb _ _ whole, eq-eqb _ _ books, lt-leb 1 (l / view_size) h)
-
-      pub long-many : max_views < l / view_size → true ≡ long_for l b q
-      unfolding long_for conditions
-      long-many h = rw (eq-eqb _ _ whole, eq-eqb _ _ books, le-leb 1 (l / view_size) (omega arith), lt-leb (l / view_size) max_views h)
-
-      pub long-queues : 1 ≤ l / view_size → l / view_size ≤ max_views → (x : Bool) → x ≡ eqb q (queues_size (l / view_size)) → x ≡ long_for l b q
-      unfolding long_for conditions
-      long-queues h k x e = rw (eq-eqb _ _ whole, eq-eqb _ _ books, le-leb 1 (l / view_size) h, le-leb (l / view_size) max_views k) (e ∙ sym (both-unit (eqb q (queues_size (l / view_size)))))
-
 -- ---- 4, 1, 2, 3
 
 module _ (n S : ℕ) (r : Ranges) where
@@ -63,36 +35,36 @@ module _ (n S : ℕ) (r : Ranges) where
   unfolding ranges_long long_for
   long_same = refl
 
-  pub begin-short : long_for (length r.list) (length r.books) (length r.queues) ≡ false → Refused RecordsUnsound ≡ verdict_of (start_result n S r)
+  pub begin-short : long_for (length r.list) (length r.books) (length r.queues) ≡ false → Err RecordsUnsound ≡ verdict_of (start_result n S r)
   unfolding start_result need
   begin-short h = rw (long_same, h)
 
   module _ (long : long_for (length r.list) (length r.books) (length r.queues) ≡ true) where
-    pub begin-none : n < 1 → Refused MembersOutOfRange ≡ verdict_of (start_result n S r)
+    pub begin-none : n < 1 → Err MembersOutOfRange ≡ verdict_of (start_result n S r)
     unfolding start_result start need
     begin-none h = rw (long_same, long, lt-leb 1 n h)
 
     module _ (some : 1 ≤ n) where
-      pub begin-many : max_members < n → Refused MembersOutOfRange ≡ verdict_of (start_result n S r)
+      pub begin-many : max_members < n → Err MembersOutOfRange ≡ verdict_of (start_result n S r)
       unfolding start_result start need
       begin-many h = rw (long_same, long, le-leb 1 n some, lt-leb n max_members h)
 
       module _ (few : n ≤ max_members) where
-        pub begin-unfit : set_fits n (first_view S) ≡ false → Refused FirstSetUnfit ≡ verdict_of (start_result n S r)
+        pub begin-unfit : set_fits n (first_view S) ≡ false → Err FirstSetUnfit ≡ verdict_of (start_result n S r)
         unfolding start_result start need
         begin-unfit h = rw (long_same, long, le-leb 1 n some, le-leb n max_members few, h)
 
         module _ (fit : set_fits n (first_view S) ≡ true) where
-          pub begin-empty : room_of r.list < 1 → Refused ListLength ≡ verdict_of (start_result n S r)
+          pub begin-empty : room_of r.list < 1 → Err ListLength ≡ verdict_of (start_result n S r)
           unfolding start_result start need
           begin-empty h = rw (long_same, long, le-leb 1 n some, le-leb n max_members few, fit, lt-leb 1 (room_of r.list) h)
 
           module _ (room : 1 ≤ room_of r.list) where
-            pub begin-longer : max_views < room_of r.list → Refused ListLength ≡ verdict_of (start_result n S r)
+            pub begin-longer : max_views < room_of r.list → Err ListLength ≡ verdict_of (start_result n S r)
             unfolding start_result start need
             begin-longer h = rw (long_same, long, le-leb 1 n some, le-leb n max_members few, fit, le-leb 1 (room_of r.list) room, lt-leb (room_of r.list) max_views h)
 
-            pub begin-accepted : room_of r.list ≤ max_views → Accepted ≡ verdict_of (start_result n S r)
+            pub begin-accepted : room_of r.list ≤ max_views → (Ok tt) ≡ verdict_of (start_result n S r)
             unfolding start_result start need
             begin-accepted h = rw (long_same, long, le-leb 1 n some, le-leb n max_members few, fit, le-leb 1 (room_of r.list) room, le-leb (room_of r.list) max_views h)
 
@@ -142,7 +114,7 @@ lay-last n S k books cleared all e low size c f =
 -- ---- the whole start
 
 -- what an accepted start found
-module _ (n S : ℕ) (r : Ranges) (e : Accepted ≡ verdict_of (start_result n S r)) where
+module _ (n S : ℕ) (r : Ranges) (e : (Ok tt) ≡ verdict_of (start_result n S r)) where
   found : Startable n S r
   found = (accepted-holds (start_result n S r) (start-holds n S r) (sym e)).1.0
 
@@ -158,11 +130,11 @@ module _ (n S : ℕ) (r : Ranges) (e : Accepted ≡ verdict_of (start_result n S
   pub queues-room : layout_at < length r.queues
   queues-room = let h = found in omega (arith, h.queues)
 
-pub start-refused : (n S : ℕ) (r : Ranges) (x : Refusal) → Refused x ≡ verdict_of (start_result n S r) → Began r n S r (Refused x)
+pub start-refused : (n S : ℕ) (r : Ranges) (x : Refusal) → Err x ≡ verdict_of (start_result n S r) → Began r n S r (Err x)
 unfolding left
 start-refused n S r x e = record { verdict = e; list = rw (← e); books = rw (← e); queues = rw (← e) }
 
-pub start-accepted : (n S : ℕ) (r d : Ranges) → Accepted ≡ verdict_of (start_result n S r)
-    → d.list ≡ (start_ranges n S r).list → d.books ≡ (start_ranges n S r).books → d.queues ≡ (start_ranges n S r).queues → Began r n S d Accepted
+pub start-accepted : (n S : ℕ) (r d : Ranges) → (Ok tt) ≡ verdict_of (start_result n S r)
+    → d.list ≡ (start_ranges n S r).list → d.books ≡ (start_ranges n S r).books → d.queues ≡ (start_ranges n S r).queues → Began r n S d (Ok tt)
 unfolding left
 start-accepted n S r d e l b q = record { verdict = e; list = rw (← e) l; books = rw (← e) b; queues = rw (← e) q }

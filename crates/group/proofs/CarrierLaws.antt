@@ -1,4 +1,5 @@
 -- The carrier's steps, a join and a delivery are the group's steps of their kinds.
+use Rattle.std.specs.Prelude.{None, Ok, Err}
 use mathlib.Core.Path.{◌≡◌, refl, sym, ap, ◌∙◌}
 use mathlib.Core.Logic.{◌⊎◌, ⊎_elim}
 use mathlib.Core.Bool.{true, false}
@@ -7,16 +8,14 @@ use Prim.Native.Nat.{ℕ, zero, suc, ◌<◌}
 use native.Mathlib.Omega.{arith}
 use lib.ListN.{length}
 use Rattle.views.specs.declared.refusal.Refusal.TheVariants.{UnknownStep, RecordsUnsound}
-use Rattle.views.specs.declared.refusal.Verdict.{Verdict}
-use Rattle.views.specs.declared.refusal.Verdict.TheVariants.{Accepted, Refused}
+use Rattle.views.specs.Refusals.{Verdict, left}
+use Rattle.views.proofs.VerdictLaws.{then-accepted, then-refused}
 use Rattle.views.specs.Sets.{one}
-use Rattle.views.specs.Refusals.{left}
 use Rattle.rules.specs.Data.{Step, Result, refused, accepted, need}
 use Rattle.rules.specs.Group.{Next, creates, pass_step, order_step, pick, step_of}
 use Rattle.rules.specs.Member.{Passing}
 use Rattle.rules.proofs.Holding.{Holds, refuses, gives, given, need-holds, first_holds, after_holds, listed-holds}
-use Rattle.events.specs.declared.Reply.{Reply}
-use Rattle.events.specs.Replies.{no_event, event_of, replied, verdict_of}
+use Rattle.events.specs.Replies.{Reply, event_of, replied, verdict_of}
 use Rattle.group_bytes.specs.Groups.{Ranges, ranges, group_in, ranges_sound}
 use Rattle.group_bytes.specs.Moves.{view_at, create_ranges, join_ranges, pass_ranges, order_ranges, deliver_ranges}
 use Rattle.group_bytes.specs.Answers.{next_reply}
@@ -30,18 +29,18 @@ use Rattle.group.proofs.OwnLaws.{left_books, result-sound}
 
 left-list : (v : Verdict) (r m : Ranges) → left v m.list r.list ≡ (left v m r).list
 unfolding left
-left-list Accepted r m = refl
-left-list (Refused f) r m = refl
+left-list (Ok u) r m = refl
+left-list (Err f) r m = refl
 
 left-queues : (v : Verdict) (r m : Ranges) → left v m.queues r.queues ≡ (left v m r).queues
 unfolding left
-left-queues Accepted r m = refl
-left-queues (Refused f) r m = refl
+left-queues (Ok u) r m = refl
+left-queues (Err f) r m = refl
 
 left-same : (v : Verdict) (b : List ℕ) → b ≡ left v b b
 unfolding left
-left-same Accepted b = refl
-left-same (Refused f) b = refl
+left-same (Ok u) b = refl
+left-same (Err f) b = refl
 
 module _ (r : Ranges) (sound : ranges_sound r ≡ true) (c : Step) (result : Result Next) (m : Ranges)
     (step : step_of one (group_in r) c ≡ result) (moves : moved r c ≡ m) (list books queues : List ℕ) (x : Reply) where
@@ -60,12 +59,11 @@ module _ (r : Ranges) (sound : ranges_sound r ≡ true) (c : Step) (result : Res
 -- ---- steps that answer ok
 
 abbrev Quiet : Result Next → Type 0
-Quiet x = Holds (λ (y : Next). event_of y.answer ≡ no_event) x
+Quiet x = Holds (λ (y : Next). event_of y.answer ≡ None) x
 
-quiet-reply : (x : Result Next) (v : Verdict) (y : Reply) → Quiet x → v ≡ verdict_of x → y ≡ replied v no_event → y ≡ next_reply x
-unfolding replied
-quiet-reply (refused f) v y h e k = rw e at k
-quiet-reply (accepted z) v y h e k = let g : y ≡ record { verdict = Accepted; event = no_event } = rw e at k in g ∙ rw (given h)
+quiet-reply : (x : Result Next) (v : Verdict) (y : Reply) → Quiet x → v ≡ verdict_of x → y ≡ replied v None → y ≡ next_reply x
+quiet-reply (refused f) v y h e k = k ∙ then-refused f (Ok None) e
+quiet-reply (accepted z) v y h e k = k ∙ then-accepted (Ok None) e ∙ rw (given h)
 
 create-quiet : (r : Ranges) (g S : ℕ) → Quiet (creating r g S)
 unfolding creates
@@ -84,14 +82,14 @@ pass-quiet r p = need-holds _ _ _ (λ _. after_holds (λ (y : Passing). Unit {0}
     anything (accepted y) = gives tt
 
 module _ (r : Ranges) (sound : ranges_sound r ≡ true) where
-  pub create-went : (g S : ℕ) (list queues : List ℕ) (v : Verdict) → Created r g S list queues v → (x : Reply) → x ≡ replied v no_event
+  pub create-went : (g S : ℕ) (list queues : List ℕ) (v : Verdict) → Created r g S list queues v → (x : Reply) → x ≡ replied v None
       → Went r (asked 1 g S) (ranges list r.books queues) x
   unfolding step_of pick moved pick_ranges create_ranges
   create-went g S list queues v h x e =
       went-by r sound (asked 1 g S) (creating r g S) (create_ranges r g S) refl refl list r.books queues x
       (quiet-reply (creating r g S) v x (create-quiet r g S) h.verdict e) h.made (left-same (verdict_of (creating r g S)) r.books) h.cleared
 
-  pub order-went : (p g : ℕ) (queues : List ℕ) (v : Verdict) → Ordered r p g queues v → (x : Reply) → x ≡ replied v no_event
+  pub order-went : (p g : ℕ) (queues : List ℕ) (v : Verdict) → Ordered r p g queues v → (x : Reply) → x ≡ replied v None
       → Went r (asked 4 p g) (ranges r.list r.books queues) x
   unfolding step_of pick moved pick_ranges order_ranges by_member group_in
   order-went p g queues v h x e =
@@ -99,7 +97,7 @@ module _ (r : Ranges) (sound : ranges_sound r ≡ true) where
       (quiet-reply (ordering r p g) v x (order-quiet r p g) h.verdict e)
       (left-same (verdict_of (ordering r p g)) r.list) (left-same (verdict_of (ordering r p g)) r.books) h.moved
 
-  pub pass-went : (p second : ℕ) (books queues : List ℕ) (v : Verdict) → Passed r p books queues v → (x : Reply) → x ≡ replied v no_event
+  pub pass-went : (p second : ℕ) (books queues : List ℕ) (v : Verdict) → Passed r p books queues v → (x : Reply) → x ≡ replied v None
       → Went r (asked 3 p second) (ranges r.list books queues) x
   unfolding step_of pick moved pick_ranges pass_ranges by_member group_in
   pass-went p second books queues v h x e =
@@ -132,11 +130,11 @@ pick-none : {A : Type 0} (k : ℕ) (l : List (Result A)) → k ≡ 0 → pick k 
 unfolding pick
 pick-none k l e = rw e
 
-pub unknown-went : (r : Ranges) → ranges_sound r ≡ true → (c : Step) → (c.kind ≡ 0) ⊎ (12 < c.kind) → (x : Reply) → x ≡ replied (Refused UnknownStep) no_event → Went r c r x
-unfolding step_of replied left
-unknown-went r sound c h x e =
+pub unknown-went : (r : Ranges) → ranges_sound r ≡ true → (c : Step) → (c.kind ≡ 0) ⊎ (12 < c.kind) → Went r c r (Err UnknownStep)
+unfolding step_of left
+unknown-went r sound c h =
     let k : step_of one (group_in r) c ≡ refused UnknownStep = ⊎_elim (λ (z : c.kind ≡ 0). pick-none c.kind _ z) (λ (z : 12 < c.kind). pick-past c.kind _ z) h in
-    went-by r sound c (refused UnknownStep) (moved r c) k refl r.list r.books r.queues x e refl refl refl
+    went-by r sound c (refused UnknownStep) (moved r c) k refl r.list r.books r.queues (Err UnknownStep) refl refl refl refl
 
 -- none of the numbers from 0 to 12
 pub past-twelve : (k : ℕ) → (k ≡ 0 → ⊥) → (k ≡ 1 → ⊥) → (k ≡ 2 → ⊥) → (k ≡ 3 → ⊥) → (k ≡ 4 → ⊥) → (k ≡ 5 → ⊥) → (k ≡ 6 → ⊥) → (k ≡ 7 → ⊥) → (k ≡ 8 → ⊥) → (k ≡ 9 → ⊥) → (k ≡ 10 → ⊥) → (k ≡ 11 → ⊥) → (k ≡ 12 → ⊥) → 12 < k
@@ -157,6 +155,6 @@ past-twelve (suc (suc (suc (suc (suc (suc (suc (suc (suc (suc (suc (suc (suc k))
 
 -- ---- 4
 
-pub unsound-went : (r : Ranges) → ranges_sound r ≡ false → (c : Step) → (x : Reply) → x ≡ replied (Refused RecordsUnsound) no_event → Went r c r x
-unfolding step_reply step_ranges step_result need replied left
-unsound-went r h c x e = record { reply = rw h e; list = rw h; books = rw h; queues = rw h }
+pub unsound-went : (r : Ranges) → ranges_sound r ≡ false → (c : Step) → Went r c r (Err RecordsUnsound)
+unfolding step_reply step_ranges step_result need left
+unsound-went r h c = record { reply = rw h; list = rw h; books = rw h; queues = rw h }

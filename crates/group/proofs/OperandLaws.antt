@@ -1,4 +1,5 @@
 -- A step with a stand-in for an operand that is too large for its sort is the step with the operand itself.
+use Rattle.std.specs.Prelude.{Err}
 use mathlib.Core.Path.{◌≡◌, refl, sym, ◌∙◌}
 use mathlib.Core.Logic.{⊎_elim}
 use mathlib.Core.Bool.{true, false}
@@ -9,7 +10,6 @@ use borrow.Author.Tests.{le-ltb, ltb-true, ltb-false, ne_eqb}
 use lib.Dec.{ltb}
 use Rattle.views.specs.declared.refusal.Refusal.{Refusal}
 use Rattle.views.specs.declared.refusal.Refusal.TheVariants.{NoSuchMember, NoSuchView, SetUnfit}
-use Rattle.views.specs.declared.refusal.Verdict.TheVariants.{Refused}
 use Rattle.views.specs.Sets.{one, fits}
 use Rattle.views.specs.Refusals.{left}
 use Rattle.views.proofs.SetLaws.{known}
@@ -18,8 +18,7 @@ use Rattle.wire.specs.Reader.{views_in}
 use Rattle.wire.proofs.TripViews.{AreBytes, get-fits}
 use Rattle.rules.specs.Data.{Step, refused, need}
 use Rattle.rules.specs.Group.{creates, pick, step_of}
-use Rattle.events.specs.declared.Reply.{Reply}
-use Rattle.events.specs.Replies.{no_event, replied}
+use Rattle.events.specs.Replies.{Reply}
 use Rattle.c_answers.specs.Answers.{narrowed}
 use Rattle.c_answers.proofs.StandIns.{by_width, fits-none, fits-large}
 use Rattle.group_bytes.specs.Groups.{Ranges, members_of, made_of, views_made, place_of, group_in, ranges_sound}
@@ -46,8 +45,8 @@ went-alike r d c c' x y p q h =
 
 module _ (r : Ranges) (sound : ranges_sound r ≡ true) where
   -- a refused step leaves the ranges
-  refused-went : (c : Step) (f : Refusal) → step_of one (group_in r) c ≡ refused f → Went r c r (replied (Refused f) no_event)
-  unfolding replied left
+  refused-went : (c : Step) (f : Refusal) → step_of one (group_in r) c ≡ refused f → Went r c r (Err f)
+  unfolding left
   refused-went c f k = went-by r sound c (refused f) (moved r c) k refl r.list r.books r.queues _ refl refl refl refl
 
   few : members_of r ≤ 8
@@ -74,7 +73,7 @@ module _ (r : Ranges) (sound : ranges_sound r ≡ true) where
   pub by-member : (k p second : ℕ) → k < 11 → (q : ℕ) → q ≡ narrowed 255 p → (d : Ranges) (x : Reply) → Went r (asked (k + 2) q second) d x → Went r (asked (k + 2) p second) d x
   by-member k p second h q e d x w =
       by_width (λ z. Went r (asked (k + 2) z second) d x) 255 p (λ wide.
-      went-alike r d (asked (k + 2) 255 second) (asked (k + 2) p second) x (replied (Refused NoSuchMember) no_event)
+      went-alike r d (asked (k + 2) 255 second) (asked (k + 2) p second) x (Err NoSuchMember)
       (refused-went (asked (k + 2) 255 second) NoSuchMember (past k 255 second h (omega (arith, few))))
       (refused-went (asked (k + 2) p second) NoSuchMember (past k p second h (omega (arith, few)))))
       (rw e at w)
@@ -89,7 +88,7 @@ module _ (r : Ranges) (sound : ranges_sound r ≡ true) where
   pub by-set : (g S T : ℕ) → T ≡ narrowed 0 S → (d : Ranges) (x : Reply) → Went r (asked 1 g T) d x → Went r (asked 1 g S) d x
   by-set g S T e d x w =
       by_width (λ z. Went r (asked 1 g z) d x) 0 S (λ wide.
-      went-alike r d (asked 1 g 0) (asked 1 g S) x (replied (Refused SetUnfit) no_event)
+      went-alike r d (asked 1 g 0) (asked 1 g S) x (Err SetUnfit)
       (refused-went (asked 1 g 0) SetUnfit (unfit g 0 (fits-none (members_of r))))
       (refused-went (asked 1 g S) SetUnfit (unfit g S (fits-large (members_of r) S few wide))))
       (rw e at w)
@@ -106,15 +105,15 @@ module _ (r : Ranges) (bytes : AreBytes r.list) (p g : ℕ) (wide : 4294967296 �
   nowhere : made_of r ≤ place_of g (views_made r)
   nowhere = past-views r.list bytes g wide 0 (made_of r)
 
-  pub join-wide : (x : Reply) → x ≡ replied (Refused f) no_event → Joined r p g r.books x
+  pub join-wide : Joined r p g r.books (Err f)
   unfolding no_view
-  join-wide x e =
+  join-wide =
       ⊎_elim
-      (λ (t : ltb p (members_of r) ≡ true). join-no-view r p g (ltb-true _ _ t) nowhere x (rw (why, t) at e))
-      (λ (t : ltb p (members_of r) ≡ false). join-no-member r p g (ltb-false _ _ t) x (rw (why, t) at e))
+      (λ (t : ltb p (members_of r) ≡ true). let e : f ≡ NoSuchView = rw t at why in rw e (join-no-view r p g (ltb-true _ _ t) nowhere))
+      (λ (t : ltb p (members_of r) ≡ false). let e : f ≡ NoSuchMember = rw t at why in rw e (join-no-member r p g (ltb-false _ _ t)))
       (known (ltb p (members_of r)))
 
-  pub order-wide : Ordered r p g r.queues (Refused f)
+  pub order-wide : Ordered r p g r.queues (Err f)
   unfolding no_view
   order-wide =
       ⊎_elim

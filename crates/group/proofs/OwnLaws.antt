@@ -6,17 +6,14 @@ use Prim.Native.Nat.{ℕ, ◌<◌}
 use borrow.Author.Tests.{ltb-true}
 use lib.Dec.{ltb}
 use Rattle.views.specs.declared.refusal.Refusal.TheVariants.{NoSuchMember}
-use Rattle.views.specs.declared.refusal.Verdict.{Verdict}
-use Rattle.views.specs.declared.refusal.Verdict.TheVariants.{Accepted, Refused}
+use Rattle.views.specs.Refusals.{Verdict, left}
+use Rattle.std.specs.Prelude.{Ok, Err}
 use Rattle.views.specs.Sets.{one}
-use Rattle.views.specs.Refusals.{left}
 use Rattle.rules.specs.Data.{Book as Ruled, Member, Step, Result, need}
 use Rattle.rules.specs.Member.{Done, attempts, registers, sends, hands, tells, safes, collects}
-use Rattle.rules.specs.Sound.{sound}
 use Rattle.rules.specs.Group.{own, pick, step_of}
 use Rattle.book_bytes.specs.Books.{book_in, members_in, own_in_book}
-use Rattle.events.specs.declared.Reply.{Reply}
-use Rattle.events.specs.Replies.{reply_of, verdict_of}
+use Rattle.events.specs.Replies.{Reply, reply_of, verdict_of}
 use Rattle.book_steps.specs.Acts.{few_open, register_bytes, send_bytes, hand_bytes, tell_bytes, safe_bytes, collect_bytes}
 use Rattle.group_bytes.specs.Places.{book_bytes, with_book}
 use Rattle.group_bytes.specs.Groups.{Ranges, ranges, members_of, group_in, ranges_sound}
@@ -36,23 +33,23 @@ use Rattle.group.specs.StepCalls.{asked, Went}
 -- the parts of what is left
 left-list : (v : Verdict) (r m : Ranges) → m.list ≡ r.list → r.list ≡ (left v m r).list
 unfolding left
-left-list Accepted r m e = sym e
-left-list (Refused f) r m e = refl
+left-list (Ok u) r m e = sym e
+left-list (Err f) r m e = refl
 
 left-queues : (v : Verdict) (r m : Ranges) → left v m.queues r.queues ≡ (left v m r).queues
 unfolding left
-left-queues Accepted r m = refl
-left-queues (Refused f) r m = refl
+left-queues (Ok u) r m = refl
+left-queues (Err f) r m = refl
 
 pub left_books : (v : Verdict) (r m : Ranges) → left v m.books r.books ≡ (left v m r).books
 unfolding left
-left_books Accepted r m = refl
-left_books (Refused f) r m = refl
+left_books (Ok u) r m = refl
+left_books (Err f) r m = refl
 
 left-same : (v : Verdict) (r : Ranges) (p : Member) (b : List ℕ) → (r.list ≡ (left v (rebooked r p b) r).list) × (r.queues ≡ (left v (rebooked r p b) r).queues)
 unfolding left
-left-same Accepted r p b = (refl, refl)
-left-same (Refused f) r p b = (refl, refl)
+left-same (Ok u) r p b = (refl, refl)
+left-same (Err f) r p b = (refl, refl)
 
 module _ (r : Ranges) (s : ranges_sound r ≡ true) where
   -- what the members' steps ask of the books

@@ -2,19 +2,17 @@
 -- group that a start leaves stays sound too, and what stays sound does so after a step.
 use mathlib.Core.Path.{◌≡◌, refl, sym, ◌∙◌}
 use mathlib.Core.Bool.{true}
-use mathlib.Core.List.{List, [], ◌∷◌}
+use mathlib.Core.List.{[], ◌∷◌}
 use Prim.Native.Nat.{ℕ, ◌≤◌, ◌<◌}
 use native.Mathlib.Omega.{arith}
 use borrow.Author.Tests.{leb-true, lt-ltb}
 use lib.ListN.{length}
-use Rattle.views.specs.declared.list.Lookup.{Lookup}
-use Rattle.views.specs.declared.list.Lookup.TheVariants.{Found, Missing}
-use Rattle.views.specs.declared.refusal.Verdict.{Verdict}
-use Rattle.views.specs.declared.refusal.Verdict.TheVariants.{Accepted}
+use Rattle.std.specs.Prelude.{Option, Some, None, Ok}
+use Rattle.views.specs.Refusals.{Verdict, left}
 use Rattle.views.specs.Limits.{max_members}
 use Rattle.views.specs.Sets.{one}
+use Rattle.views.specs.declared.View.{View}
 use Rattle.views.specs.Lists.{find_of}
-use Rattle.views.specs.Refusals.{left}
 use Rattle.views.proofs.SetLaws.{both_true}
 use Rattle.views.proofs.ListLaws.{find-in}
 use Rattle.rules.specs.Data.{Identifier, Member, Step, rank}
@@ -31,7 +29,7 @@ use Rattle.group_bytes.specs.Groups.{Ranges, members_of, made_of, views_made, pl
 use Rattle.group_bytes.specs.Starts.{start_ranges}
 use Rattle.group_bytes.specs.Steps.{start_result, step_ranges, last_ranges}
 use Rattle.group_bytes.specs.Places.{books_size, book_bytes}
-use Rattle.group_bytes.specs.Promises.{RangesBytes, Given, AllGiven}
+use Rattle.group_bytes.specs.Promises.{RangesBytes, Given}
 use Rattle.group_bytes.proofs.RangesLaws.{MeansGroup, same-ranges, ranges-says, ranges-from}
 use Rattle.group_bytes.proofs.PlaceLaws.{length-made, place-missing}
 use Rattle.group_bytes.proofs.Tables.{waiting-unmade, order-unmade}
@@ -44,9 +42,9 @@ use Rattle.group.specs.StaysSoundParts.{not_above, none_above, StaysSound}
 past : (r : Ranges) (g : Identifier) → Unmade (views_made r) g → made_of r ≤ place_of g (views_made r)
 past r g none = go (find_of g (views_made r)) refl
   where
-    go : (o : Lookup) → find_of g (views_made r) ≡ o → made_of r ≤ place_of g (views_made r)
-    go (Found v) e = let f = find-in g (views_made r) v e in absurd (none v f.0 f.1)
-    go Missing e = omega (arith, place-missing g (views_made r) e, length-made r)
+    go : (o : Option View) → find_of g (views_made r) ≡ o → made_of r ≤ place_of g (views_made r)
+    go (Some v) e = let f = find-in g (views_made r) v e in absurd (none v f.0 f.1)
+    go None e = omega (arith, place-missing g (views_made r) e, length-made r)
 
 below_at : (r : Ranges) (p : Member) → p < members_of r → not_above (book_bytes r.books p) ≡ true → rank (book_of r p).client.view ≤ rank (book_of r p).carrier.view
 unfolding not_above book_of book_in record_in
@@ -82,10 +80,10 @@ pub stays_after : (d : Ranges) (c : Step) (e : Ranges) → e ≡ step_ranges d c
 unfolding last_ranges
 stays_after d c e same g h l k = rw same (h (c ∷ l) (given-first c l g k))
 
-pub stays-begun : (n S : ℕ) (r b : Ranges) (v : Verdict) → Began r n S b v → v ≡ Accepted → StaysSound b
+pub stays-begun : (n S : ℕ) (r b : Ranges) (v : Verdict) → Began r n S b v → v ≡ Ok tt → StaysSound b
 unfolding left
 stays-begun n S r b v began w l g =
-    let vo : verdict_of (start_result n S r) ≡ Accepted = sym began.verdict ∙ w in
+    let vo : verdict_of (start_result n S r) ≡ Ok tt = sym began.verdict ∙ w in
     let same : b ≡ start_ranges n S r = same-ranges b (start_ranges n S r) (rw vo at began.list) (rw vo at began.books) (rw vo at began.queues) in
     let s = accepts (start_result n S r) vo in
     rw same (never-wedged-ranges n S r s.0 s.1 l g)

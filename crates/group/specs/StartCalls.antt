@@ -1,7 +1,6 @@
 -- What start gives, and what it leaves in the three lent ranges: every byte of them.
 use Rattle.std.specs.Prelude.{◌≡◌, ℕ}
-use Rattle.views.specs.declared.refusal.Verdict.{Verdict}
-use Rattle.views.specs.Refusals.{left}
+use Rattle.views.specs.Refusals.{Verdict, left}
 use Rattle.events.specs.Replies.{verdict_of}
 use Rattle.group_bytes.specs.Groups.{Ranges}
 use Rattle.group_bytes.specs.Starts.{start_ranges}

@@ -1,7 +1,7 @@
 -- What step gives, and what it leaves in the three lent ranges: every byte of them.
 use Rattle.std.specs.Prelude.{◌≡◌, ℕ}
 use Rattle.rules.specs.Data.{Step}
-use Rattle.events.specs.declared.Reply.{Reply}
+use Rattle.events.specs.Replies.{Reply}
 use Rattle.group_bytes.specs.Groups.{Ranges}
 use Rattle.group_bytes.specs.Steps.{step_ranges, step_reply}
 

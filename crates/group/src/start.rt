@@ -45,12 +45,9 @@ fn lay_books(all: &mut [u8], members: u8, first: u8)
     ensures { all.new ≡ start_books members first members all.old }
 {
     wire::writer::clear(all);
-    let mut p = 0;
-    while p < members {
-        let a = book_bytes::SIZE * (p as usize);
-        let e = a + book_bytes::SIZE;
-        book_bytes::fresh::book(&mut all[a..e], members, first, Member(p));
-        p += 1;
+    for p in 0..members {
+        let a = book_bytes::SIZE * p as usize;
+        book_bytes::fresh::book(&mut all[a..a + book_bytes::SIZE], members, first, Member(p));
     }
 }
 
@@ -58,20 +55,11 @@ fn lay_books(all: &mut [u8], members: u8, first: u8)
 fn long(list: usize, all: usize, queues: usize) -> bool
     ensures { result ≡ long_for list all queues }
 {
-    if list % group_bytes::VIEW != 0 {
-        return false;
-    }
-    if all != group_bytes::BOOKS {
+    if list % group_bytes::VIEW != 0 || all != group_bytes::BOOKS {
         return false;
     }
     let room = list / group_bytes::VIEW;
-    if room < 1 {
-        return true;
-    }
-    if limits::VIEWS < room {
-        return true;
-    }
-    queues == group_bytes::HEAD + group_bytes::TABLE * room
+    !(1..=limits::VIEWS).contains(&room) || queues == group_bytes::HEAD + group_bytes::TABLE * room
 }
 
 // The verdict of a start.
@@ -80,29 +68,29 @@ fn startable(list: &[u8], all: &[u8], queues: &[u8], members: u8, first: u8) -> 
         (start_result members first (ranges list.now all.now queues.now)) }
 {
     if !long(list.len(), all.len(), queues.len()) {
-        return Verdict::Refused(Refusal::RecordsUnsound);
+        return Err(Refusal::RecordsUnsound);
     }
     if members < 1 {
-        return Verdict::Refused(Refusal::MembersOutOfRange);
+        return Err(Refusal::MembersOutOfRange);
     }
     if limits::MEMBERS < members {
-        return Verdict::Refused(Refusal::MembersOutOfRange);
+        return Err(Refusal::MembersOutOfRange);
     }
     let view = View {
         id: ViewId(0),
         set: first,
     };
     if !book_sound::views_at::set_fits(members, view) {
-        return Verdict::Refused(Refusal::FirstSetUnfit);
+        return Err(Refusal::FirstSetUnfit);
     }
     let room = list.len() / group_bytes::VIEW;
     if room < 1 {
-        return Verdict::Refused(Refusal::ListLength);
+        return Err(Refusal::ListLength);
     }
     if limits::VIEWS < room {
-        return Verdict::Refused(Refusal::ListLength);
+        return Err(Refusal::ListLength);
     }
-    Verdict::Accepted
+    Ok(())
 }
 
 // A group of so many members with a first view begins.
@@ -110,14 +98,9 @@ pub fn start(list: &mut [u8], all: &mut [u8], queues: &mut [u8], members: u8, fi
     ensures { Began (ranges list.old all.old queues.old) members first
         (ranges list.new all.new queues.new) result }
 {
-    let v = startable(list, all, queues, members, first);
-    match v {
-        Verdict::Refused(r) => Verdict::Refused(r),
-        Verdict::Accepted => {
-            lay_list(list, first);
-            lay_books(all, members, first);
-            lay_queues(queues);
-            Verdict::Accepted
-        }
-    }
+    startable(list, all, queues, members, first)?;
+    lay_list(list, first);
+    lay_books(all, members, first);
+    lay_queues(queues);
+    Ok(())
 }

@@ -14,13 +14,7 @@ use book_bytes::Seat;
 fn not_above(client: Seat, carrier: Seat) -> bool
     ensures { result ≡ leb (rank (seated client)) (rank (seated carrier)) }
 {
-    if client.there {
-        if carrier.there {
-            return client.view.id.0 <= carrier.view.id.0;
-        }
-        return false;
-    }
-    true
+    !client.there || carrier.there && client.view.id.0 <= carrier.view.id.0
 }
 
 // The client view of a book is not above its carrier view.
@@ -38,15 +32,9 @@ pub fn none_above(books: &[u8]) -> bool
     requires { (length books.now ≡ books_size) × (get_or books.now members_at 0 ≤ max_members) }
     ensures { result ≡ none_above books.now }
 {
-    let n = books[book_bytes::MEMBERS];
-    let mut p = 0;
-    while p < n {
-        let a = book_bytes::SIZE * (p as usize);
-        let e = a + book_bytes::SIZE;
-        if !book_not_above(&books[a..e]) {
-            return false;
-        }
-        p += 1;
-    }
-    true
+    let n = books[book_bytes::MEMBERS] as usize;
+    books
+        .chunks_exact(book_bytes::SIZE)
+        .take(n)
+        .all(book_not_above)
 }

@@ -1,8 +1,8 @@
 // Step: 4 for unsound ranges, then the step of a kind's number. Its operands may be any numbers; here they become
 // members, identifiers and sets, and beneath this file none of the three is a bare number.
-ghost use Rattle.std.specs.Prelude.{◌≡◌, true, ◌<◌, length, get_or};
+ghost use Rattle.std.specs.Prelude.{◌≡◌, true, ◌<◌, length, get_or, None};
 ghost use Rattle.book_bytes.specs.Places.{members_at};
-ghost use Rattle.events.specs.Replies.{no_event, replied};
+ghost use Rattle.events.specs.Replies.{replied};
 ghost use Rattle.c_answers.specs.Answers.{narrowed};
 ghost use Rattle.group_bytes.specs.Groups.{ranges, ranges_sound};
 ghost use Rattle.group_steps.specs.CarrierParts.{Ordered};
@@ -36,10 +36,7 @@ fn member(x: u32) -> Member
 fn set(x: u64) -> u8
     ensures { result ≡ narrowed 0 x }
 {
-    if BYTES <= x {
-        return NO_SET;
-    }
-    (x % BYTES) as u8
+    if BYTES <= x { NO_SET } else { x as u8 }
 }
 
 // The refusal of an identifier that no view has: 6, then 10.
@@ -48,9 +45,10 @@ fn no_view(all: &[u8], p: Member) -> Refusal
     ensures { result ≡ no_view p.0 (get_or all.now members_at 0) }
 {
     if all[book_bytes::MEMBERS] <= p.0 {
-        return Refusal::NoSuchMember;
+        Refusal::NoSuchMember
+    } else {
+        Refusal::NoSuchView
     }
-    Refusal::NoSuchView
 }
 
 // Join, with any number for the identifier.
@@ -60,8 +58,7 @@ fn join(list: &[u8], all: &mut [u8], queues: &[u8], p: Member, x: u64) -> Reply
         all.new result }
 {
     if IDENTIFIERS <= x {
-        let why = no_view(all, p);
-        return events::refuse(why);
+        return Err(no_view(all, p));
     }
     carrier_view::join(list, all, queues, p, ViewId(x as u32))
 }
@@ -73,23 +70,17 @@ fn order(list: &[u8], all: &[u8], queues: &mut [u8], p: Member, x: u64) -> Verdi
         queues.new result }
 {
     if IDENTIFIERS <= x {
-        let why = no_view(all, p);
-        return Verdict::Refused(why);
+        return Err(no_view(all, p));
     }
     messages::order::order(list, all, queues, p, ViewId(x as u32))
 }
 
 // The reply of a step that has no event.
 pub fn plain(v: Verdict) -> Reply
-    ensures { result ≡ replied v no_event }
+    ensures { result ≡ replied v None }
 {
-    match v {
-        Verdict::Refused(r) => events::refuse(r),
-        Verdict::Accepted => Reply {
-            verdict: Verdict::Accepted,
-            event: events::no_event(),
-        },
-    }
+    v?;
+    Ok(None)
 }
 
 // The step of a kind's number on a sound group; 5 for any other number.
@@ -125,7 +116,7 @@ fn dispatch(
         kinds::TELL => client_view::tell(all, p),
         kinds::SAFE => client_view::safe(all, p),
         kinds::COLLECT => carrier_view::collect(all, p),
-        0 | 13..=255 => events::refuse(Refusal::UnknownStep),
+        0 | 13..=255 => Err(Refusal::UnknownStep),
     }
 }
 
@@ -142,7 +133,7 @@ pub fn step(
         (asked kind first second) (ranges list.new all.new queues.new) result }
 {
     if !group_sound::sound(list, all, queues) {
-        return events::refuse(Refusal::RecordsUnsound);
+        return Err(Refusal::RecordsUnsound);
     }
     dispatch(list, all, queues, kind, first, second)
 }

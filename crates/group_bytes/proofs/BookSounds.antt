@@ -1,7 +1,7 @@
 -- In a sound group every member's book is a sound book of the member by itself: so what is proved of a book's steps holds of a group's books.
 use mathlib.Core.Path.{◌≡◌, refl}
 use mathlib.Core.Bool.{Bool, true, not}
-use mathlib.Core.Option.{Option, none, some}
+use Rattle.std.specs.Prelude.{Option, None, Some}
 use Prim.Native.Nat.{ℕ, ◌≤◌, ◌<◌}
 use native.Mathlib.Omega.{arith}
 use borrow.Author.Tests.{le-leb, lt-ltb}
@@ -32,13 +32,13 @@ module _ (s : Group) (h : Sound s) where
   made-fits v i = both-from (not (is_empty v.set)) (not (is_beyond v.set s.members)) (rw (h.fits v i).0) (rw (h.fits v i).1)
 
   -- no order is longer than 128
-  taken-within : (o : Option View) (k : ℕ) → ((v : View) → o ≡ some v → In v s.views) → k ≤ length (order_at s o) → k ≤ limit_if o max_ordered
-  taken-within none k f l = l
-  taken-within (some v) k f l = omega (arith, l, (h.ordered v (f v refl)).short)
+  taken-within : (o : Option View) (k : ℕ) → ((v : View) → o ≡ Some v → In v s.views) → k ≤ length (order_at s o) → k ≤ limit_if o max_ordered
+  taken-within None k f l = l
+  taken-within (Some v) k f l = omega (arith, l, (h.ordered v (f v refl)).short)
 
-  fits-if : (o : Option View) → ((v : View) → o ≡ some v → In v s.views) → set_fits_if s.members o ≡ true
-  fits-if none f = refl
-  fits-if (some v) f = made-fits v (f v refl)
+  fits-if : (o : Option View) → ((v : View) → o ≡ Some v → In v s.views) → set_fits_if s.members o ≡ true
+  fits-if None f = refl
+  fits-if (Some v) f = made-fits v (f v refl)
 
   carried-fits : (e : Entry) → EntryTests s.members (Listed s.views) e → sets_fit s.members e ≡ true
   carried-fits (entry q m) t = all_from (set_fits s.members) (views_of m) (λ v i. made-fits v (t.known v i))

@@ -3,7 +3,7 @@
 use mathlib.Core.Path.{◌≡◌, refl, sym, ap, ◌∙◌}
 use mathlib.Core.Logic.{◌⊎◌, ⊎_elim}
 use mathlib.Core.Bool.{Bool, true, false, cond}
-use mathlib.Core.Option.{none, some}
+use Rattle.std.specs.Prelude.{None, Some, Ok}
 use mathlib.Core.List.{List, ◌∷◌}
 use Prim.Native.Nat.{ℕ, suc, ◌+◌, ◌^◌, ◌≤◌, ◌<◌}
 use native.Mathlib.Omega.{arith}
@@ -11,12 +11,11 @@ use borrow.Author.Tests.{ltb-true}
 use lib.ListN.{length, get_or}
 use Rattle.views.specs.declared.View.{View}
 use Rattle.views.specs.declared.refusal.Refusal.TheVariants.{RecordsUnsound}
-use Rattle.views.specs.declared.refusal.Verdict.TheVariants.{Accepted}
 use Rattle.views.specs.Limits.{max_members}
 use Rattle.views.specs.Lists.{id_of}
 use Rattle.views.specs.Members.{In}
 use Rattle.views.specs.Sets.{one}
-use Rattle.views.specs.Refusals.{left}
+use Rattle.views.specs.Refusals.{left, verdict_given}
 use Rattle.views.proofs.Members.{in-cons}
 use Rattle.views.proofs.VerdictLaws.{never}
 use Rattle.rules.specs.Data.{Member, Group, Step, Book, Result, refused, accepted, need, rank}
@@ -75,7 +74,7 @@ pub record Beside (r d : Ranges) (i : ℕ) : Type 0 where
   pub queues : Within r.queues d.queues i
 
 -- a book that has a carrier view
-carried-by : (t : Bool) (w : View) (g : ℕ) → t ≡ true → rank (cond t (some w) none) ≡ suc g → id_of w ≡ g
+carried-by : (t : Bool) (w : View) (g : ℕ) → t ≡ true → rank (cond t (Some w) None) ≡ suc g → id_of w ≡ g
 carried-by true w g e h = omega (arith, h)
 carried-by false w g e h = let z : ◌≡◌ {A = ℕ} 0 1 = cc in absurd (omega arith)
 
@@ -163,16 +162,16 @@ record Stepped (r : Ranges) (c : Step) : Type 0 where
   sounds : sound (group_in r) ≡ true
   leaves : step_ranges r c ≡ moved r c
 
-accepted-left : (x : Result Next) (m r : Ranges) → (next_reply x).verdict ≡ Accepted → left (verdict_of x) m r ≡ m
+accepted-left : (x : Result Next) (m r : Ranges) → verdict_given (next_reply x) ≡ Ok tt → left (verdict_of x) m r ≡ m
 unfolding left
 accepted-left (refused f) m r h = absurd (never f h)
 accepted-left (accepted y) m r h = refl
 
-stepped : (r : Ranges) → Ranged r → (c : Step) → (step_reply r c).verdict ≡ Accepted → Stepped r c
+stepped : (r : Ranges) → Ranged r → (c : Step) → verdict_given (step_reply r c) ≡ Ok tt → Stepped r c
 unfolding step_reply step_ranges step_result ranges_sound need
 stepped r fits c h = go (sound (group_in r)) refl (step_of one (group_in r) c) refl (rw (ranges-from r fits) at h)
   where
-    go : (t : Bool) → sound (group_in r) ≡ t → (x : Result Next) → step_of one (group_in r) c ≡ x → (next_reply (need t RecordsUnsound x)).verdict ≡ Accepted → Stepped r c
+    go : (t : Bool) → sound (group_in r) ≡ t → (x : Result Next) → step_of one (group_in r) c ≡ x → verdict_given (next_reply (need t RecordsUnsound x)) ≡ Ok tt → Stepped r c
     go true s (accepted y) e k = record { next = y; given_by = e; sounds = s; leaves = accepted-left (step_result r c) (moved r c) r h }
     go true s (refused f) e k = absurd (never f k)
     go false s x e k = absurd (never RecordsUnsound k)
@@ -207,7 +206,7 @@ module _ {r : Ranges} {g i : ℕ} (place : place_of g (views_made r) ≡ i) {L :
       ap (λ (y : Group). y.views) m.group ∙ (gave (step_of one (group_in d) c) x.next (views-stay one (group_in d) c h) x.given_by).0 ∙ s.views
 
   -- a step of another kind by one of them
-  pub serves_on : (kind : ℕ) → Served kind → In p L → (step_reply d (asks kind p g)).verdict ≡ Accepted → Serves r g i L (step_ranges d (asks kind p g))
+  pub serves_on : (kind : ℕ) → Served kind → In p L → verdict_given (step_reply d (asks kind p g)) ≡ Ok tt → Serves r g i L (step_ranges d (asks kind p g))
   serves_on kind k in-L h =
       let c = asks kind p g in
       let x = stepped d s.fits c h in
@@ -223,7 +222,7 @@ module _ {r : Ranges} {g i : ℕ} (place : place_of g (views_made r) ≡ i) {L :
       }
 
   -- a join: one server more
-  pub serves-joined : (step_reply d (asks 2 p g)).verdict ≡ Accepted → Serves r g i (p ∷ L) (step_ranges d (asks 2 p g))
+  pub serves-joined : verdict_given (step_reply d (asks 2 p g)) ≡ Ok tt → Serves r g i (p ∷ L) (step_ranges d (asks 2 p g))
   serves-joined h =
       let c = asks 2 p g in
       let x = stepped d s.fits c h in

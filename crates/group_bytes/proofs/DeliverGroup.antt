@@ -2,7 +2,7 @@
 use mathlib.Core.Path.{◌≡◌, refl, sym, ap, ◌∙◌}
 use mathlib.Core.Logic.{⊎_elim}
 use mathlib.Core.Bool.{Bool, true, false, cond}
-use mathlib.Core.Option.{some}
+use Rattle.std.specs.Prelude.{Some}
 use mathlib.Core.List.{List, [], ◌∷◌}
 use Prim.Native.Nat.{ℕ, ◌≤◌, ◌<◌}
 use native.Mathlib.Omega.{arith}
@@ -59,9 +59,9 @@ module _ (s : Group) (h : Sound s) where
 
 -- ---- the next entry
 
-seat-there : (x : Seat) (v : View) → seated x ≡ some v → (x.there ≡ true) × (x.view ≡ v)
+seat-there : (x : Seat) (v : View) → seated x ≡ Some v → (x.there ≡ true) × (x.view ≡ v)
 seat-there x v e =
-    ⊎_elim (λ (t : x.there ≡ true). let k : some x.view ≡ some v = rw t at e in (t, cc))
+    ⊎_elim (λ (t : x.there ≡ true). let k : Some x.view ≡ Some v = rw t at e in (t, cc))
     (λ (t : x.there ≡ false). let k = rw t at e in let z : ◌≡◌ {A = ℕ} 0 1 = cc in absurd (omega arith))
     (known x.there)
 
@@ -112,7 +112,7 @@ module _ (r : Ranges) (fits : Ranged r) (bytes : RangesBytes r) (sounds : sound 
   m = order_message r.queues (order_of r p) (taken_of r p)
 
   -- the carrier view and the position, as the bytes have them
-  carrier-in : (v : View) → B.carrier.view ≡ some v → (get_or b carrier_at 0 ≡ 1) × ((record_in b).carrier.view ≡ v)
+  carrier-in : (v : View) → B.carrier.view ≡ Some v → (get_or b carrier_at 0 ≡ 1) × ((record_in b).carrier.view ≡ v)
   unfolding book_in record_in
   carrier-in v c =
       let t = seat-there (record_in b).carrier v (sym (ap (λ (C : Book). C.carrier.view) (book-is r fits p member)) ∙ c) in
@@ -127,7 +127,7 @@ module _ (r : Ranges) (fits : Ranged r) (bytes : RangesBytes r) (sounds : sound 
     inside : taken_of r p < get_or r.queues (order_of r p) 0
     entry : e ≡ entry q m
 
-  next-entry : (v : View) (e : Entry) (rest : List Entry) → B.carrier.view ≡ some v → drop B.carrier.taken ((group_in r).order (id_of v)) ≡ e ∷ rest
+  next-entry : (v : View) (e : Entry) (rest : List Entry) → B.carrier.view ≡ Some v → drop B.carrier.taken ((group_in r).order (id_of v)) ≡ e ∷ rest
       → IsNext e
   unfolding group_in order_in
   next-entry v e rest c d =
@@ -136,7 +136,7 @@ module _ (r : Ranges) (fits : Ranged r) (bytes : RangesBytes r) (sounds : sound 
       let f = entry_next r.queues (order_of r p) (taken_of r p) (ltb i (made_of r)) e rest g in
       record { made = ltb-true _ _ f.0; inside = f.1; entry = f.2 }
 
-  next-takes : (v : View) (e : Entry) (rest : List Entry) → B.carrier.view ≡ some v → drop B.carrier.taken ((group_in r).order (id_of v)) ≡ e ∷ rest
+  next-takes : (v : View) (e : Entry) (rest : List Entry) → B.carrier.view ≡ Some v → drop B.carrier.taken ((group_in r).order (id_of v)) ≡ e ∷ rest
       → Takes r p q m
   unfolding group_in
   next-takes v e rest c d =

@@ -5,7 +5,7 @@ use Prim.Native.Nat.{ℕ}
 use native.Mathlib.Omega.{arith}
 use Rattle.views.specs.declared.refusal.Refusal.{Refusal}
 use Rattle.views.specs.declared.refusal.Refusal.TheVariants.{RecordsUnsound}
-use Rattle.views.specs.declared.refusal.Verdict.TheVariants.{Accepted, Refused}
+use Rattle.std.specs.Prelude.{Ok, Err}
 use Rattle.views.specs.Sets.{one}
 use Rattle.views.specs.Refusals.{left}
 use Rattle.rules.specs.Data.{Group, Step, Answer, ok, event, refusal, Result, refused, accepted, need}
@@ -40,7 +40,7 @@ short n S r e = rw e
 -- ---- the reply
 
 -- no accepted step answers with a refusal
-said : (a : Answer) → Says a → record { verdict = Accepted; event = event_of a } ≡ answer_reply a
+said : (a : Answer) → Says a → Ok (event_of a) ≡ answer_reply a
 said ok h = refl
 said (event e) h = refl
 said (refusal f) h = absurd h
@@ -56,12 +56,12 @@ step-reply r e c =
 
 -- ---- a refusal
 
-kept : (x : Result Next) (m r : Ranges) (f : Refusal) → (next_reply x).verdict ≡ Refused f → left (verdict_of x) m r ≡ r
+kept : (x : Result Next) (m r : Ranges) (f : Refusal) → next_reply x ≡ Err f → left (verdict_of x) m r ≡ r
 unfolding left
 kept (refused g) m r f e = refl
 kept (accepted y) m r f e = let z : ◌≡◌ {A = ℕ} 0 1 = cc in absurd (omega arith)
 
-pub step-refused : (r : Ranges) (c : Step) (f : Refusal) → (step_reply r c).verdict ≡ Refused f → step_ranges r c ≡ r
+pub step-refused : (r : Ranges) (c : Step) (f : Refusal) → step_reply r c ≡ Err f → step_ranges r c ≡ r
 unfolding step_reply step_ranges
 step-refused r c f e = kept (step_result r c) (moved r c) r f e
 

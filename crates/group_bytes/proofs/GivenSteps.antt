@@ -11,7 +11,7 @@ use Rattle.rules.specs.Data.{Member, Step}
 use Rattle.rules.specs.Forming.{servers_of, by_each, exchange_steps, round_steps, form_steps}
 use Rattle.rules.proofs.Forming.Servers.{servers-say}
 use Rattle.rules.proofs.Forming.Each.{asks, every_append, each-every, exchange-every}
-use Rattle.events.specs.declared.Reply.{Reply}
+use Rattle.events.specs.Replies.{Reply}
 use Rattle.group_bytes.specs.Groups.{Ranges}
 use Rattle.group_bytes.specs.Steps.{step_ranges, step_reply, last_ranges, replies_of}
 use Rattle.group_bytes.specs.Promises.{Given, AllGiven}

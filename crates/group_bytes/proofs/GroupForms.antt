@@ -7,11 +7,10 @@ use Prim.Native.Nat.{◌^◌, ◌<◌}
 use native.Mathlib.Omega.{arith}
 use Rattle.views.specs.declared.refusal.Refusal.{Refusal}
 use Rattle.views.specs.declared.refusal.Refusal.TheVariants.{RecordsUnsound}
-use Rattle.views.specs.declared.refusal.Verdict.{Verdict}
-use Rattle.views.specs.declared.refusal.Verdict.TheVariants.{Accepted, Refused}
+use Rattle.views.specs.Refusals.{Verdict, and_then, left}
+use Rattle.std.specs.Prelude.{Ok, Err}
 use Rattle.views.specs.Sets.{both, one}
 use Rattle.views.specs.Lists.{find_of}
-use Rattle.views.specs.Refusals.{and_then, left}
 use Rattle.views.proofs.Members.{top, pop}
 use Rattle.views.proofs.ListLaws.{find-in}
 use Rattle.views.proofs.VerdictLaws.{never}
@@ -22,7 +21,7 @@ use Rattle.rules.specs.Runs.{last_of, answers_of}
 use Rattle.rules.specs.Forming.{is_newest, none_joined, passes_held, form_of, all_accepted, Forms}
 use Rattle.rules.proofs.Forming.{driver-forms}
 use Rattle.rules.proofs.Holding.{Holds, gives, need-holds, listed-holds}
-use Rattle.events.specs.declared.Reply.{Reply}
+use Rattle.events.specs.Replies.{Reply}
 use Rattle.book_steps.proofs.Means.{gave}
 use Rattle.group_bytes.specs.Places.{room_of}
 use Rattle.group_bytes.specs.Groups.{Ranges, group_in, ranges_sound}
@@ -45,28 +44,28 @@ unfolding last_ranges left
 taken-leaves r l = by (first_refusal (replies_of r l))
   where
     by : (v : Verdict) → last_ranges r (left v l []) ≡ left v (last_ranges r l) r
-    by Accepted = refl
-    by (Refused f) = refl
+    by (Ok u) = refl
+    by (Err f) = refl
 
 -- an accepted call takes all that it sets out to take
-pub form-accepted : (r : Ranges) (g : Identifier) → form_verdict r g ≡ Accepted → form_result r g ≡ accepted (form_taken r g)
+pub form-accepted : (r : Ranges) (g : Identifier) → form_verdict r g ≡ Ok tt → form_result r g ≡ accepted (form_taken r g)
 unfolding form_verdict form_taken left
 form-accepted r g e = by (form_result r g) e
   where
-    by : (x : Result (List Step)) → verdict_by r x ≡ Accepted → x ≡ accepted (taken_by r x)
+    by : (x : Result (List Step)) → verdict_by r x ≡ Ok tt → x ≡ accepted (taken_by r x)
     by (refused f) e = absurd (never f e)
     by (accepted l) e = rw e
 
 -- a refused one takes none, and leaves every byte as it was
-pub refused_none : (r : Ranges) (g : Identifier) (f : Refusal) → form_verdict r g ≡ Refused f → form_taken r g ≡ []
+pub refused_none : (r : Ranges) (g : Identifier) (f : Refusal) → form_verdict r g ≡ Err f → form_taken r g ≡ []
 unfolding form_verdict form_taken left
 refused_none r g f e = by (form_result r g) e
   where
-    by : (x : Result (List Step)) → verdict_by r x ≡ Refused f → taken_by r x ≡ []
+    by : (x : Result (List Step)) → verdict_by r x ≡ Err f → taken_by r x ≡ []
     by (refused h) e = refl
     by (accepted l) e = rw e
 
-pub form-refused : (r : Ranges) (g : Identifier) (f : Refusal) → form_verdict r g ≡ Refused f → last_ranges r (form_taken r g) ≡ r
+pub form-refused : (r : Ranges) (g : Identifier) (f : Refusal) → form_verdict r g ≡ Err f → last_ranges r (form_taken r g) ≡ r
 unfolding last_ranges
 form-refused r g f e = ap (last_ranges r) (refused_none r g f e)
 
@@ -98,8 +97,8 @@ unfolding form_taken left
 taken-given r g w = by (form_result r g) (result-holds r g w)
   where
     taken : (v : Verdict) (l : List Step) → AllGiven l → AllGiven (left v l [])
-    taken Accepted l h = h
-    taken (Refused f) l h = none-given
+    taken (Ok u) l h = h
+    taken (Err f) l h = none-given
 
     by : (x : Result (List Step)) → Holds (Sets (group_in r) g w) x → AllGiven (taken_by r x)
     by (refused f) h = none-given
@@ -142,13 +141,13 @@ tail-accepted ok l t = t
 tail-accepted (event e) l t = t
 tail-accepted (refusal f) l t = absurd (true≢false (sym t))
 
-next-accepted : (x : Result Next) (s : Group) (l : List Answer) (k : List Reply) → (all_accepted l ≡ true → first_refusal k ≡ Accepted)
-    → all_accepted ((settles s x).answer ∷ l) ≡ true → first_refusal (next_reply x ∷ k) ≡ Accepted
+next-accepted : (x : Result Next) (s : Group) (l : List Answer) (k : List Reply) → (all_accepted l ≡ true → first_refusal k ≡ Ok tt)
+    → all_accepted ((settles s x).answer ∷ l) ≡ true → first_refusal (next_reply x ∷ k) ≡ Ok tt
 unfolding all_accepted first_refusal and_then
 next-accepted (refused f) s l k h t = absurd (true≢false (sym t))
 next-accepted (accepted y) s l k h t = h (tail-accepted y.answer l t)
 
-rules-accept : (s : Group) (l : List Step) → all_accepted (answers_of one s l) ≡ true → first_refusal (rule_replies s l) ≡ Accepted
+rules-accept : (s : Group) (l : List Step) → all_accepted (answers_of one s l) ≡ true → first_refusal (rule_replies s l) ≡ Ok tt
 unfolding rule_replies answers_of first_refusal step
 rules-accept s [] t = refl
 rules-accept s (c ∷ l) t =
@@ -157,14 +156,14 @@ rules-accept s (c ∷ l) t =
 
 -- ranges reply with no refusal to steps that their group accepts
 pub accepted-all : (r : Ranges) (s : Group) → MeansGroup r s → (l : List Step) → AllGiven l → all_accepted (answers_of one s l) ≡ true
-    → first_refusal (replies_of r l) ≡ Accepted
+    → first_refusal (replies_of r l) ≡ Ok tt
 accepted-all r s m l w t = rw (means-replies r s m l w) (rules-accept s l t)
 
 pub forms-view : (r : Ranges) (s : Group) → MeansGroup r s → (g : Identifier) (l : List Step) → AllGiven l → form_result r g ≡ accepted l → Forms one s g l
     → FormsView r g
 unfolding form_verdict form_taken left group_in
 forms-view r s m g l w e f =
-    let a : first_refusal (replies_of r l) ≡ Accepted = accepted-all r s m l w f.accepts in
+    let a : first_refusal (replies_of r l) ≡ Ok tt = accepted-all r s m l w f.accepts in
     let t : form_taken r g ≡ l = rw (e, a) in
     let (h, n) = runs r s m l w in
     record {

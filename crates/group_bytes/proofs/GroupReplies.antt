@@ -8,7 +8,7 @@ use Rattle.views.proofs.Members.{top, pop}
 use Rattle.rules.specs.Data.{Group, Step, need}
 use Rattle.rules.specs.Sound.{sound}
 use Rattle.rules.specs.Group.{started, step_of, step}
-use Rattle.events.specs.declared.Reply.{Reply}
+use Rattle.events.specs.Replies.{Reply}
 use Rattle.group_bytes.specs.Places.{room_of}
 use Rattle.group_bytes.specs.Groups.{Ranges, ranges_sound}
 use Rattle.group_bytes.specs.Answers.{next_reply}

@@ -42,14 +42,14 @@ answer-events (refusal f) l k e = e
 
 -- of a result
 result-shown : (x : Result Next) (s : Group) (l : List Answer) (k : List (Outward ℕ)) → k ≡ events_of l
-    → shown_by (next_reply x).verdict (next_reply x).event ++ k ≡ events_of ((settles s x).answer ∷ l)
+    → shown_by (next_reply x) ++ k ≡ events_of ((settles s x).answer ∷ l)
 unfolding events_of
 result-shown (refused f) s l k e = e
 result-shown (accepted y) s l k e = ap (λ (z : List (Outward ℕ)). z ++ k) (answer-shown y.answer) ∙ answer-events y.answer l k e
 
 -- of a step
 step-events : (r : Ranges) (s : Group) → MeansGroup r s → (c : Step) (l : List Answer) (k : List (Outward ℕ)) → k ≡ events_of l
-    → shown_by (step_reply r c).verdict (step_reply r c).event ++ k ≡ events_of ((step one s c).answer ∷ l)
+    → shown_by (step_reply r c) ++ k ≡ events_of ((step one s c).answer ∷ l)
 unfolding step_reply step_result step ranges_sound
 step-events r s m c l k e =
     rw (ranges-from r m.fits, m.group) (result-shown (need (sound s) RecordsUnsound (step_of one s c)) s l k e)

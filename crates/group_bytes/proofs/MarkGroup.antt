@@ -3,14 +3,14 @@ use mathlib.Core.Path.{◌≡◌, refl, sym, ap, ◌∙◌, fun_ext}
 use mathlib.Core.Bool.{true}
 use mathlib.Core.Logic.{inr}
 use mathlib.Core.List.{List}
-use Prim.Native.Nat.{ℕ, ◌+◌, ◌^◌, ◌≤◌, ◌<◌}
+use Prim.Native.Nat.{ℕ, ◌^◌, ◌≤◌, ◌<◌}
 use native.Mathlib.Omega.{arith}
 use lib.Pow.{pow_mono}
-use lib.ListN.{length, get_or}
-use Rattle.numbers.specs.Number.{get, put}
+use lib.ListN.{get_or}
+use Rattle.numbers.specs.Number.{get}
 use Rattle.numbers.proofs.NumberLaws.{get-put-same}
 use Rattle.views.specs.declared.View.{View}
-use Rattle.views.specs.Limits.{max_members, max_views, max_waiting}
+use Rattle.views.specs.Limits.{max_views, max_waiting}
 use Rattle.views.specs.Lists.{id_of}
 use Rattle.views.specs.Sets.{with_member}
 use Rattle.views.proofs.WithMemberLaws.{with-below}
@@ -20,15 +20,13 @@ use Rattle.rules.specs.Sound.{sound}
 use Rattle.rules.specs.Group.{booked}
 use Rattle.rules.proofs.Sound.{sound-says}
 use Rattle.rules.proofs.Holding.{Holds, gives, need-holds, view-holds}
-use Rattle.slots.specs.Slots.{slot_size}
-use Rattle.slots.specs.Columns.{order_size}
 use Rattle.slots.proofs.Outside.{Changed, Apart, put-changed}
 use Rattle.slots.proofs.BytesKept.{put-bytes}
 use Rattle.book_bytes.specs.Records.{record_in}
 use Rattle.book_bytes.specs.Books.{book_in}
 use Rattle.book_steps.specs.Acts.{attempt_bytes}
 use Rattle.book_steps.proofs.Means.{gave}
-use Rattle.group_bytes.specs.Places.{book_bytes, made_at, marks_at, marks_size, layout_at, head_size, order_at, waiting_at, waiting_size}
+use Rattle.group_bytes.specs.Places.{book_bytes, made_at, marks_at, marks_size, layout_at, head_size, order_at, waiting_at}
 use Rattle.group_bytes.specs.Groups.{Ranges, members_of, made_of, marks_of, views_made, place_of, waiting_in, order_in, book_of, group_in}
 use Rattle.group_bytes.specs.Moves.{rebooked, marked, attempt_ranges}
 use Rattle.group_bytes.proofs.RangesLaws.{RangesBytes, Ranged, MeansGroup}

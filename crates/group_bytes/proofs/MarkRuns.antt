@@ -1,9 +1,9 @@
 -- The marks in the ranges agree with the replies: an attempt marks the view that it names, and no other step changes a mark.
 use mathlib.Core.Path.{◌≡◌, refl, sym, ap, ◌∙◌, fun_ext}
-use mathlib.Core.Logic.{◌≢◌, inl, ⊎_elim}
+use mathlib.Core.Logic.{inl, ⊎_elim}
 use mathlib.Core.Bool.{Bool, true, false}
 use mathlib.Core.List.{List, [], ◌∷◌}
-use Prim.Native.Nat.{ℕ, ◌+◌, ◌≤◌, ◌<◌}
+use Prim.Native.Nat.{ℕ, ◌≤◌, ◌<◌}
 use native.Mathlib.Omega.{arith}
 use borrow.Author.Tests.{eqb-true, eqb-false, ltb-true, eq-eqb, ne_eqb}
 use lib.Dec.{eqb, ltb}
@@ -13,12 +13,12 @@ use Rattle.views.specs.declared.refusal.Refusal.{Refusal}
 use Rattle.views.specs.declared.refusal.Refusal.TheVariants.{RecordsUnsound}
 use Rattle.views.specs.Lists.{id_of}
 use Rattle.views.specs.Points.{at}
-use Rattle.views.specs.Sets.{one, has, with_member}
+use Rattle.views.specs.Sets.{one, has}
 use Rattle.views.specs.Refusals.{left}
 use Rattle.views.proofs.SetLaws.{known}
 use Rattle.views.proofs.WithMemberLaws.{one-noted}
 use Rattle.views.proofs.Members.{top, pop}
-use Rattle.rules.specs.Data.{Member, Identifier, Group, Step, Event, attempt, register, send, hand, safe, Answer, ok, event, refusal}
+use Rattle.rules.specs.Data.{Member, Identifier, Group, Step, attempt, register, send, hand, safe, Answer, ok, event, refusal}
 use Rattle.rules.specs.Data.{Result, refused, accepted, need, after}
 use Rattle.rules.specs.Member.{Done, joins, passing, attempts, registers, sends, hands, tells, safes, collects}
 use Rattle.rules.specs.Sound.{sound}
@@ -26,15 +26,15 @@ use Rattle.rules.specs.Group.{Next, first_view, own, creates, join_step, pass_st
 use Rattle.rules.specs.Runs.{last_of, answers_of, events_of}
 use Rattle.rules.specs.Crossing.{Marks, first_marks, marks_after}
 use Rattle.rules.proofs.Crossing.{marks-told, newest-told}
-use Rattle.rules.proofs.Holding.{Holds, refuses, gives, given, need-holds, view-holds, first_holds, after_holds, then-holds, listed-holds}
+use Rattle.rules.proofs.Holding.{Holds, refuses, gives, need-holds, view-holds, first_holds, after_holds, then-holds, listed-holds}
 use Rattle.events.specs.Replies.{verdict_of}
 use Rattle.events.specs.Shown.{events_shown}
 use Rattle.slots.proofs.Outside.{Changed, get-apart}
 use Rattle.group_bytes.specs.Places.{room_of, book_bytes, made_at, marks_at, marks_size, head_size}
-use Rattle.group_bytes.specs.Groups.{Ranges, members_of, made_of, views_made, place_of, marks_of, marks_in, group_in, ranges_fit, ranges_sound}
-use Rattle.group_bytes.specs.Moves.{rebooked, join_ranges, pass_ranges, order_ranges, deliver_ranges, marked, attempt_ranges}
+use Rattle.group_bytes.specs.Groups.{Ranges, members_of, made_of, views_made, place_of, marks_of, marks_in, group_in, ranges_sound}
+use Rattle.group_bytes.specs.Moves.{join_ranges, pass_ranges, order_ranges, deliver_ranges, marked, attempt_ranges}
 use Rattle.group_bytes.specs.Starts.{start_ranges}
-use Rattle.group_bytes.specs.Steps.{start_result, step_result, moved, step_ranges, step_reply, last_ranges, replies_of}
+use Rattle.group_bytes.specs.Steps.{start_result, step_result, moved, step_ranges, last_ranges, replies_of}
 use Rattle.group_bytes.specs.Promises.{Given, AllGiven}
 use Rattle.group_bytes.specs.Crossing.{picked_in, newest_in, StepMarks, CrossedRanges, NewestRanges}
 use Rattle.group_bytes.proofs.RangesLaws.{RangesBytes, Ranged, MeansGroup, ranges-says, ranges-from}
@@ -42,7 +42,7 @@ use Rattle.group_bytes.proofs.PlaceLaws.{length-made, place-one}
 use Rattle.group_bytes.proofs.MarkGroup.{mark-changed, mark-more, attempt-at}
 use Rattle.group_bytes.proofs.CreateGroup.{create-marks}
 use Rattle.group_bytes.proofs.StartGroup.{views-are, marks-one}
-use Rattle.group_bytes.proofs.StepGroup.{EachLeaves, none, next, pick-leaves, step-means}
+use Rattle.group_bytes.proofs.StepGroup.{none, next, pick-leaves, step-means}
 use Rattle.group_bytes.proofs.GroupRuns.{runs, start-says, begun}
 use Rattle.group_bytes.proofs.GivenSteps.{one-given}
 use Rattle.group_bytes.proofs.PassGroup as P

@@ -8,14 +8,14 @@ use borrow.Author.Tests.{ltb-true}
 use lib.Dec.{ltb}
 use lib.ListN.{length, get_or, drop}
 use Rattle.views.specs.declared.View.{View}
-use Rattle.views.specs.declared.list.Lookup.TheVariants.{Found}
+use Rattle.std.specs.Prelude.{Some}
 use Rattle.views.specs.Limits.{max_waiting, max_ordered}
 use Rattle.views.specs.Lists.{find_of}
 use Rattle.views.proofs.ListLaws.{find-in}
 use Rattle.views.proofs.Members.{top}
 use Rattle.wire.specs.Format.{told_kind}
 use Rattle.wire.proofs.TripViews.{AreBytes}
-use Rattle.rules.specs.Data.{Message, Entry, entry, Group, accepted}
+use Rattle.rules.specs.Data.{Message, Entry, Group, accepted}
 use Rattle.rules.specs.Sound.{sound}
 use Rattle.rules.specs.Group.{Next, order_step}
 use Rattle.rules.proofs.Sound.{EntrySound, sound-says}
@@ -148,7 +148,7 @@ module _ (r : Ranges) (fits : Ranged r) (bytes : RangesBytes r) (p : ℕ) (membe
 
 module _ (r : Ranges) (fits : Ranged r) where
   -- what waits is sound
-  first-sound : sound (group_in r) ≡ true → (p g : ℕ) → p < members_of r → (v : View) → find_of g (views_made r) ≡ Found v
+  first-sound : sound (group_in r) ≡ true → (p g : ℕ) → p < members_of r → (v : View) → find_of g (views_made r) ≡ Some v
       → (e : Entry) (rest : List Entry) → waiting_in r p g ≡ e ∷ rest → EntrySound (group_in r) e
   unfolding group_in
   first-sound sounds p g member v found e rest d =

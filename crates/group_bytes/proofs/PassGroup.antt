@@ -2,7 +2,7 @@
 -- the group is asked of the caller: it is a law of the books.
 use mathlib.Core.Path.{◌≡◌, refl, sym, ap, ◌∙◌}
 use mathlib.Core.Bool.{Bool, true, false, cond}
-use mathlib.Core.Option.{none, some}
+use Rattle.std.specs.Prelude.{None, Some}
 use mathlib.Core.List.{List, [], ◌∷◌, ◌++◌}
 use Prim.Native.Nat.{ℕ, ◌+◌, ◌*◌, ◌≤◌, ◌<◌}
 use native.Mathlib.Omega.{arith}
@@ -60,7 +60,7 @@ pub record PassingOn (r : Ranges) (p : Member) (b : List ℕ) (i : ℕ) : Type 0
   pub book : book_at p + book_size ≤ length r.books
 
 -- a seat that is taken
-pub seat-some : (t : Bool) (w v : View) → cond t (some w) none ≡ some v → (t ≡ true) × (w ≡ v)
+pub seat-some : (t : Bool) (w v : View) → cond t (Some w) None ≡ Some v → (t ≡ true) × (w ≡ v)
 seat-some true w v e = (refl, cc)
 seat-some false w v e = let z : ◌≡◌ {A = ℕ} 0 1 = cc in absurd (omega arith)
 

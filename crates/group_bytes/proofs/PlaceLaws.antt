@@ -9,8 +9,7 @@ use borrow.Author.Tests.{eqb-true, eqb-false, eq-eqb, ne_eqb}
 use lib.Dec.{eqb}
 use lib.ListN.{length, get_or}
 use Rattle.views.specs.declared.View.{View}
-use Rattle.views.specs.declared.list.Lookup.{Lookup}
-use Rattle.views.specs.declared.list.Lookup.TheVariants.{Found, Missing}
+use Rattle.std.specs.Prelude.{Option, Some, None}
 use Rattle.views.specs.Lists.{id_of, find_of, no_view}
 use Rattle.views.proofs.SetLaws.{known}
 use Rattle.views.proofs.Members.{In, in-nil, in-cons}
@@ -36,28 +35,28 @@ pub place-one : (g h : ℕ) (l : List View) → place_of g l < length l → plac
 place-one g h l i e =
     sym (place-id h l (rw e i)) ∙ ap (λ (k : ℕ). id_of (get_or l k no_view)) e ∙ place-id g l i
 
-pub place_found : (g : ℕ) (l : List View) (v : View) → find_of g l ≡ Found v → (place_of g l < length l) × (get_or l (place_of g l) no_view ≡ v) × (id_of v ≡ g)
+pub place_found : (g : ℕ) (l : List View) (v : View) → find_of g l ≡ Some v → (place_of g l < length l) × (get_or l (place_of g l) no_view ≡ v) × (id_of v ≡ g)
 unfolding place_of find_of
 place_found g [] v h = let z : ◌≡◌ {A = ℕ} 0 1 = cc in absurd (omega arith)
 place_found g (x ∷ l) v h =
     ⊎_elim
     (λ (e : eqb (id_of x) g ≡ true).
-    let f : ◌≡◌ {A = Lookup} (Found x) (Found v) = rw e at h in
+    let f : ◌≡◌ {A = (Option View)} (Some x) (Some v) = rw e at h in
     let k : x ≡ v = cc in
     rw e (omega arith, k, sym (ap id_of k) ∙ eqb-true (id_of x) g e))
     (λ (e : eqb (id_of x) g ≡ false).
-    let f : find_of g l ≡ Found v = rw e at h in
+    let f : find_of g l ≡ Some v = rw e at h in
     let (i, j, k) = place_found g l v f in
     rw e (omega arith, j, k))
     (known (eqb (id_of x) g))
 
-pub place-missing : (g : ℕ) (l : List View) → find_of g l ≡ Missing → place_of g l ≡ length l
+pub place-missing : (g : ℕ) (l : List View) → find_of g l ≡ None → place_of g l ≡ length l
 unfolding place_of find_of
 place-missing g [] h = refl
 place-missing g (x ∷ l) h =
     ⊎_elim
-    (λ (e : eqb (id_of x) g ≡ true). let f : ◌≡◌ {A = Lookup} (Found x) Missing = rw e at h in let z : ◌≡◌ {A = ℕ} 0 1 = cc in absurd (omega arith))
-    (λ (e : eqb (id_of x) g ≡ false). let f : find_of g l ≡ Missing = rw e at h in rw e (ap suc (place-missing g l f)))
+    (λ (e : eqb (id_of x) g ≡ true). let f : ◌≡◌ {A = (Option View)} (Some x) None = rw e at h in let z : ◌≡◌ {A = ℕ} 0 1 = cc in absurd (omega arith))
+    (λ (e : eqb (id_of x) g ≡ false). let f : find_of g l ≡ None = rw e at h in rw e (ap suc (place-missing g l f)))
     (known (eqb (id_of x) g))
 
 pub place_in : (v : View) (l : List View) → In v l → place_of (id_of v) l < length l

@@ -10,7 +10,7 @@ use borrow.Author.Tests.{ltb-true}
 use lib.Dec.{ltb}
 use lib.ListN.{length, get_or, set, replicate, length-set, length-replicate}
 use lib.Seq.{get_or-set_same, get_or-set_other}
-use Rattle.numbers.specs.Number.{get, put}
+use Rattle.numbers.specs.Number.{put}
 use Rattle.numbers.proofs.NumberLaws.{length-put, put-below, put-past, get-put-same}
 use Rattle.views.specs.declared.View.{View}
 use Rattle.views.specs.Limits.{max_members, max_views, max_waiting}

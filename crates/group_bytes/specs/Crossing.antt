@@ -1,7 +1,6 @@
 -- What the marks in the ranges tell: each step marks what its reply says was attempted. So after an accepted start and
 -- any steps, the marked views are the views attempted by the replies.
-use Rattle.std.specs.Prelude.{◌≡◌, Bool, true, List, [], ◌∷◌, ℕ}
-use Rattle.std.proofs.Math.Option.{Option}
+use Rattle.std.specs.Prelude.{◌≡◌, Bool, true, List, [], ◌∷◌, ℕ, Option}
 use Rattle.views.specs.declared.View.{View}
 use Rattle.rules.specs.Data.{Identifier, Group, Step, accepted}
 use Rattle.rules.specs.Crossing.{marks_after, picked, newest_before, Crossed, NewestBefore}

@@ -1,20 +1,17 @@
 -- The driver put to the three ranges: what one call gives and leaves. Then calls of both sorts, steps and the driver,
 -- mixed in any order, and what is promised of them.
-use Rattle.std.specs.Prelude.{◌≡◌, true, List, [], ◌∷◌, ◌++◌, ℕ, ◌^◌, ◌<◌, T, length}
+use Rattle.std.specs.Prelude.{◌≡◌, true, List, [], ◌∷◌, ◌++◌, ℕ, ◌^◌, ◌<◌, T, length, Ok, Err, Some}
 use Rattle.views.specs.declared.View.{View}
-use Rattle.views.specs.declared.list.Lookup.TheVariants.{Found}
 use Rattle.views.specs.declared.refusal.Refusal.{Refusal}
 use Rattle.views.specs.declared.refusal.Refusal.TheVariants.{RecordsUnsound}
-use Rattle.views.specs.declared.refusal.Verdict.{Verdict}
-use Rattle.views.specs.declared.refusal.Verdict.TheVariants.{Accepted, Refused}
+use Rattle.views.specs.Refusals.{Verdict, and_then, left}
 use Rattle.views.specs.Members.{In}
 use Rattle.views.specs.Sets.{one, has, size}
 use Rattle.views.specs.Lists.{find_of}
-use Rattle.views.specs.Refusals.{and_then, left}
 use Rattle.rules.specs.Data.{Identifier, Member, Group, Step, Result, refused, accepted, need}
 use Rattle.rules.specs.Promise.{Promised}
 use Rattle.rules.specs.Forming.{form_events, form_of, form_count}
-use Rattle.events.specs.declared.Reply.{Reply}
+use Rattle.events.specs.Replies.{Reply}
 use Rattle.events.specs.Shown.{events_shown}
 use Rattle.group_bytes.specs.Groups.{Ranges, views_made, book_of, group_in, ranges_sound}
 use Rattle.group_bytes.specs.Starts.{start_ranges}
@@ -25,15 +22,15 @@ use Rattle.group_bytes.specs.Promises.{Given}
 
 -- the first refusal among replies, accepted if there is none
 unfoldable pub first_refusal : List Reply → Verdict
-first_refusal [] = Accepted
-first_refusal (x ∷ l) = and_then x.verdict (first_refusal l)
+first_refusal [] = Ok tt
+first_refusal (x ∷ l) = and_then x (first_refusal l)
 
 -- the steps that it sets out to take
 unfoldable pub form_result : Ranges → Identifier → Result (List Step)
 form_result r g = need (ranges_sound r) RecordsUnsound (form_of one (group_in r) g)
 
 abbrev pub verdict_by : Ranges → Result (List Step) → Verdict
-verdict_by r (refused f) = Refused f
+verdict_by r (refused f) = Err f
 verdict_by r (accepted l) = first_refusal (replies_of r l)
 
 unfoldable pub form_verdict : Ranges → Identifier → Verdict
@@ -49,8 +46,8 @@ form_taken r g = taken_by r (form_result r g)
 
 -- all or none, whatever the ranges are: an accepted call takes all its steps, a refused one leaves every byte as it was
 pub record AllOrNone : Type 0 where
-  pub all : (r : Ranges) (g : Identifier) → form_verdict r g ≡ Accepted → form_result r g ≡ accepted (form_taken r g)
-  pub none : (r : Ranges) (g : Identifier) (f : Refusal) → form_verdict r g ≡ Refused f
+  pub all : (r : Ranges) (g : Identifier) → form_verdict r g ≡ Ok tt → form_result r g ≡ accepted (form_taken r g)
+  pub none : (r : Ranges) (g : Identifier) (f : Refusal) → form_verdict r g ≡ Err f
       → last_ranges r (form_taken r g) ≡ r
 
 -- ---- calls, each on the ranges that those before it leave
@@ -86,8 +83,8 @@ AllCallsGiven calls = (x : Call) → In x calls → CallGiven x
 -- a driver's call with the identifier g forms the view: it is settled, and nothing is open at its servers
 pub record FormsView (r : Ranges) (g : Identifier) : Type 0 where
   pub view : View
-  pub listed : find_of g (views_made r) ≡ Found view
-  pub accepts : form_verdict r g ≡ Accepted
+  pub listed : find_of g (views_made r) ≡ Some view
+  pub accepts : form_verdict r g ≡ Ok tt
   pub count : length (form_taken r g) ≡ form_count (size view.set)
   pub events : events_shown (replies_of r (form_taken r g)) ≡ form_events view
   pub settled : (p : Member) → T (has view.set p)

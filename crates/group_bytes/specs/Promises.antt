@@ -1,9 +1,8 @@
 -- Demands 2 and 3 of what the code does to the lent ranges: a start and each step are the rules', on ranges of any
 -- content; and for every start that was accepted and every list of steps the events are promised.
-use Rattle.std.specs.Prelude.{◌≡◌, true, false, List, ℕ, ◌^◌, ◌<◌}
+use Rattle.std.specs.Prelude.{◌≡◌, true, false, List, ℕ, ◌^◌, ◌<◌, Err}
 use Rattle.views.specs.declared.refusal.Refusal.{Refusal}
 use Rattle.views.specs.declared.refusal.Refusal.TheVariants.{RecordsUnsound}
-use Rattle.views.specs.declared.refusal.Verdict.TheVariants.{Refused}
 use Rattle.views.specs.Members.{In}
 use Rattle.views.specs.Sets.{one}
 use Rattle.wire.specs.Widths.{AreBytes}
@@ -56,7 +55,7 @@ pub record Demand2 : Type 0 where
   pub step-group : (r : Ranges) → ranges_fit r ≡ true → RangesBytes r → (c : Step) → Given c
       → AreGroup (step_ranges r c) (step one (group_in r) c).state
   -- whatever the ranges are, a refused step leaves every byte as it was
-  pub step-refused : (r : Ranges) (c : Step) (f : Refusal) → (step_reply r c).verdict ≡ Refused f → step_ranges r c ≡ r
+  pub step-refused : (r : Ranges) (c : Step) (f : Refusal) → step_reply r c ≡ Err f → step_ranges r c ≡ r
 
 -- ---- demand 3, and that no list of steps leads to ranges that 4 refuses
 

@@ -8,8 +8,7 @@ use Rattle.views.specs.Refusals.{left}
 use Rattle.rules.specs.Data.{Step, Group, Result, need}
 use Rattle.rules.specs.Sound.{within, conditions}
 use Rattle.rules.specs.Group.{Next, start, step_of}
-use Rattle.events.specs.declared.Reply.{Reply}
-use Rattle.events.specs.Replies.{verdict_of}
+use Rattle.events.specs.Replies.{Reply, verdict_of}
 use Rattle.book_steps.specs.Acts.{register_bytes, send_bytes, hand_bytes, tell_bytes, safe_bytes, collect_bytes}
 use Rattle.group_bytes.specs.Places.{room_of, books_size, book_bytes, queues_size}
 use Rattle.group_bytes.specs.Groups.{Ranges, group_in, ranges_sound}

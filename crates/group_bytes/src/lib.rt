@@ -42,10 +42,8 @@ pub fn place(list: &[u8], n: u8, id: ViewId) -> u8
     requires { (view_size * n ≤ length list.now) × (is_rising (views_in list.now 0 n) ≡ true) }
     ensures { result ≡ place_of id.0 (views_in list.now 0 n) }
 {
-    let g = id.0 as usize;
-    let mut i = if g < n as usize { g + 1 } else { n as usize };
-    while 0 < i {
-        i -= 1;
+    let end = (id.0 as usize + 1).min(n as usize);
+    for i in (0..end).rev() {
         if numbers::get_number(list, VIEW * i, sizes::IDENTIFIER) == id.0 as u64 {
             return i as u8;
         }

@@ -6,8 +6,8 @@ use mathlib.Core.List.{List, [], ◌∷◌, ◌++◌}
 use Prim.Native.Nat.{ℕ, zero, suc, ◌+◌, ◌-◌, ◌*◌, ◌≤◌, ◌<◌}
 use native.Mathlib.Omega.{arith}
 use lib.ListN.{length, get_or}
+use Rattle.std.proofs.Common.{add-one}
 use Rattle.numbers.specs.Number.{get, put}
-use Rattle.numbers.proofs.NumberLaws.{length-put}
 use Rattle.views.specs.declared.View.{View}
 use Rattle.views.specs.Sets.{both, has}
 use Rattle.views.specs.Lists.{id_of, no_view}
@@ -79,59 +79,46 @@ module _ (r : Ranges) (s : ranges_sound r ≡ true) where
       below-newest r.list (λ v. both (marks_in r (id_of v)) (is_wanted hold T v)) _ (made_of r)
       (λ i h. ap (λ (b : Bool). both b (is_wanted hold T (view_in r.list (view_size * i)))) (mark-at i h))
 
--- ---- turns of the loops, downwards
+-- ---- turns of the loops
 
 module _ (list : List ℕ) (t : ℕ → Bool) where
-  ids-turn : (i : ℕ) → 0 < i → ids_below list t i ≡ cond (t (i - 1)) (get list (view_size * (i - 1)) identifier_size ∷ ids_below list t (i - 1)) (ids_below list t (i - 1))
-  unfolding ids_below
-  ids-turn zero h = absurd (omega arith)
-  ids-turn (suc i) h = let e : suc i - 1 ≡ i = omega arith in rw e
-
   pub few-below : (n : ℕ) → length (ids_below list t n) ≤ n
   unfolding ids_below
   few-below zero = omega arith
   few-below (suc n) = ⊎_elim (λ (e : t n ≡ true). rw e (omega (arith, few-below n))) (λ (e : t n ≡ false). rw e (omega (arith, few-below n))) (known (t n))
 
-  length-turn : (b : Bool) (g : ℕ) (l : List ℕ) → length (cond b (g ∷ l) l) ≡ cond b 1 0 + length l
-  length-turn true g l = omega arith
-  length-turn false g l = omega arith
+  pub count_few : (i k : ℕ) → k ≡ length (ids_below list t i) → k ≤ i
+  count_few i k e = omega (arith, few-below i, e)
 
-  four : (b : Bool) → cond b identifier_size 0 ≡ identifier_size * cond b 1 0
-  four true = refl
-  four false = refl
-
-  turned : (i : ℕ) → 0 < i → length (ids_below list t i) ≡ cond (t (i - 1)) 1 0 + length (ids_below list t (i - 1))
-  turned i h = ap length (ids-turn i h) ∙ length-turn (t (i - 1)) _ (ids_below list t (i - 1))
-
-  pub count_turn : (i k m : ℕ) → 0 < i → k + length (ids_below list t i) ≡ m → k + cond (t (i - 1)) 1 0 + length (ids_below list t (i - 1)) ≡ m
-  count_turn i k m h e = omega (arith, turned i h, e)
-
-  pub none_below : (i : ℕ) → i ≡ 0 → length (ids_below list t i) ≡ 0
+  -- upwards
+  pub ids-more : (i : ℕ) → t i ≡ true → ids_below list t (i + 1) ≡ get list (view_size * i) identifier_size ∷ ids_below list t i
   unfolding ids_below
-  none_below i e = rw e
+  ids-more i e = rw (add-one i, e)
 
-  pub room-turn : (i at m : ℕ) → 0 < i → at + identifier_size * length (ids_below list t i) ≤ m → at + cond (t (i - 1)) identifier_size 0 ≤ m
-  room-turn i at m h e = omega (arith, turned i h, four (t (i - 1)), e)
+  pub ids-same : (i : ℕ) → t i ≡ false → ids_below list t (i + 1) ≡ ids_below list t i
+  unfolding ids_below
+  ids-same i e = rw (add-one i, e)
 
-  pub room_next : (i at m : ℕ) → 0 < i → at + identifier_size * length (ids_below list t i) ≤ m
-      → at + cond (t (i - 1)) identifier_size 0 + identifier_size * length (ids_below list t (i - 1)) ≤ m
-  room_next i at m h e = omega (arith, turned i h, four (t (i - 1)), e)
+  -- downwards
+  pub ids_first : (i : ℕ) → 0 < i → t (i - 1) ≡ true → ids_below list t i ≡ get list (view_size * (i - 1)) identifier_size ∷ ids_below list t (i - 1)
+  unfolding ids_below
+  ids_first zero h e = absurd (omega arith)
+  ids_first (suc i) h e = let k : suc i - 1 ≡ i = omega arith in let f : t i ≡ true = rw k at e in rw (k, f)
 
-  store_by : (b : Bool) (out : List ℕ) (at g : ℕ) (l z : List ℕ) → store_ids out at (cond b (g ∷ l) l) ≡ z
-      → store_ids (cond b (put out at identifier_size g) out) (at + cond b identifier_size 0) l ≡ z
+  pub ids_on : (i : ℕ) → 0 < i → t (i - 1) ≡ false → ids_below list t i ≡ ids_below list t (i - 1)
+  unfolding ids_below
+  ids_on zero h e = absurd (omega arith)
+  ids_on (suc i) h e = let k : suc i - 1 ≡ i = omega arith in let f : t i ≡ false = rw k at e in rw (k, f)
+
+  pub room_here : (i at m : ℕ) → 0 < i → t (i - 1) ≡ true → at + identifier_size * length (ids_below list t i) ≤ m
+      → at + identifier_size + identifier_size * length (ids_below list t (i - 1)) ≤ m
+  room_here i at m h e r = omega (arith, ap length (ids_first i h e), r)
+
+  pub store_turn : (i at : ℕ) (out z : List ℕ) → 0 < i → t (i - 1) ≡ true → store_ids out at (ids_below list t i) ≡ z
+      → store_ids (put out at identifier_size (get list (view_size * (i - 1)) identifier_size)) (at + identifier_size) (ids_below list t (i - 1)) ≡ z
   unfolding store_ids
-  store_by true out at g l z e = e
-  store_by false out at g l z e = let a : at + 0 ≡ at = omega arith in rw a e
+  store_turn i at out z h e s = rw (ids_first i h e) at s
 
-  pub store-turn : (i at : ℕ) (out z : List ℕ) → 0 < i → store_ids out at (ids_below list t i) ≡ z
-      → store_ids (cond (t (i - 1)) (put out at identifier_size (get list (view_size * (i - 1)) identifier_size)) out) (at + cond (t (i - 1)) identifier_size 0) (ids_below list t (i - 1)) ≡ z
-  store-turn i at out z h e =
-      store_by (t (i - 1)) out at _ (ids_below list t (i - 1)) z (ap (store_ids out at) (sym (ids-turn i h)) ∙ e)
-
-  pub store-end : (i at : ℕ) (out : List ℕ) → i ≡ 0 → store_ids out at (ids_below list t i) ≡ out
+  pub store_end : (at : ℕ) (out : List ℕ) → store_ids out at (ids_below list t 0) ≡ out
   unfolding ids_below store_ids
-  store-end i at out e = rw e
-
-pub put-length : (b : Bool) (out : List ℕ) (at g : ℕ) → length (cond b (put out at identifier_size g) out) ≡ length out
-put-length true out at g = length-put out at identifier_size g
-put-length false out at g = refl
+  store_end at out = refl

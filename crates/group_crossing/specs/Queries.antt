@@ -1,22 +1,18 @@
 -- The queries on the three ranges: what they give, and what is left in the lent buffer, every byte of it.
-use Rattle.std.specs.Prelude.{◌≡◌, Bool, cond, List, [], ◌∷◌, ℕ, ◌+◌, ◌*◌, ◌%◌, eqb, leb, length}
-use Rattle.std.proofs.Math.Option.{Option, none, some}
+use Rattle.std.specs.Prelude.{Result as Given}
+use Rattle.views.specs.declared.refusal.Refusal.{Refusal}
+use Rattle.std.specs.Prelude.{◌≡◌, Bool, cond, List, [], ◌∷◌, ℕ, ◌+◌, ◌*◌, ◌%◌, eqb, leb, length, Ok}
 use Rattle.numbers.specs.Number.{put}
 use Rattle.views.specs.declared.View.{View}
-use Rattle.views.specs.declared.list.Lookup.{Lookup}
-use Rattle.views.specs.declared.list.Lookup.TheVariants.{Found, Missing}
 use Rattle.views.specs.declared.refusal.Refusal.TheVariants.{RecordsUnsound, SetUnfit, TooFewPlaces}
-use Rattle.views.specs.declared.refusal.Verdict.{Verdict}
-use Rattle.views.specs.declared.refusal.Verdict.TheVariants.{Accepted}
+use Rattle.views.specs.Refusals.{Verdict, require, and_then, left}
 use Rattle.views.specs.Sizes.{identifier_size}
 use Rattle.views.specs.Sets.{one, fits}
 use Rattle.views.specs.Lists.{id_of}
-use Rattle.views.specs.Refusals.{require, left}
 use Rattle.rules.specs.Data.{Identifier}
 use Rattle.rules.specs.Crossing.{shares, holds}
 use Rattle.group_bytes.specs.Groups.{Ranges, members_of, ranges_sound}
 use Rattle.group_bytes.specs.Crossing.{picked_in}
-use Rattle.group_crossing.specs.declared.Counted.{Counted}
 
 -- the test of a query: the set T holds a majority of the view, or shares a member with it
 abbrev pub is_wanted : Bool → ℕ → View → Bool
@@ -35,11 +31,6 @@ unfoldable pub store_ids : List ℕ → ℕ → List Identifier → List ℕ
 store_ids b at [] = b
 store_ids b at (g ∷ l) = store_ids (put b at identifier_size g) (at + identifier_size) l
 
--- a view that may be missing
-abbrev pub lookup_of : Option View → Lookup
-lookup_of none = Missing
-lookup_of (some v) = Found v
-
 -- ---- the two queries that fill a buffer
 
 -- 4 for a buffer not of whole identifiers, 4 for ranges that are not a sound group, 7, 46
@@ -48,10 +39,9 @@ query_verdict r hold T o =
     require (eqb (length o % identifier_size) 0) RecordsUnsound (
     require (ranges_sound r) RecordsUnsound (
     require (fits (members_of r) T) SetUnfit (
-    require (leb (identifier_size * length (found_in r hold T)) (length o)) TooFewPlaces Accepted)))
+    require (leb (identifier_size * length (found_in r hold T)) (length o)) TooFewPlaces (Ok tt))))
 
 -- the answer x, and the buffer o' left of o
-pub record Answered (r : Ranges) (hold : Bool) (T : ℕ) (o o' : List ℕ) (x : Counted) : Type 0 where
-  pub verdict : x.verdict ≡ query_verdict r hold T o
-  pub count : x.count ≡ left (query_verdict r hold T o) (length (found_in r hold T)) 0
+pub record Answered (r : Ranges) (hold : Bool) (T : ℕ) (o o' : List ℕ) (x : Given ℕ Refusal) : Type 0 where
+  pub reply : x ≡ and_then (query_verdict r hold T o) (Ok (length (found_in r hold T)))
   pub buffer : o' ≡ left (query_verdict r hold T o) (store_ids o 0 (found_in r hold T)) o

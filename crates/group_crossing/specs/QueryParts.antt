@@ -1,8 +1,7 @@
 -- The parts in which the code finds the views: place by place of the list, from the last view made down.
-use Rattle.std.specs.Prelude.{Bool, cond, List, [], ◌∷◌, ℕ, zero, suc, ◌*◌, ltb}
+use Rattle.std.specs.Prelude.{Bool, cond, List, [], ◌∷◌, ℕ, zero, suc, ◌*◌, ltb, Option, Some, None}
 use Rattle.numbers.specs.Number.{get}
-use Rattle.views.specs.declared.list.Lookup.{Lookup}
-use Rattle.views.specs.declared.list.Lookup.TheVariants.{Found, Missing}
+use Rattle.views.specs.declared.View.{View}
 use Rattle.views.specs.Sizes.{view_size, identifier_size}
 use Rattle.views.specs.Sets.{both, has}
 use Rattle.views.specs.Lists.{id_of}
@@ -29,6 +28,6 @@ unfoldable pub earlier_at : List ℕ → ℕ → Identifier → ℕ → Bool
 earlier_at list marks g i = both (has marks i) (ltb (id_of (view_in list (view_size * i))) g)
 
 -- the last view at the places below n that the test picks
-unfoldable pub last_below : List ℕ → (ℕ → Bool) → ℕ → Lookup
-last_below list t zero = Missing
-last_below list t (suc n) = cond (t n) (Found (view_in list (view_size * n))) (last_below list t n)
+unfoldable pub last_below : List ℕ → (ℕ → Bool) → ℕ → Option View
+last_below list t zero = None
+last_below list t (suc n) = cond (t n) (Some (view_in list (view_size * n))) (last_below list t n)

@@ -8,28 +8,23 @@ ghost use Rattle.views.specs.Limits.{max_views};
 ghost use Rattle.views.specs.Sizes.{view_size, identifier_size};
 ghost use Rattle.group_bytes.specs.Groups.{ranges, ranges_sound};
 ghost use Rattle.group_bytes.specs.Crossing.{newest_in};
-ghost use Rattle.group_crossing.specs.Queries.{is_wanted, store_ids, lookup_of, Answered};
+ghost use Rattle.group_crossing.specs.Queries.{is_wanted, store_ids, Answered};
 ghost use Rattle.group_crossing.specs.QueryParts.{pick_at, ids_below, earlier_at, last_below};
 
-use views::list::Lookup;
-use views::refusal::{Refusal, Verdict};
+use views::refusal::Refusal;
 use views::{View, ViewId, sizes};
+use wire::reader;
 
-// What a query gives: the verdict, and the number of views found.
-#[derive(Clone, Copy)]
-pub struct Counted {
-    pub verdict: Verdict,
-    pub count: usize,
-}
-
-// The set holds a majority of the view, or shares a member with it.
+// The set holds a majority of the view, or shares a member with it. The flag comes down to this one test, since a test
+// that is passed as a closure needs a contract at each function that it goes through, which names the flag again.
 fn wanted(hold: bool, set: u8, v: View) -> bool
     ensures { result ≡ is_wanted hold set v }
 {
     if hold {
-        return sets::majority(set, v.set);
+        sets::majority(set, v.set)
+    } else {
+        !sets::empty(sets::common(set, v.set))
     }
-    !sets::empty(sets::common(set, v.set))
 }
 
 // The view at a place is marked, and the test picks it.
@@ -37,25 +32,7 @@ fn picks(list: &[u8], marks: u64, hold: bool, set: u8, i: usize) -> bool
     requires { (view_size * i + view_size ≤ length list.now) × (i < max_views) }
     ensures { result ≡ pick_at list.now marks hold set i }
 {
-    if (marks >> i) % 2 != 1 {
-        return false;
-    }
-    wanted(
-        hold,
-        set,
-        wire::reader::load_view(list, group_bytes::VIEW * i),
-    )
-}
-
-// 1 for a view that is picked.
-fn one(list: &[u8], marks: u64, hold: bool, set: u8, i: usize) -> usize
-    requires { (view_size * i + view_size ≤ length list.now) × (i < max_views) }
-    ensures { result ≡ cond (pick_at list.now marks hold set i) 1 0 }
-{
-    if picks(list, marks, hold, set, i) {
-        return 1;
-    }
-    0
+    (marks >> i) % 2 == 1 && wanted(hold, set, reader::load_view(list, group_bytes::VIEW * i))
 }
 
 // How many of the first n views of the list are picked.
@@ -65,29 +42,12 @@ fn count(list: &[u8], marks: u64, hold: bool, set: u8, n: usize) -> usize
         ≡ length (ids_below list.now (pick_at list.now marks hold set) n) }
 {
     let mut k = 0;
-    let mut i = n;
-    while 0 < i {
-        i -= 1;
-        k += one(list, marks, hold, set, i);
+    for i in 0..n {
+        if picks(list, marks, hold, set, i) {
+            k += 1;
+        }
     }
     k
-}
-
-// Stores the identifier of a view that is picked at a place, and returns the next place.
-fn put(list: &[u8], marks: u64, hold: bool, set: u8, i: usize, out: &mut [u8], at: usize) -> usize
-    requires { (view_size * i + view_size ≤ length list.now) × (i < max_views)
-        × (at + cond (pick_at list.now marks hold set i) identifier_size 0 ≤ length out.old) }
-    ensures { (result ≡ at + cond (pick_at list.now marks hold set i) identifier_size 0)
-        × (out.new ≡ cond (pick_at list.now marks hold set i)
-        (put out.old at identifier_size (get list.now (view_size * i) identifier_size))
-        out.old) }
-{
-    if picks(list, marks, hold, set, i) {
-        let id = numbers::get_number(list, group_bytes::VIEW * i, sizes::IDENTIFIER);
-        numbers::put_number(out, at, sizes::IDENTIFIER, id);
-        return at + sizes::IDENTIFIER;
-    }
-    at
 }
 
 // Stores the identifiers of the views picked among the first n of the list, the last first.
@@ -98,20 +58,12 @@ fn lay(list: &[u8], marks: u64, hold: bool, set: u8, n: usize, out: &mut [u8])
         (ids_below list.now (pick_at list.now marks hold set) n) }
 {
     let mut at = 0;
-    let mut i = n;
-    while 0 < i {
-        i -= 1;
-        at = put(list, marks, hold, set, i, out, at);
-    }
-}
-
-// A refusal alone.
-fn refuse(r: Refusal) -> Counted
-    ensures { result ≡ record { verdict = Verdict.Refused r; count = 0 } }
-{
-    Counted {
-        verdict: Verdict::Refused(r),
-        count: 0,
+    for i in (0..n).rev() {
+        if picks(list, marks, hold, set, i) {
+            let id = numbers::get_number(list, group_bytes::VIEW * i, sizes::IDENTIFIER);
+            numbers::put_number(out, at, sizes::IDENTIFIER, id);
+            at += sizes::IDENTIFIER;
+        }
     }
 }
 
@@ -125,30 +77,27 @@ pub fn query(
     hold: bool,
     set: u8,
     out: &mut [u8],
-) -> Counted
+) -> Result<usize, Refusal>
     ensures { Answered (ranges list.now books.now queues.now) hold set
         out.old out.new result }
 {
     if out.len() % sizes::IDENTIFIER != 0 {
-        return refuse(Refusal::RecordsUnsound);
+        return Err(Refusal::RecordsUnsound);
     }
     if !group_sound::sound(list, books, queues) {
-        return refuse(Refusal::RecordsUnsound);
+        return Err(Refusal::RecordsUnsound);
     }
     if !sets::fits(books[book_bytes::MEMBERS], set) {
-        return refuse(Refusal::SetUnfit);
+        return Err(Refusal::SetUnfit);
     }
     let n = queues[group_bytes::MADE] as usize;
     let marks = numbers::get_number(queues, group_bytes::MARKS, group_bytes::MARKS_SIZE);
     let k = count(list, marks, hold, set, n);
     if out.len() < sizes::IDENTIFIER * k {
-        return refuse(Refusal::TooFewPlaces);
+        return Err(Refusal::TooFewPlaces);
     }
     lay(list, marks, hold, set, n, out);
-    Counted {
-        verdict: Verdict::Accepted,
-        count: k,
-    }
+    Ok(k)
 }
 
 // The view at a place is marked, and its identifier is below another.
@@ -156,33 +105,26 @@ fn earlier(list: &[u8], marks: u64, i: usize, id: ViewId) -> bool
     requires { (view_size * i + view_size ≤ length list.now) × (i < max_views) }
     ensures { result ≡ earlier_at list.now marks id.0 i }
 {
-    if (marks >> i) % 2 != 1 {
-        return false;
-    }
-    let v = wire::reader::load_view(list, group_bytes::VIEW * i);
-    v.id.0 < id.0
+    (marks >> i) % 2 == 1 && reader::load_view(list, group_bytes::VIEW * i).id.0 < id.0
 }
 
 // The last such view among the first n of the list.
-fn newest(list: &[u8], marks: u64, n: usize, id: ViewId) -> Lookup
+fn newest(list: &[u8], marks: u64, n: usize, id: ViewId) -> Option<View>
     requires { (view_size * n ≤ length list.now) × (n ≤ max_views) }
     ensures { result ≡ last_below list.now (earlier_at list.now marks id.0) n }
 {
-    let mut i = n;
-    while 0 < i {
-        i -= 1;
+    for i in (0..n).rev() {
         if earlier(list, marks, i, id) {
-            return Lookup::Found(wire::reader::load_view(list, group_bytes::VIEW * i));
+            return Some(reader::load_view(list, group_bytes::VIEW * i));
         }
     }
-    Lookup::Missing
+    None
 }
 
 // The newest attempted view before an identifier, in a sound group.
-pub fn newest_before(list: &[u8], books: &[u8], queues: &[u8], id: ViewId) -> Lookup
+pub fn newest_before(list: &[u8], books: &[u8], queues: &[u8], id: ViewId) -> Option<View>
     requires { ranges_sound (ranges list.now books.now queues.now) ≡ true }
-    ensures { result
-        ≡ lookup_of (newest_in (ranges list.now books.now queues.now) id.0) }
+    ensures { result ≡ newest_in (ranges list.now books.now queues.now) id.0 }
 {
     let n = queues[group_bytes::MADE] as usize;
     let marks = numbers::get_number(queues, group_bytes::MARKS, group_bytes::MARKS_SIZE);

@@ -1,17 +1,18 @@
 -- What the driver asks of the bytes is what the rule asks of the group: the last view of the list is the newest, the books are the group's, each refusal is at its place.
-use mathlib.Core.Path.{◌≡◌, sym, ap, subst, ◌∙◌}
-use mathlib.Core.Logic.{◌≢◌, ⊎_elim}
+use mathlib.Core.Path.{◌≡◌, refl, sym, ap, subst, ◌∙◌}
+use mathlib.Core.Logic.{◌≢◌, ◌⊎◌, inl, inr, ⊎_elim}
 use mathlib.Core.Bool.{Bool, true, false, not}
 use mathlib.Core.List.{List, [], ◌∷◌}
-use Prim.Native.Nat.{ℕ, suc, ◌+◌, ◌-◌, ◌*◌, ◌≤◌, ◌<◌}
+use Prim.Native.Nat.{ℕ, zero, suc, ◌+◌, ◌-◌, ◌*◌, ◌≤◌, ◌<◌}
 use native.Mathlib.Omega.{arith}
-use borrow.Author.Tests.{le-leb, lt-leb, eq-eqb, ne_eqb, eqb-true, lt-ltb}
+use borrow.Author.Tests.{le-leb, lt-leb, eq-eqb, ne_eqb, eqb-true, eqb-false, lt-ltb}
 use lib.Dec.{eqb, leb}
 use lib.ListN.{length, get_or, take, drop}
+use Rattle.std.proofs.Common.{◌&&◌}
+use Rattle.std.specs.List.{list_all, range_with_len}
 use Rattle.views.specs.declared.View.{View}
-use Rattle.views.specs.declared.list.Lookup.TheVariants.{Found}
+use Rattle.std.specs.Prelude.{Some, Ok, Err}
 use Rattle.views.specs.declared.refusal.Refusal.TheVariants.{NoSuchView, ViewNotFresh, FormTestFailed}
-use Rattle.views.specs.declared.refusal.Verdict.TheVariants.{Accepted, Refused}
 use Rattle.views.specs.Sizes.{view_size}
 use Rattle.views.specs.Sets.{both, one}
 use Rattle.views.specs.Lists.{id_of, is_rising, find_of, list_of, no_view}
@@ -21,7 +22,7 @@ use Rattle.views.proofs.VerdictLaws.{never}
 use Rattle.wire.specs.Reader.{view_in}
 use Rattle.wire.proofs.ReaderLaws.{views-at}
 use Rattle.rules.specs.Data.{Identifier, accepted, need, rank}
-use Rattle.rules.specs.Member.{all, passes}
+use Rattle.rules.specs.Member.{all, every, passes}
 use Rattle.rules.specs.Group.{with_listed}
 use Rattle.rules.specs.Forming.{form_steps, is_newest, none_joined, passes_held, form_of}
 use Rattle.rules.proofs.TestLaws.{every-same}
@@ -40,13 +41,13 @@ use Rattle.group_form.specs.Parts.{none_at, passes_at, newest_of, Fresh, Asks}
 -- ---- the newest view
 
 -- the last of views that rise is the newest
-pub last-newest : (g : ℕ) (l : List View) (v : View) → is_rising l ≡ true → find_of g l ≡ Found v → place_of g l + 1 ≡ length l → is_newest g l ≡ true
+pub last-newest : (g : ℕ) (l : List View) (v : View) → is_rising l ≡ true → find_of g l ≡ Some v → place_of g l + 1 ≡ length l → is_newest g l ≡ true
 unfolding is_newest all place_of find_of is_rising
 last-newest g [] v rise f e = absurd (omega arith)
 last-newest g (x ∷ l) v rise f e =
     ⊎_elim (λ (t : eqb (id_of x) g ≡ true). at_front l (eqb-true _ _ t) (rw t at e))
     (λ (t : eqb (id_of x) g ≡ false).
-    let later : find_of g l ≡ Found v = rw t at f in
+    let later : find_of g l ≡ Some v = rw t at f in
     let place : suc (place_of g l) + 1 ≡ suc (length l) = rw t at e in
     let (there, same) = find-in g l v later in
     let low : id_of x ≤ g = omega (arith, same, rises-all (id_of x) l rise v there) in
@@ -89,25 +90,40 @@ pub part-is : (books : List ℕ) (p : ℕ) → take (book_size * p + book_size -
 unfolding book_bytes
 part-is books p = let e : book_size * p + book_size - book_size * p ≡ book_size = omega arith in rw e
 
-module _ (books : List ℕ) (p : ℕ) where
-  abbrev part : List ℕ
-  part = take (book_size * p + book_size - book_size * p) (drop (book_size * p) books)
+-- whether g is the identifier of what a seat holds
+module _ (g : Identifier) (s : Seat) where
+  pub carried : s.there ≡ true → eqb (id_of s.view) g ≡ eqb (rank (seated s)) (suc g)
+  carried there = rw there (by-known (known (eqb (id_of s.view) g)))
+    where
+      by-known : (eqb (id_of s.view) g ≡ true) ⊎ (eqb (id_of s.view) g ≡ false) → eqb (id_of s.view) g ≡ eqb (suc (id_of s.view)) (suc g)
+      by-known (inl t) = t ∙ sym (eq-eqb _ _ (ap (λ (k : ℕ). suc k) (eqb-true _ _ t)))
+      by-known (inr t) = t ∙ sym (ne_eqb _ _ (λ k. eqb-false _ _ t (omega arith)))
 
-  module _ (g : Identifier) (s : Seat) (e : s ≡ seat_in part carrier_at) where
-    by-seat : apart books g p ≡ not (eqb (rank (seated s)) (suc g))
-    by-seat = rw (e, part-is books p)
+  pub none-carried : s.there ≡ false → false ≡ eqb (rank (seated s)) (suc g)
+  none-carried there = rw there (sym (ne_eqb 0 (suc g) (λ k. omega arith)))
 
-    pub is-joined : s.there ≡ true → id_of s.view ≡ g → apart books g p ≡ false
-    is-joined there same = by-seat ∙ rw (there, eq-eqb (suc (id_of s.view)) (suc g) (omega arith))
+-- ---- the members in turn
 
-    pub other-joined : s.there ≡ true → id_of s.view ≢ g → apart books g p ≡ true
-    other-joined there other = by-seat ∙ rw (there, ne_eqb (suc (id_of s.view)) (suc g) (λ k. other (omega arith)))
+-- one more at the end
+last-of : (t : ℕ → Bool) (a n : ℕ) → list_all t (range_with_len a (suc n)) ≡ both (list_all t (range_with_len a n)) (t (a + n))
+last-of t a zero = let z : a + 0 ≡ a = omega arith in rw z (only (t a))
+  where
+    only : (b : Bool) → (b && true) ≡ both true b
+    only true = refl
+    only false = refl
+last-of t a (suc n) =
+    let e : a + 1 + n ≡ a + suc n = omega arith in
+    ap (λ (b : Bool). t a && b) (last-of t (a + 1) n) ∙ shift (t a) (list_all t (range_with_len (a + 1) n)) (t (a + 1 + n)) ∙ ap (λ (k : ℕ). both (list_all t (range_with_len a (suc n))) (t k)) e
+  where
+    shift : (a b c : Bool) → (a && both b c) ≡ both (a && b) c
+    shift true b c = refl
+    shift false b c = refl
 
-    pub none-there : s.there ≡ false → apart books g p ≡ true
-    none-there there = by-seat ∙ rw (there, ne_eqb 0 (suc g) (λ k. omega arith))
-
-  pub part-passed : (v : View) → passed books v p ≡ all (passes one v) ((held_in part).settled ∷ list_of (held_in part).opens)
-  part-passed v = rw (part-is books p)
+-- all of the first numbers, as the library has it
+pub all-first : (n : ℕ) (t : ℕ → Bool) → list_all t (range_with_len 0 n) ≡ every n t
+unfolding every
+all-first zero t = refl
+all-first (suc n) t = let e : 0 + n ≡ n = omega arith in last-of t 0 n ∙ rw (e, all-first n t)
 
 -- ---- over the group
 
@@ -127,12 +143,12 @@ module _ (r : Ranges) where
   -- ---- the row, of a view whose place is i
 
   module _ (g : Identifier) (i : ℕ) (place : i ≡ place_of g (views_made r)) where
-    pub no-view : made_of r ≤ i → Asks r g (Refused NoSuchView)
+    pub no-view : made_of r ≤ i → Asks r g (Err NoSuchView)
     unfolding form_of group_in with_listed
     no-view h = record { verdict = rw (missing_at r g (rw (← place) h)); newest = λ e. absurd (never NoSuchView e); fresh = λ e. absurd (never NoSuchView e) }
 
     module _ (s : ranges_sound r ≡ true) (there : i < made_of r) where
-      here : (v : View) × (find_of g (views_made r) ≡ Found v)
+      here : (v : View) × (find_of g (views_made r) ≡ Some v)
       here = found_at r g (rw (← place) there)
 
       at_place : get_or (views_made r) i no_view ≡ here.0
@@ -144,7 +160,7 @@ module _ (r : Ranges) where
       unfolding form_of group_in with_listed
       by_tests = rw (here.1, none-joined-in g, passes-held-in here.0)
 
-      pub not_last : i + 1 ≢ made_of r → Asks r g (Refused ViewNotFresh)
+      pub not_last : i + 1 ≢ made_of r → Asks r g (Err ViewNotFresh)
       unfolding need
       not_last h =
           let past = older g (views_made r) (made-rise r s) (omega (arith, length-made r, h)) in
@@ -154,7 +170,7 @@ module _ (r : Ranges) where
         new : is_newest g (views_made r) ≡ true
         new = last-newest g (views_made r) here.0 (made-rise r s) here.1 (omega (arith, length-made r))
 
-        pub joined : none_at r.books g ≡ false → Asks r g (Refused ViewNotFresh)
+        pub joined : none_at r.books g ≡ false → Asks r g (Err ViewNotFresh)
         unfolding need
         joined h = record { verdict = rw (by_tests, new, h); newest = λ e. absurd (never ViewNotFresh e); fresh = λ e. absurd (never ViewNotFresh e) }
 
@@ -169,11 +185,11 @@ module _ (r : Ranges) where
               let e : view_size * i ≡ 0 + view_size * i = omega arith in
               read ∙ ap (view_in r.list) e ∙ sym (views-at r.list 0 (made_of r) i there) ∙ at_place
 
-          pub fails : passes_at r.books v ≡ false → Asks r g (Refused FormTestFailed)
+          pub fails : passes_at r.books v ≡ false → Asks r g (Err FormTestFailed)
           unfolding need
           fails h = record { verdict = rw (by_tests, new, free, ← same, h); newest = λ e. absurd (never FormTestFailed e); fresh = λ e. absurd (never FormTestFailed e) }
 
-          pub takes : passes_at r.books v ≡ true → Asks r g Accepted
+          pub takes : passes_at r.books v ≡ true → Asks r g (Ok tt)
           unfolding need
           takes h =
               let e : form_of one (group_in r) g ≡ accepted (form_steps here.0) = by_tests ∙ rw (new, free, ← same, h) in

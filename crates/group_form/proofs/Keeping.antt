@@ -7,14 +7,14 @@ use lib.ListN.{length}
 use lib.Seq.{paste}
 use Rattle.views.specs.declared.View.{View}
 use Rattle.views.specs.declared.refusal.Refusal.{Refusal}
-use Rattle.views.specs.declared.refusal.Verdict.{Verdict}
-use Rattle.views.specs.declared.refusal.Verdict.TheVariants.{Accepted, Refused}
+use Rattle.views.specs.Refusals.{Verdict, and_then, left}
+use Rattle.std.specs.Prelude.{Ok, Err}
 use Rattle.views.specs.Limits.{max_views}
-use Rattle.views.specs.Refusals.{and_then, left}
 use Rattle.views.proofs.SetLaws.{both_true}
 use Rattle.views.proofs.VerdictLaws.{never}
 use Rattle.rules.specs.Data.{Step}
 use Rattle.rules.specs.Forming.{form_steps}
+use Rattle.events.specs.Replies.{Reply}
 use Rattle.group_bytes.specs.Places.{books_size, table_size, order_at}
 use Rattle.group_bytes.specs.Groups.{Ranges, ranges, ranges_sound}
 use Rattle.group_bytes.specs.Steps.{step_ranges, step_reply, last_ranges, replies_of}
@@ -26,24 +26,24 @@ use Rattle.group_form.proofs.Restored.{copied, queues-restored}
 
 -- ---- where no step was refused, all were taken
 
-by_first : (v w : Verdict) (a b c : Ranges) → (w ≡ Accepted → a ≡ c) → and_then v w ≡ Accepted → left v a b ≡ c
+by_first : (x : Reply) (w : Verdict) (a b c : Ranges) → (w ≡ Ok tt → a ≡ c) → and_then x w ≡ Ok tt → left x a b ≡ c
 unfolding and_then left
-by_first Accepted w a b c h k = h k
-by_first (Refused f) w a b c h k = absurd (never f k)
+by_first (Ok o) w a b c h k = h k
+by_first (Err f) w a b c h k = absurd (never f k)
 
-until-all : (r : Ranges) (l : List Step) → first_refusal (replies_of r l) ≡ Accepted → until_refused r l ≡ last_ranges r l
+until-all : (r : Ranges) (l : List Step) → first_refusal (replies_of r l) ≡ Ok tt → until_refused r l ≡ last_ranges r l
 unfolding first_refusal replies_of until_refused last_ranges and_then left
 until-all r [] h = refl
 until-all r (c ∷ l) h =
-    by_first (step_reply r c).verdict (first_refusal (replies_of (step_ranges r c) l)) (until_refused (step_ranges r c) l) r (last_ranges (step_ranges r c) l)
+    by_first (step_reply r c) (first_refusal (replies_of (step_ranges r c) l)) (until_refused (step_ranges r c) l) r (last_ranges (step_ranges r c) l)
     (λ k. until-all (step_ranges r c) l k) h
 
 -- all or none, by the verdict
-all_of : (r : Ranges) (l : List Step) → first_refusal (replies_of r l) ≡ Accepted → all_or_none r l ≡ until_refused r l
+all_of : (r : Ranges) (l : List Step) → first_refusal (replies_of r l) ≡ Ok tt → all_or_none r l ≡ until_refused r l
 unfolding left
 all_of r l h = rw h (sym (until-all r l h))
 
-none_of : (r : Ranges) (l : List Step) (f : Refusal) → first_refusal (replies_of r l) ≡ Refused f → all_or_none r l ≡ r
+none_of : (r : Ranges) (l : List Step) (f : Refusal) → first_refusal (replies_of r l) ≡ Err f → all_or_none r l ≡ r
 unfolding left
 none_of r l f h = rw h
 
@@ -65,7 +65,7 @@ module _ {r : Ranges} {v : View} {i : ℕ} (s : Stands r v i) where
 
   -- ---- if none is refused
 
-  pub all-taken : {d : Ranges} {x : Verdict} → Drove r (form_steps v) d x → first_refusal (replies_of r (form_steps v)) ≡ Accepted → AllKept r (form_steps v) d x
+  pub all-taken : {d : Ranges} {x : Verdict} → Drove r (form_steps v) d x → first_refusal (replies_of r (form_steps v)) ≡ Ok tt → AllKept r (form_steps v) d x
   all-taken h a =
       let e = all_of r (form_steps v) a in
       record {
@@ -78,17 +78,17 @@ module _ {r : Ranges} {v : View} {i : ℕ} (s : Stands r v i) where
   -- ---- the queues
 
   module _ {d : Ranges} {x : Verdict} where
-    pub queues-taken : Drove r (form_steps v) d x → x ≡ Accepted → QueuesKept r (form_steps v) d Accepted
+    pub queues-taken : Drove r (form_steps v) d x → x ≡ Ok tt → QueuesKept r (form_steps v) d x
     queues-taken h a =
         let e = all_of r (form_steps v) (sym h.verdict ∙ a) in
         record {
-          verdict = sym a ∙ h.verdict;
+          verdict = h.verdict;
           list = h.list ∙ ap (λ (x : Ranges). x.list) (sym e);
           books = h.books;
           queues = h.queues ∙ ap (λ (x : Ranges). x.queues) (sym e);
         }
 
-    pub queues-put-back : RangesBytes r → Drove r (form_steps v) d x → {f : Refusal} → x ≡ Refused f → (kept q : List ℕ) → kept ≡ kept_of r.queues i
+    pub queues-put-back : RangesBytes r → Drove r (form_steps v) d x → {f : Refusal} → x ≡ Err f → (kept q : List ℕ) → kept ≡ kept_of r.queues i
         → q ≡ put_back d.queues kept i → QueuesKept r (form_steps v) (ranges d.list d.books q) x
     queues-put-back bytes h {f} a kept q k e =
         let l = form_steps v in
@@ -104,9 +104,9 @@ module _ {r : Ranges} {v : View} {i : ℕ} (s : Stands r v i) where
 
     -- ---- the books
 
-    pub books-taken : QueuesKept r (form_steps v) d x → x ≡ Accepted → AllKept r (form_steps v) d Accepted
+    pub books-taken : QueuesKept r (form_steps v) d x → x ≡ Ok tt → AllKept r (form_steps v) d x
     books-taken h a = record {
-      verdict = sym a ∙ h.verdict;
+      verdict = h.verdict;
       list = h.list;
       books = h.books ∙ ap (λ (x : Ranges). x.books) (sym (all_of r (form_steps v) (sym h.verdict ∙ a)));
       queues = h.queues;
@@ -116,7 +116,7 @@ module _ {r : Ranges} {v : View} {i : ℕ} (s : Stands r v i) where
     pub books-long : RangesBytes r → QueuesKept r (form_steps v) d x → length d.books ≡ books_size
     books-long bytes h = ap length h.books ∙ (until-beside r bytes v i s).books
 
-    pub books-put-back : RangesBytes r → QueuesKept r (form_steps v) d x → {f : Refusal} → x ≡ Refused f → (z kept b : List ℕ) → length z ≡ books_size
+    pub books-put-back : RangesBytes r → QueuesKept r (form_steps v) d x → {f : Refusal} → x ≡ Err f → (z kept b : List ℕ) → length z ≡ books_size
         → kept ≡ paste z 0 r.books books_size → b ≡ paste d.books 0 kept books_size → AllKept r (form_steps v) (ranges d.list b d.queues) x
     books-put-back bytes h {f} a z kept b n k e =
         let same : kept ≡ r.books = k ∙ copied z r.books books_size n stands-books in

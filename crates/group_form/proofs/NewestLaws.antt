@@ -1,5 +1,5 @@
 -- The newest view of a sound group stands last in the list; and from what its steps gave to what the driver gives.
-use mathlib.Core.Path.{◌≡◌, sym, ap, subst, ◌∙◌}
+use mathlib.Core.Path.{◌≡◌, refl, sym, ap, subst, ◌∙◌}
 use mathlib.Core.Bool.{true, false}
 use mathlib.Core.List.{List, []}
 use Prim.Native.Nat.{ℕ, ◌+◌, ◌-◌, ◌*◌, ◌≤◌, ◌<◌}
@@ -7,16 +7,15 @@ use native.Mathlib.Nat.{zero-add}
 use native.Mathlib.Omega.{arith}
 use lib.ListN.{length, get_or}
 use Rattle.views.specs.declared.View.{View}
-use Rattle.views.specs.declared.list.Lookup.TheVariants.{Found}
+use Rattle.std.specs.Prelude.{Some, Ok, Err}
+use Rattle.std.specs.Prelude.{Result as Given}
 use Rattle.views.specs.declared.refusal.Refusal.{Refusal}
 use Rattle.views.specs.declared.refusal.Refusal.TheVariants.{RecordsUnsound}
-use Rattle.views.specs.declared.refusal.Verdict.{Verdict}
-use Rattle.views.specs.declared.refusal.Verdict.TheVariants.{Accepted, Refused}
+use Rattle.views.specs.Refusals.{Verdict, and_then, left}
 use Rattle.views.specs.Limits.{max_views}
 use Rattle.views.specs.Sets.{one, size}
 use Rattle.views.specs.Lists.{id_of, find_of, no_view}
-use Rattle.views.specs.Refusals.{left}
-use Rattle.views.proofs.VerdictLaws.{never}
+use Rattle.views.proofs.VerdictLaws.{never, then-refused}
 use Rattle.wire.specs.Reader.{view_in}
 use Rattle.wire.proofs.ReaderLaws.{views-at}
 use Rattle.rules.specs.Data.{Identifier, Step, Result, refused, accepted, need}
@@ -58,67 +57,76 @@ module _ (r : Ranges) (sounds : ranges_sound r ≡ true) where
     unfolding newest_of
     newest-stands =
         let place : place_of (id_of v) (views_made r) ≡ made_of r - 1
-        = ap (λ (w : View). place_of (id_of w) (views_made r)) newest-is ∙ place_at (views_made r) (made-rise r sounds) (made_of r - 1) (omega (arith, some-made, length-made r)) in
+        = ap (λ (w : View). place_of (id_of w) (views_made r)) newest-is
+        ∙ place_at (views_made r) (made-rise r sounds) (made_of r - 1) (omega (arith, some-made, length-made r)) in
         let there : place_of (id_of v) (views_made r) < made_of r = omega (arith, some-made, place) in
         let (w, found) = found_at r (id_of v) there in
         let same : w ≡ v = sym (place_found (id_of v) (views_made r) w found).1 ∙ ap (λ (j : ℕ). get_or (views_made r) j no_view) place ∙ sym newest-is in
-        record { sound = sounds; there = omega (arith, some-made); place = place; found = subst (λ (z : View). find_of (id_of v) (views_made r) ≡ Found z) same found }
+        record {
+          sound = sounds;
+          there = omega (arith, some-made);
+          place = place;
+          found = subst (λ (z : View). find_of (id_of v) (views_made r) ≡ Some z) same found;
+        }
 
 -- ---- with the number of steps
 
 module _ {r d : Ranges} {v w : View} {x : Verdict} (same : v ≡ w) (h : AllKept r (form_steps v) d x) where
-  pub counted-refused : {f : Refusal} {y : Verdict} {k : ℕ} → x ≡ Refused f → (y ≡ Refused f) × (k ≡ 0) → FormedAs r (form_steps w) d y k
-  unfolding left
-  counted-refused {f} {y} {k} e a =
-      let none : first_refusal (replies_of r (form_steps v)) ≡ Refused f = sym h.verdict ∙ e in
-      rw (← same) (record { kept = record { verdict = a.0 ∙ sym none; list = h.list; books = h.books; queues = h.queues }; count = rw none a.1 })
+  pub counted-refused : {f : Refusal} → x ≡ Err f → FormedAs r (form_steps w) d (Err f)
+  unfolding and_then
+  counted-refused {f} e =
+      let none : first_refusal (replies_of r (form_steps v)) ≡ Err f = sym h.verdict ∙ e in
+      rw (← same) (record { kept = record { verdict = sym none; list = h.list; books = h.books; queues = h.queues }; reply = rw none })
 
-  pub counted-accepted : {k : ℕ} → x ≡ Accepted → k ≡ form_count (size v.set) → FormedAs r (form_steps w) d Accepted k
-  unfolding left
+  pub counted-accepted : {k : ℕ} → x ≡ Ok tt → k ≡ form_count (size v.set) → FormedAs r (form_steps w) d (Ok k)
+  unfolding and_then
   counted-accepted {k} e n =
-      let all : first_refusal (replies_of r (form_steps v)) ≡ Accepted = sym h.verdict ∙ e in
-      rw (← same) (record { kept = record { verdict = sym all; list = h.list; books = h.books; queues = h.queues }; count = rw all (n ∙ sym (form-count v)) })
+      let all : first_refusal (replies_of r (form_steps v)) ≡ Ok tt = sym h.verdict ∙ e in
+      rw (← same) (record { kept = record { verdict = sym all; list = h.list; books = h.books; queues = h.queues }; reply = rw (all, n, form-count v) })
 
 -- ---- what the driver gives
 
 -- 4, 10, 44 or 45
-refused-formed : (r : Ranges) (g : Identifier) (f : Refusal) (v : Verdict) (k : ℕ) → form_result r g ≡ refused f → (v ≡ Refused f) × (k ≡ 0) → Formed r g r v k
+refused-formed : (r : Ranges) (g : Identifier) (f : Refusal) → form_result r g ≡ refused f → Formed r g r (Err f)
 unfolding form_verdict form_taken last_ranges
-refused-formed r g f v k e a =
-    let verdict : form_verdict r g ≡ Refused f = rw e in
+refused-formed r g f e =
+    let verdict : form_verdict r g ≡ Err f = rw e in
     let none : form_taken r g ≡ [] = rw e in
     record {
-      verdict = a.0 ∙ sym verdict;
-      count = a.1 ∙ sym (ap length none);
+      reply = sym (then-refused f (Ok (length (form_taken r g))) verdict);
       list = ap (λ (l : List Step). (last_ranges r l).list) (sym none);
       books = ap (λ (l : List Step). (last_ranges r l).books) (sym none);
       queues = ap (λ (l : List Step). (last_ranges r l).queues) (sym none);
     }
 
-pub unsound-formed : (r : Ranges) (g : Identifier) (v : Verdict) (k : ℕ) → ranges_sound r ≡ false → (v ≡ Refused RecordsUnsound) × (k ≡ 0) → Formed r g r v k
+pub unsound-formed : (r : Ranges) (g : Identifier) → ranges_sound r ≡ false → Formed r g r (Err RecordsUnsound)
 unfolding form_result need
-unsound-formed r g v k e a = refused-formed r g RecordsUnsound v k (rw e) a
+unsound-formed r g e = refused-formed r g RecordsUnsound (rw e)
+
+-- the number given is that of all the steps, whether it is said of those set out or of those taken
+same-number : (v : Verdict) (l : List Step) → and_then v (Ok (length l)) ≡ and_then v (Ok (length (left v l [])))
+unfolding and_then left
+same-number (Ok u) l = refl
+same-number (Err f) l = refl
 
 module _ (r : Ranges) (g : Identifier) (sounds : ranges_sound r ≡ true) (x : Verdict) (asks : Asks r g x) where
-  pub asked-refused : (f : Refusal) → x ≡ Refused f → (v : Verdict) (k : ℕ) → (v ≡ Refused f) × (k ≡ 0) → Formed r g r v k
+  pub asked-refused : (f : Refusal) → x ≡ Err f → Formed r g r (Err f)
   unfolding form_result need
-  asked-refused f e v k a = refused-formed r g f v k (rw sounds (refused-by (form_of one (group_in r) g) (sym asks.verdict ∙ e))) a
+  asked-refused f e = refused-formed r g f (rw sounds (refused-by (form_of one (group_in r) g) (sym asks.verdict ∙ e)))
     where
-      refused-by : (y : Result (List Step)) → verdict_of y ≡ Refused f → y ≡ refused f
+      refused-by : (y : Result (List Step)) → verdict_of y ≡ Err f → y ≡ refused f
       refused-by (refused h) e = cc
       refused-by (accepted l) e = absurd (never f (sym e))
 
-  pub all-formed : x ≡ Accepted → (d : Ranges) (v : Verdict) (k : ℕ) → FormedAs r (form_steps (newest_of r)) d v k → Formed r g d v k
+  pub all-formed : x ≡ Ok tt → (d : Ranges) (y : Given ℕ Refusal) → FormedAs r (form_steps (newest_of r)) d y → Formed r g d y
   unfolding form_result form_verdict form_taken need
-  all-formed e d v k h =
+  all-formed e d y h =
       let l = form_steps (newest_of r) in
       let result : form_result r g ≡ accepted l = rw sounds (asks.newest e) in
-      let verdict : form_verdict r g ≡ first_refusal (replies_of r l) = rw result in
       let taken : form_taken r g ≡ taken_by r (accepted l) = rw result in
       let leaves : all_or_none r l ≡ last_ranges r (form_taken r g) = sym (ap (last_ranges r) taken ∙ taken-leaves r l) in
       record {
-        verdict = h.kept.verdict ∙ sym verdict;
-        count = h.count ∙ sym (ap length taken);
+        reply = h.reply ∙ rw result (same-number (first_refusal (replies_of r l)) l);
         list = h.kept.list ∙ ap (λ (y : Ranges). y.list) leaves;
         books = h.kept.books ∙ ap (λ (y : Ranges). y.books) leaves;
         queues = h.kept.queues ∙ ap (λ (y : Ranges). y.queues) leaves;

@@ -7,10 +7,9 @@ use Prim.Native.Nat.{ℕ, ◌^◌, ◌<◌}
 use native.Mathlib.Omega.{arith}
 use lib.ListN.{length}
 use Rattle.views.specs.declared.View.{View}
-use Rattle.views.specs.declared.refusal.Verdict.{Verdict}
-use Rattle.views.specs.declared.refusal.Verdict.TheVariants.{Accepted, Refused}
+use Rattle.views.specs.Refusals.{verdict_given, left}
+use Rattle.std.specs.Prelude.{Ok, Err}
 use Rattle.views.specs.Lists.{id_of}
-use Rattle.views.specs.Refusals.{left}
 use Rattle.views.proofs.SetLaws.{both_true}
 use Rattle.views.proofs.ListLaws.{find-in}
 use Rattle.views.proofs.Members.{In, top, pop, in-nil, in-cons}
@@ -18,6 +17,7 @@ use Rattle.rules.specs.Data.{Identifier, Member, Step}
 use Rattle.rules.specs.Forming.{servers_of, by_each, exchange_steps, round_steps, form_steps}
 use Rattle.rules.proofs.Forming.Servers.{servers-say}
 use Rattle.rules.proofs.Forming.Each.{asks, Every, every_append, each-every, exchange-every}
+use Rattle.events.specs.Replies.{Reply}
 use Rattle.group_bytes.specs.Places.{books_size}
 use Rattle.group_bytes.specs.Groups.{Ranges, views_made, place_of, ranges_sound}
 use Rattle.group_bytes.specs.Steps.{step_ranges, step_reply}
@@ -65,19 +65,20 @@ form-split v = let g = id_of v in let L = servers_of v in append_assoc (by_each 
 
 -- ---- where they lead
 
-by-verdict : (P : Ranges → Type 0) (a b : Ranges) (v : Verdict) → (v ≡ Accepted → P a) → P b → P (left v a b)
+by-reply : (P : Ranges → Type 0) (a b : Ranges) (x : Reply) → (verdict_given x ≡ Ok tt → P a) → P b → P (left x a b)
 unfolding left
-by-verdict P a b Accepted h k = h refl
-by-verdict P a b (Refused f) h k = k
+by-reply P a b (Ok o) h k = h refl
+by-reply P a b (Err f) h k = k
 
 module _ (r : Ranges) (g i : ℕ) (place : place_of g (views_made r) ≡ i) (width : g < 256 ^ 8) where
   -- the steps behind the joins
-  until-served : (L : List Member) → ((p : Member) → In p L → p < 256 ^ 4) → (l : List Step) → Each g L l → (d : Ranges) → Serves r g i L d → Serves r g i L (until_refused d l)
+  until-served : (L : List Member) → ((p : Member) → In p L → p < 256 ^ 4) → (l : List Step) → Each g L l → (d : Ranges)
+      → Serves r g i L d → Serves r g i L (until_refused d l)
   unfolding until_refused left
   until-served L few [] f d s = s
   until-served L few (c ∷ l) f d s =
       let x = f c top in
-      by-verdict (Serves r g i L) (until_refused (step_ranges d c) l) d (step_reply d c).verdict
+      by-reply (Serves r g i L) (until_refused (step_ranges d c) l) d (step_reply d c)
       (λ e. until-served L few l (λ k j. f k (pop j)) (step_ranges d c)
       (rw x.is (serves_on place s x.member (few x.member x.listed) width x.kind x.served x.listed (rw x.is at e)))) s
 
@@ -86,7 +87,8 @@ module _ (r : Ranges) (g i : ℕ) (place : place_of g (views_made r) ≡ i) (wid
   Some d = (L : List Member) × Serves r g i L d
 
   -- the joins of J, and the steps behind them, where those of K have joined
-  until-joined : (A : List Member) → ((p : Member) → In p A → p < 256 ^ 4) → (l : List Step) → Each g A l → (J K : List Member) → ((p : Member) → In p A → In p J ⊎ In p K)
+  until-joined : (A : List Member) → ((p : Member) → In p A → p < 256 ^ 4) → (l : List Step) → Each g A l → (J K : List Member)
+      → ((p : Member) → In p A → In p J ⊎ In p K)
       → ((p : Member) → In p J → In p A) → (d : Ranges) → Serves r g i K d → Some (until_refused d (by_each 2 1 g J ++ l))
   unfolding until_refused left by_each
   until-joined A few l f [] K all sub d s =
@@ -99,7 +101,7 @@ module _ (r : Ranges) (g i : ℕ) (place : place_of g (views_made r) ≡ i) (wid
       } in
       (A, until-served A few l f d t)
   until-joined A few l f (p ∷ J) K all sub d s =
-      by-verdict Some (until_refused (step_ranges d (asks 2 p g)) (by_each 2 1 g J ++ l)) d (step_reply d (asks 2 p g)).verdict
+      by-reply Some (until_refused (step_ranges d (asks 2 p g)) (by_each 2 1 g J ++ l)) d (step_reply d (asks 2 p g))
       (λ e. until-joined A few l f J (p ∷ K)
       (λ q j. ⊎_elim (λ (k : In q (p ∷ J)). ⊎_elim (λ (e : q ≡ p). inr (rw e top)) (λ (m : In q J). inl m) (in-cons k)) (λ (k : In q K). inr (pop k)) (all q j))
       (λ q j. sub q (pop j)) (step_ranges d (asks 2 p g)) (serves-joined place s p (few p (sub p top)) width e))
@@ -120,5 +122,6 @@ until-beside r bytes v i s =
     let width = (view-fits r fits bytes sounds v (find-in (id_of v) (views_made r) v s.found).0).id in
     let here : Serves r (id_of v) i [] r = record { beside = beside_none r i; fits = fits; bytes = bytes; views = refl; carry = λ p j. absurd (in-nil j) } in
     let L = servers_of v in
-    let t = until-joined r (id_of v) i s.place (omega (arith, width)) L (λ p j. omega (arith, (servers-say v p j).1)) (behind (id_of v) L) (behind-each (id_of v) L) L [] (λ p j. inl j) (λ p j. j) r here in
+    let t = until-joined r (id_of v) i s.place (omega (arith, width)) L (λ p j. omega (arith, (servers-say v p j).1))
+    (behind (id_of v) L) (behind-each (id_of v) L) L [] (λ p j. inl j) (λ p j. j) r here in
     rw (form-split v) (record { beside = t.1.beside; books = t.1.fits.books })

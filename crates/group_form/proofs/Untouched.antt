@@ -3,7 +3,7 @@
 use mathlib.Core.Path.{◌≡◌, refl, sym, ap, ◌∙◌}
 use mathlib.Core.Logic.{◌≢◌}
 use mathlib.Core.Bool.{true, false, not, true≢false}
-use mathlib.Core.Option.{Option, none, some}
+use Rattle.std.specs.Prelude.{Option, None, Some, Ok}
 use mathlib.Core.List.{List, [], ◌∷◌}
 use Prim.Native.Nat.{ℕ, suc, ◌+◌, ◌≤◌, ◌<◌}
 use native.Mathlib.Omega.{arith}
@@ -11,11 +11,7 @@ use borrow.Author.Tests.{leb-true, lt-ltb, eq-eqb, ne_eqb, eqb-true, eqb-false, 
 use lib.Dec.{eqb, leb}
 use lib.ListN.{get_or}
 use Rattle.views.specs.declared.View.{View}
-use Rattle.views.specs.declared.list.Lookup.{Lookup}
-use Rattle.views.specs.declared.list.Lookup.TheVariants.{Found, Missing}
-use Rattle.views.specs.declared.refusal.Verdict.{Verdict}
-use Rattle.views.specs.declared.refusal.Verdict.TheVariants.{Accepted}
-use Rattle.views.specs.Sets.{both, one, has}
+use Rattle.views.specs.Sets.{one, has}
 use Rattle.views.specs.Lists.{id_of, find_of, list_of}
 use Rattle.views.proofs.SetLaws.{both_true, has-below}
 use Rattle.views.proofs.Members.{In}
@@ -35,7 +31,7 @@ use Rattle.slots.specs.Columns.{firsts}
 use Rattle.book_bytes.specs.declared.Held.{Held}
 use Rattle.book_bytes.specs.Records.{held_in}
 use Rattle.book_bytes.specs.Books.{book_in}
-use Rattle.group_bytes.specs.Places.{order_at, waiting_at, book_bytes}
+use Rattle.group_bytes.specs.Places.{order_at, waiting_at}
 use Rattle.group_bytes.specs.Groups.{Ranges, members_of, made_of, views_made, book_of, group_in, ranges_sound}
 use Rattle.group_bytes.specs.Steps.{replies_of}
 use Rattle.group_bytes.specs.Forming.{first_refusal}
@@ -49,7 +45,7 @@ use Rattle.group_bytes.proofs.GroupForms.{accepted-all}
 use Rattle.group_steps.proofs.Rows.{made-rise}
 use Rattle.group.specs.StaysSoundParts.{none_above}
 use Rattle.group.proofs.StaysSoundLaws.{kept-ranges}
-use Rattle.group_form.specs.Parts.{is_missing, none_wait, holds_none, none_hold, untouched_at, Fresh, Stands, Drove, AllKept}
+use Rattle.group_form.specs.Parts.{is_missing, none_wait, holds_none, none_hold, untouched_at, Fresh, Stands}
 use Rattle.group_form.proofs.AskLaws.{last-newest, none-joined-in, passes-held-in}
 
 -- ---- a book that does not hold the view
@@ -63,13 +59,13 @@ module _ (b : List ℕ) (g : Identifier) (h : Held) (e : h ≡ held_in b) where
   unfolding find_of
   settled-held same = sym (by-held ∙ rw (eq-eqb (id_of h.settled) g same))
 
-  pub open-held : id_of h.settled ≢ g → (o : Lookup) → o ≡ find_of g (list_of h.opens) → is_missing o ≡ holds_none b g
+  pub open-held : id_of h.settled ≢ g → (o : Option View) → o ≡ find_of g (list_of h.opens) → is_missing o ≡ holds_none b g
   unfolding find_of
   open-held other o f = sym (by-held ∙ rw (ne_eqb (id_of h.settled) g other) (ap is_missing (sym f)))
 
-missing-is : (o : Lookup) → is_missing o ≡ true → o ≡ Missing
-missing-is (Found v) e = absurd (true≢false (sym e))
-missing-is Missing e = refl
+missing-is : (o : Option View) → is_missing o ≡ true → o ≡ None
+missing-is (Some v) e = absurd (true≢false (sym e))
+missing-is None e = refl
 
 -- ---- the group is ready
 
@@ -92,7 +88,7 @@ module _ (r : Ranges) (bytes : RangesBytes r) (v : View) (i : ℕ) (stands : Sta
       let b = both_true _ _ a.1 in
       (eqb-true _ _ a.0, b.0, b.1)
 
-  found : find_of g s.views ≡ Found v
+  found : find_of g s.views ≡ Some v
   unfolding group_in
   found = stands.found
 
@@ -112,8 +108,8 @@ module _ (r : Ranges) (bytes : RangesBytes r) (v : View) (i : ℕ) (stands : Sta
       unjoined = none-joined-in r g ∙ fresh.free
 
       go : (o : Option View) → (book_of r p).carrier.view ≡ o → rank o ≤ g
-      go none e = omega arith
-      go (some u) e =
+      go None e = omega arith
+      go (Some u) e =
           let low : id_of u ≤ g = made-low u ((k.sound.book p h).carrier-known u e) in
           let apart : rank (book_of r p).carrier.view ≡ suc g → ⊥ = eqb-false _ _ (not-true _ (every-at (members_of r) (λ p. not (eqb (rank (book_of r p).carrier.view) (suc g))) unjoined p h)) in
           let off : id_of u ≡ g → ⊥ = λ f. apart (ap rank e ∙ ap suc f) in
@@ -155,7 +151,7 @@ module _ (r : Ranges) (bytes : RangesBytes r) (v : View) (i : ℕ) (stands : Sta
       waiting-at r g i stands.place p h stands.there ∙ rw (eqb-true (get_or r.queues (waiting_at i p) 0) 0 (every-at (members_of r) _ questions.1 p h))
 
   -- no step is refused
-  pub none-refused : first_refusal (replies_of r (form_steps v)) ≡ Accepted
+  pub none-refused : first_refusal (replies_of r (form_steps v)) ≡ Ok tt
   unfolding ranges_sound
   none-refused =
       let (fit, sounds) = both_true _ _ stands.sound in

@@ -1,15 +1,13 @@
 -- The parts of the driver: what is asked of the bytes, steps up to the first refusal, and what is put back after it.
-use Rattle.std.specs.Prelude.{◌≡◌, Bool, true, false, not, List, [], ◌∷◌, ◌++◌}
+use Rattle.std.specs.Prelude.{Result as Given}
+use Rattle.std.specs.Prelude.{◌≡◌, Bool, true, false, not, List, [], ◌∷◌, ◌++◌, Ok, Option, Some, None}
 use Rattle.std.specs.Prelude.{ℕ, suc, ◌-◌, ◌<◌, eqb, length, get_or, take, drop}
 use Rattle.std.proofs.Math.Seq.{paste}
 use Rattle.views.specs.declared.View.{View}
-use Rattle.views.specs.declared.list.Lookup.{Lookup}
-use Rattle.views.specs.declared.list.Lookup.TheVariants.{Found, Missing}
-use Rattle.views.specs.declared.refusal.Verdict.{Verdict}
-use Rattle.views.specs.declared.refusal.Verdict.TheVariants.{Accepted}
+use Rattle.views.specs.declared.refusal.Refusal.{Refusal}
+use Rattle.views.specs.Refusals.{Verdict, verdict_given, and_then, left}
 use Rattle.views.specs.Sets.{both, one}
 use Rattle.views.specs.Lists.{id_of, find_of, list_of, no_view}
-use Rattle.views.specs.Refusals.{left}
 use Rattle.rules.specs.Data.{Identifier, Step, accepted, rank}
 use Rattle.rules.specs.Member.{every, every_of, all, passes}
 use Rattle.rules.specs.Forming.{form_steps, form_of}
@@ -46,14 +44,14 @@ pub record Fresh (r : Ranges) (v : View) : Type 0 where
 -- the verdict; where it is accepted, the steps are those of the newest view
 pub record Asks (r : Ranges) (g : Identifier) (v : Verdict) : Type 0 where
   pub verdict : v ≡ verdict_of (form_of one (group_in r) g)
-  pub newest : v ≡ Accepted → form_of one (group_in r) g ≡ accepted (form_steps (newest_of r))
-  pub fresh : v ≡ Accepted → Fresh r (newest_of r)
+  pub newest : v ≡ Ok tt → form_of one (group_in r) g ≡ accepted (form_steps (newest_of r))
+  pub fresh : v ≡ Ok tt → Fresh r (newest_of r)
 
 -- ---- whether a view is untouched
 
-abbrev pub is_missing : Lookup → Bool
-is_missing (Found v) = false
-is_missing Missing = true
+abbrev pub is_missing : Option View → Bool
+is_missing (Some v) = false
+is_missing None = true
 
 -- nothing waits for any of n members in the view at place i
 unfoldable pub none_wait : List ℕ → ℕ → ℕ → Bool
@@ -77,7 +75,7 @@ untouched_at books q g i =
 -- the ranges after the steps before the first refused one
 unfoldable pub until_refused : Ranges → List Step → Ranges
 until_refused r [] = r
-until_refused r (c ∷ l) = left (step_reply r c).verdict (until_refused (step_ranges r c) l) r
+until_refused r (c ∷ l) = left (step_reply r c) (until_refused (step_ranges r c) l) r
 
 -- the steps l, put to the ranges r up to the first refusal, gave the verdict v and left the ranges d
 pub record Drove (r : Ranges) (l : List Step) (d : Ranges) (v : Verdict) : Type 0 where
@@ -95,7 +93,7 @@ pub record Stands (r : Ranges) (v : View) (i : ℕ) : Type 0 where
   pub sound : ranges_sound r ≡ true
   pub there : i < made_of r
   pub place : place_of (id_of v) (views_made r) ≡ i
-  pub found : find_of (id_of v) (views_made r) ≡ Found v
+  pub found : find_of (id_of v) (views_made r) ≡ Some v
 
 -- the copy of the queues: the head, then the queues of the view at place i
 unfoldable pub kept_of : List ℕ → ℕ → List ℕ
@@ -124,6 +122,6 @@ pub record AllKept (r : Ranges) (l : List Step) (d : Ranges) (v : Verdict) : Typ
   pub queues : d.queues ≡ (all_or_none r l).queues
 
 -- with the number of steps taken
-pub record FormedAs (r : Ranges) (l : List Step) (d : Ranges) (v : Verdict) (k : ℕ) : Type 0 where
-  pub kept : AllKept r l d v
-  pub count : k ≡ length (left (first_refusal (replies_of r l)) l [])
+pub record FormedAs (r : Ranges) (l : List Step) (d : Ranges) (x : Given ℕ Refusal) : Type 0 where
+  pub kept : AllKept r l d (verdict_given x)
+  pub reply : x ≡ and_then (first_refusal (replies_of r l)) (Ok (length l))

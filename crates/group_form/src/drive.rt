@@ -28,16 +28,11 @@ fn repeat(
         (replicate k (asked kind p.0 id.0))
         (ranges list.new all.new queues.new) result }
 {
-    let mut i = 0;
-    while i < k {
-        let x = group::step::next(list, all, queues, known, kind, p.0 as u32, id.0 as u64);
-        let v = x.verdict;
-        let Verdict::Accepted = v else {
-            return v;
-        };
-        i += 1;
+    // The index has a name, since the proof names it.
+    for _i in 0..k {
+        group::step::next(list, all, queues, known, kind, p.0 as u32, id.0 as u64)?;
     }
-    Verdict::Accepted
+    Ok(())
 }
 
 // One kind of step by each server of the view, rising, one's k steps together.
@@ -55,17 +50,12 @@ fn each(
         (by_each kind k (id_of v) (servers_of v))
         (ranges list.new all.new queues.new) result }
 {
-    let mut p = 0;
-    while p < limits::MEMBERS {
+    for p in 0..limits::MEMBERS {
         if sets::contains(v.set, Member(p)) {
-            let x = repeat(list, all, queues, known, kind, Member(p), v.id, k);
-            let Verdict::Accepted = x else {
-                return x;
-            };
+            repeat(list, all, queues, known, kind, Member(p), v.id, k)?;
         }
-        p += 1;
     }
-    Verdict::Accepted
+    Ok(())
 }
 
 // What is outgoing goes by passes, orders, then deliveries.
@@ -75,15 +65,9 @@ fn exchange(list: &mut [u8], all: &mut [u8], queues: &mut [u8], known: bool, v: 
         (exchange_steps (id_of v) (servers_of v))
         (ranges list.new all.new queues.new) result }
 {
-    let passed = each(list, all, queues, known, kinds::PASS, v, 1);
-    let Verdict::Accepted = passed else {
-        return passed;
-    };
-    let ordered = each(list, all, queues, known, kinds::ORDER, v, 1);
-    let Verdict::Accepted = ordered else {
-        return ordered;
-    };
-    let k = u8::count_ones(v.set) as u8;
+    each(list, all, queues, known, kinds::PASS, v, 1)?;
+    each(list, all, queues, known, kinds::ORDER, v, 1)?;
+    let k = v.set.count_ones() as u8;
     each(list, all, queues, known, kinds::DELIVER, v, k)
 }
 
@@ -102,14 +86,8 @@ fn round(
         (round_steps first last (id_of v) (servers_of v))
         (ranges list.new all.new queues.new) result }
 {
-    let begun = each(list, all, queues, known, first, v, 1);
-    let Verdict::Accepted = begun else {
-        return begun;
-    };
-    let exchanged = exchange(list, all, queues, known, v);
-    let Verdict::Accepted = exchanged else {
-        return exchanged;
-    };
+    each(list, all, queues, known, first, v, 1)?;
+    exchange(list, all, queues, known, v)?;
     each(list, all, queues, known, last, v, 1)
 }
 
@@ -120,9 +98,6 @@ pub fn steps(list: &mut [u8], all: &mut [u8], queues: &mut [u8], known: bool, v:
         (form_steps v)
         (ranges list.new all.new queues.new) result }
 {
-    let attempted = round(list, all, queues, known, kinds::JOIN, kinds::ATTEMPT, v);
-    let Verdict::Accepted = attempted else {
-        return attempted;
-    };
+    round(list, all, queues, known, kinds::JOIN, kinds::ATTEMPT, v)?;
     round(list, all, queues, known, kinds::REGISTER, kinds::COLLECT, v)
 }

@@ -43,12 +43,11 @@ fn keeping_queues(list: &mut [u8], all: &mut [u8], queues: &mut [u8], v: View, i
 {
     let mut kept = [0u8; KEPT];
     save(&mut kept, queues, i);
-    let x = crate::drive::steps(list, all, queues, false, v);
-    let Verdict::Accepted = x else {
+    let taken = crate::drive::steps(list, all, queues, false, v);
+    if taken.is_err() {
         restore(queues, &kept, i);
-        return x;
-    };
-    Verdict::Accepted
+    }
+    taken
 }
 
 // The steps; after a refusal the books too are as they were.
@@ -59,12 +58,11 @@ fn keeping_books(list: &mut [u8], all: &mut [u8], queues: &mut [u8], v: View, i:
 {
     let mut kept = [0u8; group_bytes::BOOKS];
     wire::writer::copy(&mut kept, 0, all, 0, group_bytes::BOOKS);
-    let x = keeping_queues(list, all, queues, v, i);
-    let Verdict::Accepted = x else {
+    let taken = keeping_queues(list, all, queues, v, i);
+    if taken.is_err() {
         wire::writer::copy(all, 0, &kept, 0, group_bytes::BOOKS);
-        return x;
-    };
-    Verdict::Accepted
+    }
+    taken
 }
 
 // All the steps that form the newest view, at the last place, or none of them. If no client view is above its carrier

@@ -1,7 +1,7 @@
 -- The list by value as bytes.
 use mathlib.Core.Path.{◌≡◌, refl, sym, ◌∙◌, ap}
 use mathlib.Core.List.{List, ◌++◌, append-nil}
-use Prim.Native.Nat.{ℕ, ◌+◌, ◌-◌, ◌*◌, ◌≤◌, ◌<◌, min}
+use Prim.Native.Nat.{ℕ, ◌+◌, ◌*◌, ◌≤◌, ◌<◌, min}
 use native.Mathlib.Decide.{dec_le}
 use native.Mathlib.Omega.{arith}
 use borrow.Author.Tests.{lt-ltb, le-ltb}
@@ -68,20 +68,20 @@ module _ (l : Views) (z : length l.at ≡ max_views) where
 -- ---- the part of the bytes d that is put to the group, and the part p that comes back
 
 module _ (l : Views) (d : List ℕ) (e : ℕ) (h : e ≡ length (bytes_in l)) (f : take (length (bytes_in l)) d ≡ bytes_in l) where
-  pub part_in : take (e - 0) d ≡ bytes_in l
-  part_in = let k : e - 0 ≡ length (bytes_in l) = omega (arith, h) in rw k f
+  pub part_in : take e d ≡ bytes_in l
+  part_in = let k : e ≡ length (bytes_in l) = omega (arith, h) in rw k f
 
   pub part_end : e ≤ length d
   part_end =
       let k : min (length (bytes_in l)) (length d) ≡ length (bytes_in l) = sym (length-take (length (bytes_in l)) d) ∙ ap length f in
       omega (arith, h, k)
 
-  module _ (p r : List ℕ) (same : length p ≡ length (take (e - 0) d)) where
+  module _ (p r : List ℕ) (same : length p ≡ length (take e d)) where
     part-size : length p ≡ e
     part-size = same ∙ ap length part_in ∙ sym h
 
     pub part-more : e ≤ length (p ++ r)
     part-more = omega (arith, part-size, length-append p r)
 
-    pub part_left : take (e - 0) (p ++ r) ≡ p
-    part_left = take_at p r (e - 0) (omega (arith, part-size))
+    pub part_left : take e (p ++ r) ≡ p
+    part_left = take_at p r e (omega (arith, part-size))

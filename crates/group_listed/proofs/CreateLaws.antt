@@ -2,24 +2,25 @@
 use mathlib.Core.Path.{◌≡◌, refl, sym, ◌∙◌, ap, ap₂}
 use mathlib.Core.Bool.{Bool, true, false}
 use mathlib.Core.List.{List, [], ◌∷◌}
-use Prim.Native.Nat.{ℕ, ◌+◌, ◌≤◌, ◌<◌, min}
+use Prim.Native.Nat.{ℕ, ◌≤◌, ◌<◌, min}
 use native.Mathlib.Decide.{dec_le}
 use native.Mathlib.Omega.{arith}
 use borrow.Author.Tests.{lt-ltb, le-ltb, le-leb, lt-leb, leb-true}
 use lib.Dec.{leb}
-use lib.ListN.{length, get_or, set, take, drop, replicate, length-take}
+use lib.ListN.{length, set, take, replicate, length-take}
 use lib.Seq.{take-take, take_all, take-append-le, set_out}
+use Rattle.std.proofs.Common.{◌&&◌}
+use Rattle.std.specs.List.{list_all}
 use Rattle.views.specs.declared.View.{View}
 use Rattle.views.specs.declared.list.Views.{Views}
 use Rattle.views.specs.declared.refusal.Refusal.TheVariants.{RecordsUnsound, SetUnfit, IdentifierNotAbove, ListFull}
-use Rattle.views.specs.declared.refusal.Verdict.{Verdict}
-use Rattle.views.specs.declared.refusal.Verdict.TheVariants.{Accepted, Refused}
+use Rattle.views.specs.Refusals.{Verdict, left}
+use Rattle.std.specs.Prelude.{Ok, Err}
 use Rattle.views.specs.Limits.{max_members, max_views}
-use Rattle.views.specs.Lists.{id_of, view_of, no_view, list_of, places, placed, is_rising}
+use Rattle.views.specs.Lists.{view_of, no_view, list_of, places, placed, is_rising}
 use Rattle.views.specs.Sets.{both, fits}
-use Rattle.views.proofs.PlaceLaws.{drop-used, length-places, length-used, list-placed}
+use Rattle.views.proofs.PlaceLaws.{length-places, length-used, list-placed}
 use Rattle.views.proofs.SetLaws.{both_true}
-use Rattle.views.specs.Refusals.{left}
 use Rattle.rules.specs.Data.{need}
 use Rattle.rules.specs.Member.{all}
 use Rattle.rules.specs.Sound.{within, conditions, set_fits}
@@ -33,43 +34,50 @@ use Rattle.group_listed.specs.CreateParts.{counts_fit, sound_by, creating_by, at
 
 -- ---- the views made
 
-pub first-less : (l : Views) (made : ℕ) → made < l.count → take made l.at ≡ take made (list_of l)
-first-less l made h = sym (take-take made l.count l.at (omega (arith, h)))
+list-all : (f : View → Bool) (l : List View) → list_all f l ≡ all f l
+unfolding all
+list-all f [] = refl
+list-all f (v ∷ l) = and_both (f v) (list_all f l) ∙ ap (both (f v)) (list-all f l)
+  where
+    and_both : (a b : Bool) → (a && b) ≡ both a b
+    and_both true b = refl
+    and_both false b = refl
 
-pub first-all : (l : Views) (made : ℕ) → l.count ≤ made → list_of l ≡ take made (list_of l)
-first-all l made h = sym (take_all made (list_of l) (let n : length (list_of l) ≡ min l.count (length l.at) = length-take l.count l.at in omega (arith, n, h)))
-
-module _ (count : ℕ) (at : List View) (i : ℕ) (h : i < length (take count at)) (g : ℕ) where
-  pub not-below : g ≤ id_of (get_or at i no_view) → all_below g (drop i (take count at)) ≡ false
-  unfolding all
-  not-below e = rw (drop-used count at i h, le-ltb _ _ e) refl
-
-  pub below_on : id_of (get_or at i no_view) < g → all_below g (drop i (take count at)) ≡ all_below g (drop (i + 1) (take count at))
-  unfolding all
-  below_on e = rw (drop-used count at i h, lt-ltb _ _ e) refl
-
-module _ (count : ℕ) (at : List View) (i : ℕ) (h : i < length (take count at)) (n : ℕ) where
-  pub not-fit : fits n (get_or at i no_view).set ≡ false → all (set_fits n) (drop i (take count at)) ≡ false
-  unfolding all
-  not-fit e = rw (drop-used count at i h, e) refl
-
-  pub fit_on : fits n (get_or at i no_view).set ≡ true → all (set_fits n) (drop i (take count at)) ≡ all (set_fits n) (drop (i + 1) (take count at))
-  unfolding all
-  fit_on e = rw (drop-used count at i h, e) refl
+-- all the library's way of the places in use is all the rules' way of the list
+pub all-used : (f : View → Bool) (l : Views) (n : ℕ) → length l.at ≡ max_views → n ≡ min l.count max_views → list_all f (take n l.at) ≡ all f (list_of l)
+all-used f l n z e = list-all f (take n l.at) ∙ ap (all f) (elim (dec_le l.count max_views) [ yes h ↦ ap (λ (k : ℕ). take k l.at) (omega (arith, e, h)) | no h ↦ take_all n l.at (omega (arith, e, h, z)) ∙ sym (take_all l.count l.at (omega (arith, h, z))) ])
 
 -- ---- whether they are sound
 
-counts-order : (a b c d e f : Bool) → conditions (both a b ∷ both c d ∷ both e f ∷ []) ≡ both a (both b (both c (both d (both e f))))
+three : (a b c : Bool) → conditions (a ∷ b ∷ c ∷ []) ≡ both a (both b c)
 unfolding conditions
-counts-order false b c d e f = refl
-counts-order true false c d e f = refl
-counts-order true true false d e f = refl
-counts-order true true true false e f = refl
-counts-order true true true true e f = rw (both-unit (both e f))
+three false b c = refl
+three true false c = refl
+three true true c = both-unit c
 
-pub counts-are : (n room made : ℕ) → counts_fit n room made ≡ both (leb 1 n) (both (leb n max_members) (both (leb 1 room) (both (leb room max_views) (both (leb 1 made) (leb made room)))))
+counts-are : (n room made : ℕ) → counts_fit n room made ≡ both (within 1 n max_members) (both (within 1 room max_views) (within 1 made room))
 unfolding counts_fit
-counts-are n room made = counts-order (leb 1 n) (leb n max_members) (leb 1 room) (leb room max_views) (leb 1 made) (leb made room)
+counts-are n room made = three (within 1 n max_members) (within 1 room max_views) (within 1 made room)
+
+first_out : (a b : Bool) → a ≡ false → false ≡ both a b
+first_out a b e = rw e
+
+second_out : (a b c : Bool) → a ≡ true → b ≡ false → false ≡ both a (both b c)
+second_out a b c e f = rw (e, f)
+
+third : (a b c : Bool) → a ≡ true → b ≡ true → c ≡ both a (both b c)
+third a b c e f = rw (e, f)
+
+-- each way out of the test of the counts
+module _ (n room made : ℕ) where
+  pub members-out : within 1 n max_members ≡ false → false ≡ counts_fit n room made
+  members-out e = first_out _ _ e ∙ sym (counts-are n room made)
+
+  pub room-out : within 1 n max_members ≡ true → within 1 room max_views ≡ false → false ≡ counts_fit n room made
+  room-out e f = second_out _ _ _ e f ∙ sym (counts-are n room made)
+
+  pub made-last : within 1 n max_members ≡ true → within 1 room max_views ≡ true → within 1 made room ≡ counts_fit n room made
+  made-last e f = third _ _ _ e f ∙ sym (counts-are n room made)
 
 sound-order : (a b c d e : Bool) → conditions (a ∷ b ∷ c ∷ d ∷ e ∷ []) ≡ both (conditions (a ∷ b ∷ c ∷ [])) (both d e)
 unfolding conditions
@@ -123,30 +131,30 @@ module _ (n made : ℕ) (l : Views) (z : length l.at ≡ max_views) where
 -- ---- the rule
 
 module _ (n room : ℕ) (views : List View) (g S : ℕ) where
-  pub set-unfit : fits n S ≡ false → Refused SetUnfit ≡ verdict_of (creates (list_group n room views) g S)
+  pub set-unfit : fits n S ≡ false → Err SetUnfit ≡ verdict_of (creates (list_group n room views) g S)
   unfolding creates need
   set-unfit e = rw e refl
 
   module _ (a : fits n S ≡ true) where
-    pub not-above : all_below g views ≡ false → Refused IdentifierNotAbove ≡ verdict_of (creates (list_group n room views) g S)
+    pub not-above : all_below g views ≡ false → Err IdentifierNotAbove ≡ verdict_of (creates (list_group n room views) g S)
     unfolding creates need
     not-above e = rw (a, e) refl
 
     module _ (b : all_below g views ≡ true) where
-      pub list_full : room ≤ length views → Refused ListFull ≡ verdict_of (creates (list_group n room views) g S)
+      pub list_full : room ≤ length views → Err ListFull ≡ verdict_of (creates (list_group n room views) g S)
       unfolding creates need
       list_full h = rw (a, b, le-ltb _ _ h) refl
 
-      pub made-next : length views < room → Accepted ≡ verdict_of (creates (list_group n room views) g S)
+      pub made-next : length views < room → (Ok tt) ≡ verdict_of (creates (list_group n room views) g S)
       unfolding creates need
       made-next h = rw (a, b, lt-ltb _ _ h) refl
 
 module _ (n made : ℕ) (l : Views) (g S : ℕ) where
-  pub by-unsound : sound_by n made l ≡ false → Refused RecordsUnsound ≡ verdict_of (creating_by n made l g S)
+  pub by-unsound : sound_by n made l ≡ false → Err RecordsUnsound ≡ verdict_of (creating_by n made l g S)
   unfolding sound_by creating_by creating need
   by-unsound e = either (leb l.count max_views) (list_sound n made (list_of l)) e
     where
-      either : (a b : Bool) → both a b ≡ false → Refused RecordsUnsound ≡ verdict_of (need a RecordsUnsound (need b RecordsUnsound (creates (list_group n (length (list_of l)) (made_in made (list_of l))) g S)))
+      either : (a b : Bool) → both a b ≡ false → Err RecordsUnsound ≡ verdict_of (need a RecordsUnsound (need b RecordsUnsound (creates (list_group n (length (list_of l)) (made_in made (list_of l))) g S)))
       either false b e = refl
       either true b e = rw e refl
 
@@ -205,7 +213,7 @@ created-in ys made g S n l same x c zs put =
     }
   where
     by-verdict : (w : Verdict) → x.verdict ≡ w → l.count ≡ length ys → zs ≡ left w (set ys made (view_of g S)) ys
-    by-verdict Accepted e k = put ∙ ap (λ (i : ℕ). set ys i x.view) (c.at ∙ ap (λ (w : Verdict). at_of w made l.count) e) ∙ ap (set ys made) c.view
-    by-verdict (Refused y) e k =
+    by-verdict (Ok u) e k = put ∙ ap (λ (i : ℕ). set ys i x.view) (c.at ∙ ap (λ (w : Verdict). at_of w made l.count) e) ∙ ap (set ys made) c.view
+    by-verdict (Err y) e k =
         let a : x.at ≡ length ys = c.at ∙ ap (λ (w : Verdict). at_of w made l.count) e ∙ k in
         put ∙ set_out ys x.at x.view (omega (arith, a))

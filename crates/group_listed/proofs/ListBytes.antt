@@ -8,12 +8,11 @@ use lib.ListN.{length, length-replicate}
 use lib.Seq.{take_all, drop-nil}
 use Rattle.views.specs.declared.View.{View}
 use Rattle.views.specs.declared.refusal.Refusal.TheVariants.{RecordsUnsound}
-use Rattle.views.specs.declared.refusal.Verdict.{Verdict}
-use Rattle.views.specs.declared.refusal.Verdict.TheVariants.{Accepted, Refused}
+use Rattle.views.specs.Refusals.{Verdict, left}
+use Rattle.std.specs.Prelude.{Ok, Err}
 use Rattle.views.specs.Sizes.{view_size}
 use Rattle.views.specs.Sets.{one}
 use Rattle.views.proofs.SetLaws.{both_true}
-use Rattle.views.specs.Refusals.{left}
 use Rattle.wire.specs.Format.{views_bytes}
 use Rattle.wire.specs.Reader.{views_in}
 use Rattle.wire.proofs.SeamLaws.{length-views_bytes}
@@ -24,8 +23,7 @@ use Rattle.rules.specs.Group.{Next, creates, pick, step_of}
 use Rattle.slots.proofs.BytesKept.{sets-fit, store_view-bytes, store_views-bytes}
 use Rattle.slots.proofs.Outside.{store_view-changed}
 use Rattle.wire.specs.Writer.{store_views}
-use Rattle.events.specs.declared.Reply.{Reply}
-use Rattle.events.specs.Replies.{verdict_of}
+use Rattle.events.specs.Replies.{Reply, verdict_of}
 use Rattle.book_steps.proofs.Means.{gave}
 use Rattle.group_bytes.specs.Groups.{Ranges, made_of, group_in, ranges_fit, ranges_sound}
 use Rattle.group_bytes.specs.Starts.{start_ranges}
@@ -90,27 +88,26 @@ module _ (l : List View) (b q : List ℕ) (c : Step) (k : List View) (d e : List
   are-bytes : AreBytes list_left
   are-bytes = step-bytes R c (fit-bytes l fits)
 
-  left_is : (v : Verdict) → x.verdict ≡ v → k ≡ left v (views_in list_left 0 n) l
-  left_is v f = w.list ∙ ap (λ (v : Verdict). left v (views_in list_left 0 n) l) f
+  left_is : (y : Reply) → x ≡ y → k ≡ left y (views_in list_left 0 n) l
+  left_is y f = w.list ∙ ap (λ (z : Reply). left z (views_in list_left 0 n) l) f
 
-  list-is : (v : Verdict) → x.verdict ≡ v → views_bytes k ≡ list_left
+  list-is : (y : Reply) → x ≡ y → views_bytes k ≡ list_left
   unfolding left
-  list-is Accepted f = ap views_bytes (left_is Accepted f) ∙ views-written list_left n ((step-changed R c).long ∙ length-views_bytes l) are-bytes
-  list-is (Refused y) f =
-      ap views_bytes (left_is (Refused y) f) ∙ sym (ap (λ (r : Ranges). r.list) (step-refused R c y (sym (ap (λ (z : Reply). z.verdict) w.reply) ∙ f)))
+  list-is (Ok u) f = ap views_bytes (left_is (Ok u) f) ∙ views-written list_left n ((step-changed R c).long ∙ length-views_bytes l) are-bytes
+  list-is (Err y) f = ap views_bytes (left_is (Err y) f) ∙ sym (ap (λ (r : Ranges). r.list) (step-refused R c y (sym w.reply ∙ f)))
 
-  fit-left : (v : Verdict) → x.verdict ≡ v → EachFits k
+  fit-left : (y : Reply) → x ≡ y → EachFits k
   unfolding left
-  fit-left Accepted f = rw (left_is Accepted f) (views-fit list_left 0 n are-bytes)
-  fit-left (Refused y) f = rw (left_is (Refused y) f) fits
+  fit-left (Ok u) f = rw (left_is (Ok u) f) (views-fit list_left 0 n are-bytes)
+  fit-left (Err y) f = rw (left_is (Err y) f) fits
 
   -- the views left are within their widths again
   pub went-fits : EachFits k
-  went-fits = fit-left x.verdict refl
+  went-fits = fit-left x refl
 
   -- the list list_left, as bytes, is the list of bytes that the step leaves, and the books and the queues are the same
   pub went-ranges : ranges_of k d e ≡ step_ranges R c
-  went-ranges = λ i. record { list = list-is x.verdict refl i; books = w.books i; queues = w.queues i }
+  went-ranges = λ i. record { list = list-is x refl i; books = w.books i; queues = w.queues i }
 
 -- ---- the records after a start
 
@@ -122,14 +119,14 @@ module _ (l : List View) (b q : List ℕ) (n S : ℕ) (k : List View) (d e : Lis
   left₀ = (start_ranges n S R₀).list
 
   -- an accepted start gave a group
-  gave-group : (x : Result Group) → Accepted ≡ verdict_of x → (s : Group) × (x ≡ accepted s)
+  gave-group : (x : Result Group) → (Ok tt) ≡ verdict_of x → (s : Group) × (x ≡ accepted s)
   gave-group (accepted s) f = (s, refl)
   gave-group (refused y) f = let z : ◌≡◌ {A = ℕ} 0 1 = cc in absurd (omega arith)
 
-  pub began-group : v ≡ Accepted → (s : Group) × (start_result n S R₀ ≡ accepted s)
+  pub began-group : v ≡ Ok tt → (s : Group) × (start_result n S R₀ ≡ accepted s)
   began-group f = gave-group (start_result n S R₀) (sym f ∙ w.verdict)
 
-  began-bytes : v ≡ Accepted → AreBytes left₀
+  began-bytes : v ≡ Ok tt → AreBytes left₀
   began-bytes f = let (s, g) = began-group f in (start-group n S R₀ (gave (start_result n S R₀) s (start-holds n S R₀) g).0).bytes.list
 
   began-is : (u : Verdict) → v ≡ u → k ≡ left u (views_in left₀ 0 (length l)) l
@@ -141,12 +138,12 @@ module _ (l : List View) (b q : List ℕ) (n S : ℕ) (k : List View) (d e : Lis
 
   began-list : (u : Verdict) → v ≡ u → views_bytes k ≡ (left u (start_ranges n S R₀) R₀).list
   unfolding left
-  began-list Accepted f = ap views_bytes (began-is Accepted f) ∙ views-written left₀ (length l) began-long (began-bytes f)
-  began-list (Refused y) f = ap views_bytes (began-is (Refused y) f)
+  began-list (Ok u) f = ap views_bytes (began-is (Ok tt) f) ∙ views-written left₀ (length l) began-long (began-bytes f)
+  began-list (Err y) f = ap views_bytes (began-is (Err y) f)
 
-  pub began-fits : v ≡ Accepted → EachFits k
+  pub began-fits : v ≡ Ok tt → EachFits k
   unfolding left
-  began-fits f = rw (began-is Accepted f) (views-fit left₀ 0 (length l) (began-bytes f))
+  began-fits f = rw (began-is (Ok tt) f) (views-fit left₀ 0 (length l) (began-bytes f))
 
   pub began-ranges : ranges_of k d e ≡ left v (start_ranges n S R₀) R₀
   began-ranges = λ i. record { list = began-list v refl i; books = w.books i; queues = w.queues i }

@@ -9,11 +9,10 @@ use borrow.Author.Tests.{lt-ltb}
 use lib.ListN.{length, get_or, set, length-set}
 use lib.Seq.{ext_get_or, get_or-set_same, get_or-set_other}
 use Rattle.views.specs.declared.View.{View}
-use Rattle.views.specs.declared.refusal.Verdict.{Verdict}
-use Rattle.views.specs.declared.refusal.Verdict.TheVariants.{Accepted, Refused}
+use Rattle.views.specs.Refusals.{Verdict, left}
+use Rattle.std.specs.Prelude.{Ok, Err}
 use Rattle.views.specs.Sizes.{view_size}
 use Rattle.views.specs.Lists.{no_view}
-use Rattle.views.specs.Refusals.{left}
 use Rattle.wire.specs.Format.{views_bytes}
 use Rattle.wire.specs.Reader.{view_in, views_in}
 use Rattle.wire.proofs.ReaderLaws.{length-views_in, views-at}
@@ -61,8 +60,8 @@ module _ (r : Ranges) (c : Step) where
 
   left-changed : (v : Verdict) → Kept (left v (moved r c) r).list
   unfolding left
-  left-changed Accepted = moved-list Kept c.kind same (λ e. store_view-changed r.list (view_size * made_of r) next)
-  left-changed (Refused x) = same
+  left-changed (Ok u) = moved-list Kept c.kind same (λ e. store_view-changed r.list (view_size * made_of r) next)
+  left-changed (Err x) = same
 
   pub step-changed : Kept (step_ranges r c).list
   unfolding step_ranges

@@ -1,29 +1,19 @@
 -- The whole list by value: place after place it is the list in its places. A list laid afresh, place by place.
 use mathlib.Core.Path.{◌≡◌, refl, sym, ◌∙◌, ap}
-use mathlib.Core.List.{List, [], ◌∷◌, ◌++◌, append_assoc}
-use Prim.Native.Nat.{ℕ, zero, suc, ◌+◌, ◌-◌, ◌≤◌, ◌<◌}
+use mathlib.Core.List.{List, [], ◌∷◌, ◌++◌}
+use Prim.Native.Nat.{ℕ, zero, suc, ◌+◌, ◌-◌, ◌≤◌, ◌<◌, min}
 use native.Mathlib.Decide.{dec_le}
 use native.Mathlib.Omega.{arith}
-use lib.ListN.{length, get_or, set, take, drop, replicate, length-append, length-set}
-use lib.Seq.{set_at, get_or-set_same, get_or-set_other}
+use lib.ListN.{length, get_or, set, take, drop, replicate, length-set}
+use lib.Seq.{get_or-set_same, get_or-set_other}
 use Rattle.views.specs.declared.View.{View}
-use Rattle.views.specs.declared.list.Views.{Views}
 use Rattle.views.specs.Limits.{max_views}
 use Rattle.views.specs.Lists.{no_view, places, placed}
-use Rattle.group_listed.specs.SliceParts.{blank, with_view, gathered, laid}
+use Rattle.group_listed.specs.SliceParts.{laid}
 
 -- one more place below the last
 falls : (i : ℕ) → i < max_views → max_views - i ≡ suc (max_views - (i + 1))
 falls i h = omega arith
-
-pub gathered-last : (l : List View) (i : ℕ) (d : Views) → max_views ≤ i → d ≡ gathered (max_views - i) l i d
-unfolding gathered
-gathered-last l i d h = let e : max_views - i ≡ 0 = omega arith in rw e refl
-
-pub gathered-step : (l : List View) (i : ℕ) (d : Views) → i < max_views
-    → gathered (max_views - (i + 1)) l (i + 1) (with_view d i (get_or l i no_view)) ≡ gathered (max_views - i) l i d
-unfolding gathered
-gathered-step l i d h = rw (falls i h) refl
 
 pub laid-last : (l : List View) (i : ℕ) (v : View) → max_views ≤ i → l ≡ laid (max_views - i) l i v
 unfolding laid
@@ -76,25 +66,16 @@ firsts-are (suc k) zero [] h = absurd (omega (arith, h))
 firsts-are (suc k) (suc m) [] h = ap (λ (t : List View). no_view ∷ t) (firsts-are k m [] (omega arith))
 firsts-are (suc k) m (v ∷ l) h = ap (λ (t : List View). v ∷ t) (firsts-are k m l (omega arith))
 
-firsts-from : (k i : ℕ) (l : List View) → firsts (suc k) (drop i l) ≡ get_or l i no_view ∷ firsts k (drop (suc i) l)
+-- the first views copied over unused places
+copied : (k : ℕ) (l : List View) (n : ℕ) → n ≡ min (length l) k → take n l ++ drop n (replicate k no_view) ≡ firsts k l
 unfolding firsts
-firsts-from k zero [] = refl
-firsts-from k (suc i) [] = refl
-firsts-from k zero (v ∷ l) = refl
-firsts-from k (suc i) (v ∷ l) = firsts-from k i l
+copied zero l n e = let z : n ≡ 0 = omega (arith, e) in rw z
+copied (suc k) [] n e = let z : n ≡ 0 = omega (arith, e) in rw z (ap (λ (t : List View). no_view ∷ t) (copied k [] 0 (omega arith)))
+copied (suc k) (v ∷ l) zero e = absurd (omega (arith, e))
+copied (suc k) (v ∷ l) (suc n) e = ap (λ (t : List View). v ∷ t) (copied k l n (omega (arith, e)))
 
-filled : (k : ℕ) (l : List View) (i n : ℕ) (a : List View) → length a ≡ i
-    → gathered k l i (record { count = n; at = a ++ replicate k no_view }) ≡ record { count = n; at = a ++ firsts k (drop i l) }
-unfolding gathered firsts
-filled zero l i n a e = refl
-filled (suc k) l i n a e =
-    let v = get_or l i no_view in
-    let z : length (a ++ v ∷ []) ≡ i + 1 = rw (length-append a (v ∷ []), e) refl in
-    let s : set (a ++ no_view ∷ replicate k no_view) i v ≡ (a ++ v ∷ []) ++ replicate k no_view = set_at a no_view (replicate k no_view) v i e ∙ sym (append_assoc a (v ∷ []) (replicate k no_view)) in
-    let m : i + 1 ≡ suc i = omega arith in
-    let t : (a ++ v ∷ []) ++ firsts k (drop (i + 1) l) ≡ a ++ firsts (suc k) (drop i l) = append_assoc a (v ∷ []) (firsts k (drop (i + 1) l)) ∙ ap (λ (u : List View). a ++ u) (ap (λ (j : ℕ). v ∷ firsts k (drop j l)) m ∙ sym (firsts-from k i l)) in
-    ap (λ (u : List View). gathered k l (i + 1) (record { count = n; at = u })) s ∙ filled k l (i + 1) n (a ++ v ∷ []) z ∙ ap (λ (u : List View). record { count = n; at = u }) t
-
-pub gathered-whole : (l : List View) → gathered max_views l 0 (blank (length l)) ≡ placed l
+pub placed-copied : (l : List View) (n : ℕ) → n ≡ min (length l) max_views → (a : List View) → a ≡ take n l
+    → record { count = length l; at = a ++ drop n (replicate max_views no_view) } ≡ placed l
 unfolding places
-gathered-whole l = filled max_views l 0 (length l) [] refl ∙ ap (λ (u : List View). record { count = length l; at = u }) (sym (firsts-are max_views max_views l (omega arith)))
+placed-copied l n e a f =
+    ap (λ (t : List View). record { count = length l; at = t }) (rw f (copied max_views l n e ∙ sym (firsts-are max_views max_views l (omega arith))))

@@ -15,14 +15,13 @@ use Rattle.views.specs.declared.View.{View}
 use Rattle.views.specs.declared.list.Views.{Views}
 use Rattle.views.specs.declared.refusal.Refusal.{Refusal}
 use Rattle.views.specs.declared.refusal.Refusal.TheVariants.{RecordsUnsound, MembersOutOfRange, FirstSetUnfit, ListLength}
-use Rattle.views.specs.declared.refusal.Verdict.{Verdict}
-use Rattle.views.specs.declared.refusal.Verdict.TheVariants.{Accepted, Refused}
+use Rattle.views.specs.Refusals.{Verdict, left}
+use Rattle.std.specs.Prelude.{Ok, Err}
 use Rattle.views.specs.Limits.{max_views, max_members}
 use Rattle.views.specs.Sizes.{view_size}
 use Rattle.views.specs.Lists.{no_view, list_of, placed}
 use Rattle.views.specs.Sets.{both, fits}
 use Rattle.views.proofs.PlaceLaws.{length-places, list-placed}
-use Rattle.views.specs.Refusals.{left}
 use Rattle.wire.specs.Format.{views_bytes}
 use Rattle.wire.specs.Reader.{view_in, views_in}
 use Rattle.wire.proofs.ReaderLaws.{length-views_in, views-at}
@@ -133,8 +132,8 @@ module _ (ys : List View) (b q : List ℕ) (n S : ℕ) (l : Views) (same : l ≡
 
     left-views : (w : Verdict) → x.verdict ≡ w → zs ≡ left w (views_in (start_ranges n S R).list 0 (length ys)) ys
     unfolding start_ranges laid left
-    left-views Accepted k = laid_from Accepted (s.at ∙ ap from_of (sym s.verdict ∙ k)) ∙ laid-first ys S h
-    left-views (Refused y) k = laid_from (Refused y) (s.at ∙ ap from_of (sym s.verdict ∙ k))
+    left-views (Ok u) k = laid_from (Ok tt) (s.at ∙ ap from_of (sym s.verdict ∙ k)) ∙ laid-first ys S h
+    left-views (Err y) k = laid_from (Err y) (s.at ∙ ap from_of (sym s.verdict ∙ k))
 
     short-began : Began ys b q n S zs d e x.verdict
     short-began = record {
@@ -161,12 +160,12 @@ module _ (ys : List View) (b q : List ℕ) (n S : ℕ) (l : Views) (same : l ≡
     of-y : start_result n S R ≡ refused y
     of-y = let k : length (views_bytes ys) ≡ 5 * length ys = length-views_bytes ys in long-start n S R (rw k (omega arith)) (rw k (omega (arith, h))) ∙ is_y
 
-    verdict-y : x.verdict ≡ Refused y
+    verdict-y : x.verdict ≡ Err y
     verdict-y = s.verdict ∙ ap verdict_of in-y
 
     stays : zs ≡ ys
     unfolding laid
-    stays = laid_from (Refused y) (s.at ∙ ap (λ (t : Result Group). from_of (verdict_of t)) in-y)
+    stays = laid_from (Err y) (s.at ∙ ap (λ (t : Result Group). from_of (verdict_of t)) in-y)
 
     long-began : Began ys b q n S zs d e x.verdict
     unfolding left

@@ -1,4 +1,5 @@
 -- A step, and a start, with the list by value: what is put to the group is the list's bytes.
+use Rattle.std.specs.Prelude.{Ok, Err}
 use mathlib.Core.Path.{◌≡◌, refl, sym, ◌∙◌, ap, subst}
 use mathlib.Core.List.{List}
 use mathlib.Core.Bool.{true, false}
@@ -12,13 +13,11 @@ use lib.Seq.{set_out}
 use Rattle.views.specs.declared.View.{View}
 use Rattle.views.specs.declared.list.Views.{Views}
 use Rattle.views.specs.declared.refusal.Refusal.TheVariants.{RecordsUnsound}
-use Rattle.views.specs.declared.refusal.Verdict.{Verdict}
-use Rattle.views.specs.declared.refusal.Verdict.TheVariants.{Accepted, Refused}
+use Rattle.views.specs.Refusals.{Verdict, left}
 use Rattle.views.specs.Limits.{max_views}
 use Rattle.views.specs.Lists.{list_of, placed}
 use Rattle.views.proofs.PlaceLaws.{length-places, list-placed}
 use Rattle.views.proofs.SetLaws.{known}
-use Rattle.views.specs.Refusals.{left}
 use Rattle.wire.specs.Format.{views_bytes}
 use Rattle.wire.specs.Reader.{views_in}
 use Rattle.wire.proofs.SeamLaws.{length-views_bytes}
@@ -26,8 +25,7 @@ use Rattle.wire.proofs.TripViews.{EachFits}
 use Rattle.wire.proofs.RecordTrip.{take-fit}
 use Rattle.rules.specs.Data.{Step}
 use Rattle.rules.specs.Group.{first_view}
-use Rattle.events.specs.declared.Reply.{Reply}
-use Rattle.events.specs.Replies.{no_event}
+use Rattle.events.specs.Replies.{Reply}
 use Rattle.group_bytes.specs.Places.{room_of}
 use Rattle.group_bytes.specs.Groups.{Ranges, ranges, made_of, ranges_fit}
 use Rattle.group_bytes.specs.Answers.{next_reply}
@@ -105,17 +103,17 @@ module _ (ys : List View) (b q : List ℕ) (c : Step) (l : Views) (same : l ≡ 
     reply-is : x.reply ≡ step_reply R c
     reply-is = s.reply ∙ ap (λ (r : Ranges). step_reply r c) ranges-are
 
-    left-views : (v : Verdict) → x.reply.verdict ≡ v → zs ≡ left v (views_in (step_ranges R c).list 0 n) ys
+    left-views : (y : Reply) → x.reply ≡ y → zs ≡ left y (views_in (step_ranges R c).list 0 n) ys
     unfolding left
-    left-views Accepted k = filled
-    left-views (Refused y) k =
-        let t : step_ranges R c ≡ R = step-refused R c y (sym (ap (λ (z : Reply). z.verdict) reply-is) ∙ k) in
+    left-views (Ok u) k = filled
+    left-views (Err y) k =
+        let t : step_ranges R c ≡ R = step-refused R c y (sym reply-is ∙ k) in
         filled ∙ ap (λ (r : Ranges). views_in r.list 0 n) t ∙ views-whole ys each
 
     short-went : Went ys b q c zs d e x.reply
     short-went = record {
       reply = reply-is;
-      list = left-views x.reply.verdict refl;
+      list = left-views x.reply refl;
       books = s.books ∙ ap (λ (r : Ranges). (step_ranges r c).books) ranges-are;
       queues = s.queues ∙ ap (λ (r : Ranges). (step_ranges r c).queues) ranges-are;
     }
@@ -133,7 +131,7 @@ module _ (ys : List View) (b q : List ℕ) (c : Step) (l : Views) (same : l ≡ 
     unfit : ranges_fit R ≡ false
     unfit = long-unfit R (let k : length (views_bytes ys) ≡ 5 * n = length-views_bytes ys in rw k (omega (arith, h)))
 
-    refusal : (r : Ranges) → ranges_fit r ≡ false → step_reply r c ≡ record { verdict = Refused RecordsUnsound; event = no_event }
+    refusal : (r : Ranges) → ranges_fit r ≡ false → step_reply r c ≡ Err RecordsUnsound
     unfolding step_reply
     refusal r f = ap next_reply (step-unfit r f c).0
 
@@ -146,10 +144,10 @@ module _ (ys : List View) (b q : List ℕ) (c : Step) (l : Views) (same : l ≡ 
     long-went : Went ys b q c zs d e x.reply
     unfolding left
     long-went =
-        let r : x.reply ≡ record { verdict = Refused RecordsUnsound; event = no_event } = s.reply ∙ refusal L unfit-in in
+        let r : x.reply ≡ Err RecordsUnsound = s.reply ∙ refusal L unfit-in in
         record {
           reply = r ∙ sym (refusal R unfit);
-          list = stays ∙ sym (ap (λ (t : Reply). left t.verdict (views_in (step_ranges R c).list 0 n) ys) r);
+          list = stays ∙ sym (ap (λ (t : Reply). left t (views_in (step_ranges R c).list 0 n) ys) r);
           books = s.books ∙ ap (λ (t : Ranges). t.books) (step-unfit L unfit-in c).1 ∙ sym (ap (λ (t : Ranges). t.books) (step-unfit R unfit c).1);
           queues = s.queues ∙ ap (λ (t : Ranges). t.queues) (step-unfit L unfit-in c).1 ∙ sym (ap (λ (t : Ranges). t.queues) (step-unfit R unfit c).1);
         }

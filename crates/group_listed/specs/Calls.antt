@@ -2,13 +2,11 @@
 -- the views.
 use Rattle.std.specs.Prelude.{◌≡◌, List, ℕ, length}
 use Rattle.views.specs.declared.View.{View}
-use Rattle.views.specs.declared.refusal.Verdict.{Verdict}
-use Rattle.views.specs.Refusals.{left}
+use Rattle.views.specs.Refusals.{Verdict, left}
 use Rattle.wire.specs.Format.{views_bytes}
 use Rattle.wire.specs.Reader.{views_in}
 use Rattle.rules.specs.Data.{Step}
-use Rattle.events.specs.declared.Reply.{Reply}
-use Rattle.events.specs.Replies.{verdict_of}
+use Rattle.events.specs.Replies.{Reply, verdict_of}
 use Rattle.group_bytes.specs.Groups.{Ranges, ranges}
 use Rattle.group_bytes.specs.Starts.{start_ranges}
 use Rattle.group_bytes.specs.Steps.{start_result, step_ranges, step_reply}
@@ -28,6 +26,6 @@ pub record Began (l : List View) (b q : List ℕ) (n S : ℕ) (k : List View) (d
 -- the step c put to them gave the reply x and left the list k, the books d and the queues e
 pub record Went (l : List View) (b q : List ℕ) (c : Step) (k : List View) (d e : List ℕ) (x : Reply) : Type 0 where
   pub reply : x ≡ step_reply (ranges_of l b q) c
-  pub list : k ≡ left x.verdict (views_in (step_ranges (ranges_of l b q) c).list 0 (length l)) l
+  pub list : k ≡ left x (views_in (step_ranges (ranges_of l b q) c).list 0 (length l)) l
   pub books : d ≡ (step_ranges (ranges_of l b q) c).books
   pub queues : e ≡ (step_ranges (ranges_of l b q) c).queues

@@ -1,9 +1,8 @@
 -- A create with the list by value.
-use Rattle.std.specs.Prelude.{◌≡◌, Bool, [], ◌∷◌, ℕ, leb}
+use Rattle.std.specs.Prelude.{◌≡◌, Bool, [], ◌∷◌, ℕ, leb, Ok, Err}
 use Rattle.views.specs.declared.list.Views.{Views}
 use Rattle.views.specs.declared.refusal.Refusal.TheVariants.{RecordsUnsound}
-use Rattle.views.specs.declared.refusal.Verdict.{Verdict}
-use Rattle.views.specs.declared.refusal.Verdict.TheVariants.{Accepted, Refused}
+use Rattle.views.specs.Refusals.{Verdict}
 use Rattle.views.specs.Limits.{max_members, max_views}
 use Rattle.views.specs.Lists.{view_of, list_of}
 use Rattle.views.specs.Sets.{both}
@@ -28,8 +27,8 @@ creating_by n made l g S = need (leb l.count max_views) RecordsUnsound (creating
 
 -- the place that is filled; past the end of a list of k records where nothing is
 abbrev pub at_of : Verdict → ℕ → ℕ → ℕ
-at_of Accepted made k = made
-at_of (Refused r) made k = k
+at_of (Ok u) made k = made
+at_of (Err r) made k = k
 
 -- a create of the view g, S with so many made, the list by value, gave x
 pub record CreatedBy (l : Views) (made : ℕ) (g : Identifier) (S n : ℕ) (x : Creation) : Type 0 where

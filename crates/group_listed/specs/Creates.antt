@@ -2,10 +2,9 @@
 use Rattle.std.specs.Prelude.{◌≡◌, Bool, List, [], ◌∷◌, ℕ, length, set, take}
 use Rattle.views.specs.declared.View.{View}
 use Rattle.views.specs.declared.refusal.Refusal.TheVariants.{RecordsUnsound}
-use Rattle.views.specs.declared.refusal.Verdict.{Verdict}
+use Rattle.views.specs.Refusals.{Verdict, left}
 use Rattle.views.specs.Limits.{max_members, max_views}
 use Rattle.views.specs.Lists.{view_of, is_rising}
-use Rattle.views.specs.Refusals.{left}
 use Rattle.rules.specs.Data.{Identifier, Group, Result, need}
 use Rattle.rules.specs.Member.{all}
 use Rattle.rules.specs.Sound.{within, conditions, set_fits}

@@ -1,13 +1,11 @@
 -- The list by value on its way to the group and back.
-use Rattle.std.specs.Prelude.{◌≡◌, cond, List, [], ◌++◌, ℕ, ◌*◌, ltb, get_or, replicate}
+use Rattle.std.specs.Prelude.{◌≡◌, cond, List, [], ◌++◌, ℕ, ◌*◌, ltb, get_or, replicate, Ok, Err}
 use Rattle.views.specs.declared.View.{View}
 use Rattle.views.specs.declared.list.Views.{Views}
-use Rattle.views.specs.declared.refusal.Verdict.{Verdict}
-use Rattle.views.specs.declared.refusal.Verdict.TheVariants.{Accepted, Refused}
+use Rattle.views.specs.Refusals.{Verdict, left}
 use Rattle.views.specs.Limits.{max_views}
 use Rattle.views.specs.Sizes.{view_size}
 use Rattle.views.specs.Lists.{no_view, list_of}
-use Rattle.views.specs.Refusals.{left}
 use Rattle.wire.specs.Format.{views_bytes}
 use Rattle.wire.specs.Reader.{view_in}
 use Rattle.rules.specs.Data.{Step}
@@ -38,8 +36,8 @@ next_of n queues = cond (ltb max_views n) n (get_or queues made_at 0)
 
 -- from this place on a start lays the list; a refused one past every place
 abbrev pub from_of : Verdict → ℕ
-from_of Accepted = 0
-from_of (Refused r) = max_views
+from_of (Ok u) = 0
+from_of (Err r) = max_views
 
 -- the step c put to the list l, the books b and the queues q gave x and left the books d and the queues e
 pub record SteppedBy (l : Views) (b q : List ℕ) (c : Step) (d e : List ℕ) (x : Stepped) : Type 0 where

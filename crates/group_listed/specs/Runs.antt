@@ -1,15 +1,13 @@
 -- A start and a list of steps put to a list of records, the books and the queues, one after another; and demands 2 and
 -- 3 of them.
-use Rattle.std.specs.Prelude.{◌≡◌, true, List, [], ◌∷◌, ℕ}
+use Rattle.std.specs.Prelude.{◌≡◌, true, List, [], ◌∷◌, ℕ, Ok}
 use Rattle.views.specs.declared.View.{View}
-use Rattle.views.specs.declared.refusal.Verdict.{Verdict}
-use Rattle.views.specs.declared.refusal.Verdict.TheVariants.{Accepted}
-use Rattle.views.specs.Refusals.{left}
+use Rattle.views.specs.Refusals.{Verdict, left}
 use Rattle.views.specs.Sets.{one}
 use Rattle.wire.specs.Widths.{EachFits}
 use Rattle.rules.specs.Data.{Step}
 use Rattle.rules.specs.Promise.{Promised}
-use Rattle.events.specs.declared.Reply.{Reply}
+use Rattle.events.specs.Replies.{Reply}
 use Rattle.group_bytes.specs.Groups.{ranges_sound}
 use Rattle.group_bytes.specs.Starts.{start_ranges}
 use Rattle.group_bytes.specs.Steps.{step_ranges}
@@ -29,7 +27,7 @@ pub data WentOn : List View → List ℕ → List ℕ → List Step → List Rep
 pub record Demand2 : Type 0 where
   pub start-ranges : (n S : ℕ) (l k : List View) (b q d e : List ℕ) (v : Verdict) → Began l b q n S k d e v
       → ranges_of k d e ≡ left v (start_ranges n S (ranges_of l b q)) (ranges_of l b q)
-  pub start_fits : (n S : ℕ) (l k : List View) (b q d e : List ℕ) → Began l b q n S k d e Accepted → EachFits k
+  pub start_fits : (n S : ℕ) (l k : List View) (b q d e : List ℕ) → Began l b q n S k d e (Ok tt) → EachFits k
   pub step-ranges : (l k : List View) (b q d e : List ℕ) (c : Step) (x : Reply) → EachFits l → Went l b q c k d e x
       → ranges_of k d e ≡ step_ranges (ranges_of l b q) c
   pub step_fits : (l k : List View) (b q d e : List ℕ) (c : Step) (x : Reply) → EachFits l → Went l b q c k d e x
@@ -40,12 +38,12 @@ pub record Demand2 : Type 0 where
 abbrev pub Demand3 : Type 0
 Demand3 =
     (n S : ℕ) (l k m : List View) (b q d e f g : List ℕ) (steps : List Step) (replies : List Reply)
-    → Began l b q n S k d e Accepted → AllGiven steps → WentOn k d e steps replies m f g
+    → Began l b q n S k d e (Ok tt) → AllGiven steps → WentOn k d e steps replies m f g
     → Promised one S (events_shown replies)
 
 -- no list of steps leads to a list, books and queues that 4 refuses
 abbrev pub NeverWedged : Type 0
 NeverWedged =
     (n S : ℕ) (l k m : List View) (b q d e f g : List ℕ) (steps : List Step) (replies : List Reply)
-    → Began l b q n S k d e Accepted → AllGiven steps → WentOn k d e steps replies m f g
+    → Began l b q n S k d e (Ok tt) → AllGiven steps → WentOn k d e steps replies m f g
     → ranges_sound (ranges_of m f g) ≡ true

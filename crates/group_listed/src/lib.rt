@@ -48,11 +48,11 @@ fn spread(l: Views) -> [u8; BYTES]
 fn long(l: Views) -> usize
     ensures { result ≡ length (bytes_in l) }
 {
-    let n = l.count;
-    if limits::VIEWS < n {
-        return BYTES;
+    if limits::VIEWS < l.count {
+        BYTES
+    } else {
+        group_bytes::VIEW * l.count
     }
-    group_bytes::VIEW * n
 }
 
 // The place behind the views made; past the end of a list that is too long for a group.
@@ -62,10 +62,9 @@ fn next(n: usize, queues: &[u8]) -> usize
     if limits::VIEWS < n {
         return n;
     }
-    if queues.len() <= group_bytes::MADE {
-        return 0;
-    }
-    queues[group_bytes::MADE] as usize
+    queues
+        .get(group_bytes::MADE)
+        .map_or(0, |made| *made as usize)
 }
 
 // The view at a place of the list's bytes, none past the last.
@@ -73,10 +72,7 @@ fn view_in(bytes: &[u8], i: usize) -> View
     ensures { result ≡ view_or bytes.now i }
 {
     if bytes.len() / group_bytes::VIEW <= i {
-        return View {
-            id: ViewId(0),
-            set: 0,
-        };
+        return slice::NONE;
     }
     wire::reader::load_view(bytes, group_bytes::VIEW * i)
 }
@@ -96,8 +92,8 @@ fn step_by(
     let at = next(l.count, queues);
     let mut bytes = spread(l);
     let e = long(l);
-    let reply = group::step::step(&mut bytes[0..e], books, queues, kind, first, second);
-    let view = view_in(&bytes[0..e], at);
+    let reply = group::step::step(&mut bytes[..e], books, queues, kind, first, second);
+    let view = view_in(&bytes[..e], at);
     Stepped { reply, at, view }
 }
 
@@ -106,8 +102,8 @@ fn from(v: Verdict) -> usize
     ensures { result ≡ from_of v }
 {
     match v {
-        Verdict::Accepted => 0,
-        Verdict::Refused(_) => limits::VIEWS,
+        Ok(()) => 0,
+        Err(_) => limits::VIEWS,
     }
 }
 
@@ -118,7 +114,7 @@ fn start_by(l: Views, books: &mut [u8], queues: &mut [u8], members: u8, first: u
 {
     let mut bytes = spread(l);
     let e = long(l);
-    let verdict = group::start::start(&mut bytes[0..e], books, queues, members, first);
+    let verdict = group::start::start(&mut bytes[..e], books, queues, members, first);
     let at = from(verdict);
     let view = View {
         id: ViewId(0),
@@ -139,9 +135,9 @@ pub fn step(
     ensures { Went list.old books.old queues.old (asked kind first second)
         list.new books.new queues.new result }
 {
-    let l = crate::slice::listed(list);
+    let l = slice::listed(list);
     let s = step_by(l, books, queues, kind, first, second);
-    crate::slice::put(list, s.at, s.view);
+    slice::put(list, s.at, s.view);
     s.reply
 }
 
@@ -156,8 +152,8 @@ pub fn start(
     ensures { Began list.old books.old queues.old members first
         list.new books.new queues.new result }
 {
-    let l = crate::slice::listed(list);
+    let l = slice::listed(list);
     let s = start_by(l, books, queues, members, first);
-    crate::slice::lay(list, s.at, s.view);
+    slice::lay(list, s.at, s.view);
     s.verdict
 }

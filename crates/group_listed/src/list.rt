@@ -11,7 +11,8 @@ ghost use Rattle.group_listed.specs.Creates.{made_in, list_group, Created};
 ghost use Rattle.group_listed.specs.CreateParts.{counts_fit, sound_by, creating_by, at_of, CreatedBy};
 ghost use Rattle.group_steps.specs.CarrierParts.{all_below};
 
-use views::list::{Lookup, Views};
+use crate::slice;
+use views::list::Views;
 use views::refusal::{Refusal, Verdict};
 use views::{View, ViewId, limits, list};
 
@@ -27,51 +28,34 @@ pub struct Creation {
 fn first(l: Views, made: usize) -> Views
     ensures { list_of result ≡ take made (list_of l) }
 {
-    let n = l.count;
-    let mut made_views = l;
-    if made < n {
-        made_views.count = made;
+    Views {
+        count: made.min(l.count),
+        ..l
     }
-    made_views
 }
 
 // The view with the identifier among those made.
-fn found(l: Views, made: usize, id: ViewId) -> Lookup
+fn found(l: Views, made: usize, id: ViewId) -> Option<View>
     ensures { result ≡ find_of id.0 (take made (list_of l)) }
 {
-    let views = first(l, made);
-    list::find(views, id)
+    list::find(first(l, made), id)
 }
 
 // The view with the identifier among the views made of the list. Any list and any number made will do: of the views
 // made the first 32 are looked at, and past the end of the list there is none.
-pub fn lookup(list: &[View], made: usize, id: ViewId) -> Lookup
+pub fn lookup(list: &[View], made: usize, id: ViewId) -> Option<View>
     ensures { result ≡ find_of id.0 (take max_views (made_in made list.now)) }
 {
-    let l = crate::slice::listed(list);
-    found(l, made, id)
+    found(slice::listed(list), made, id)
 }
 
 // The members, the list's records and those made are as many as there can be.
 fn counts_fit(members: u8, room: usize, made: usize) -> bool
     ensures { result ≡ counts_fit members room made }
 {
-    if members < 1 {
-        return false;
-    }
-    if limits::MEMBERS < members {
-        return false;
-    }
-    if room < 1 {
-        return false;
-    }
-    if limits::VIEWS < room {
-        return false;
-    }
-    if made < 1 {
-        return false;
-    }
-    made <= room
+    (1..=limits::MEMBERS).contains(&members)
+        && (1..=limits::VIEWS).contains(&room)
+        && (1..=room).contains(&made)
 }
 
 // Every set fits.
@@ -79,15 +63,7 @@ fn sets_fit(l: Views, members: u8) -> bool
     ensures { result ≡ all (set_fits members) (list_of l) }
 {
     let n = list::used(l.count);
-    let mut i = 0;
-    while i < n {
-        let v = l.at[i];
-        if !sets::fits(members, v.set) {
-            return false;
-        }
-        i += 1;
-    }
-    true
+    l.at[..n].iter().all(|v| sets::fits(members, v.set))
 }
 
 // The list is sound, with so many made.
@@ -98,10 +74,7 @@ fn sound(l: Views, made: usize, members: u8) -> bool
         return false;
     }
     let views = first(l, made);
-    if !list::rising(views) {
-        return false;
-    }
-    sets_fit(views, members)
+    list::rising(views) && sets_fit(views, members)
 }
 
 // The identifier is above those of all views.
@@ -109,15 +82,7 @@ fn above(l: Views, id: ViewId) -> bool
     ensures { result ≡ all_below id.0 (list_of l) }
 {
     let n = list::used(l.count);
-    let mut i = 0;
-    while i < n {
-        let v = l.at[i];
-        if id.0 <= v.id.0 {
-            return false;
-        }
-        i += 1;
-    }
-    true
+    l.at[..n].iter().all(|v| v.id.0 < id.0)
 }
 
 // 7, 8, 9.
@@ -125,15 +90,15 @@ fn asked(l: Views, room: usize, id: ViewId, set: u8, members: u8) -> Verdict
     ensures { result ≡ verdict_of (creates (list_group members room (list_of l)) id.0 set) }
 {
     if !sets::fits(members, set) {
-        return Verdict::Refused(Refusal::SetUnfit);
+        return Err(Refusal::SetUnfit);
     }
     if !above(l, id) {
-        return Verdict::Refused(Refusal::IdentifierNotAbove);
+        return Err(Refusal::IdentifierNotAbove);
     }
     if room <= list::used(l.count) {
-        return Verdict::Refused(Refusal::ListFull);
+        return Err(Refusal::ListFull);
     }
-    Verdict::Accepted
+    Ok(())
 }
 
 // 4, then the rest.
@@ -141,7 +106,7 @@ fn verdict(l: Views, made: usize, id: ViewId, set: u8, members: u8) -> Verdict
     ensures { result ≡ verdict_of (creating_by members made l id.0 set) }
 {
     if !sound(l, made, members) {
-        return Verdict::Refused(Refusal::RecordsUnsound);
+        return Err(Refusal::RecordsUnsound);
     }
     let views = first(l, made);
     asked(views, l.count, id, set, members)
@@ -152,8 +117,8 @@ fn place(v: Verdict, made: usize, n: usize) -> usize
     ensures { result ≡ at_of v made n }
 {
     match v {
-        Verdict::Accepted => made,
-        Verdict::Refused(_) => n,
+        Ok(()) => made,
+        Err(_) => n,
     }
 }
 
@@ -171,8 +136,8 @@ fn create_by(l: Views, made: usize, id: ViewId, set: u8, members: u8) -> Creatio
 pub fn create(list: &mut [View], made: usize, id: ViewId, set: u8, members: u8) -> Verdict
     ensures { Created list.old made id.0 set members list.new result }
 {
-    let l = crate::slice::listed(list);
+    let l = slice::listed(list);
     let c = create_by(l, made, id, set, members);
-    crate::slice::put(list, c.at, c.view);
+    slice::put(list, c.at, c.view);
     c.verdict
 }

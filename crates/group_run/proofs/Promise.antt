@@ -9,9 +9,8 @@ use lib.Dec.{eqb}
 use lib.ListN.{length}
 use Rattle.views.specs.declared.refusal.Refusal.{Refusal}
 use Rattle.views.specs.declared.refusal.Refusal.TheVariants.{RecordsUnsound}
-use Rattle.views.specs.declared.refusal.Verdict.{Verdict}
-use Rattle.views.specs.declared.refusal.Verdict.TheVariants.{Accepted, Refused}
-use Rattle.views.specs.Refusals.{require, left}
+use Rattle.views.specs.Refusals.{Verdict, require, left}
+use Rattle.std.specs.Prelude.{Ok, Err}
 use Rattle.views.proofs.VerdictLaws.{never}
 use Rattle.rules.specs.Sound.{conditions}
 use Rattle.rules.proofs.TestLaws.{conditions-say}
@@ -32,18 +31,18 @@ use Rattle.group_run.proofs.Shown.{events-back}
 -- ---- the lengths
 
 module _ (s a : ℕ) where
-  pub steps-broken : (s % step_size ≡ 0 → ⊥) → false ≡ paired s a
+  pub steps-broken : eqb (s % step_size) 0 ≡ false → false ≡ paired s a
   unfolding paired conditions
-  steps-broken h = rw (ne_eqb _ _ h)
+  steps-broken h = rw h
 
-  module _ (whole : s % step_size ≡ 0) where
-    pub answers-broken : (a % answer_size ≡ 0 → ⊥) → false ≡ paired s a
+  module _ (whole : eqb (s % step_size) 0 ≡ true) where
+    pub answers-broken : eqb (a % answer_size) 0 ≡ false → false ≡ paired s a
     unfolding paired conditions
-    answers-broken h = rw (eq-eqb _ _ whole, ne_eqb _ _ h)
+    answers-broken h = rw (whole, h)
 
-    pub answers-counted : a % answer_size ≡ 0 → (x : Bool) → x ≡ eqb (a / answer_size) (s / step_size) → x ≡ paired s a
+    pub answers-counted : eqb (a % answer_size) 0 ≡ true → eqb (a / answer_size) (s / step_size) ≡ paired s a
     unfolding paired conditions
-    answers-counted h x e = rw (eq-eqb _ _ whole, eq-eqb _ _ h) (e ∙ sym (both-unit (eqb (a / answer_size) (s / step_size))))
+    answers-counted h = rw (whole, h) (sym (both-unit (eqb (a / answer_size) (s / step_size))))
 
 -- records that pair have an answer to each step
 pub paired_long : (s a : ℕ) → paired s a ≡ true → a ≡ answer_size * (s / step_size)
@@ -55,26 +54,34 @@ paired_long s a h =
 -- ---- the verdict
 
 module _ (n S : ℕ) (r : Ranges) (steps a : List ℕ) where
-  refused-ran : (x : Refusal) → run_verdict n S r steps a ≡ Refused x → Ran n S r steps a r a (Refused x)
+  refused-ran : (x : Refusal) → run_verdict n S r steps a ≡ Err x → Ran n S r steps a r a (Err x)
   unfolding left
-  refused-ran x e = record { verdict = sym e; list = rw e; books = rw e; queues = rw e; answers = rw e; promise = λ k. absurd (never x k); sound = λ k. absurd (never x k) }
+  refused-ran x e = record {
+    verdict = sym e;
+    list = rw e;
+    books = rw e;
+    queues = rw e;
+    answers = rw e;
+    promise = λ k. absurd (never x k);
+    sound = λ k. absurd (never x k);
+  }
 
-  pub unpaired-ran : paired (length steps) (length a) ≡ false → Ran n S r steps a r a (Refused RecordsUnsound)
+  pub unpaired-ran : paired (length steps) (length a) ≡ false → Ran n S r steps a r a (Err RecordsUnsound)
   unfolding run_verdict require
   unpaired-ran e = refused-ran RecordsUnsound (rw e)
 
   module _ (pair : paired (length steps) (length a) ≡ true) (b : Ranges) (v : Verdict) (began : Began r n S b v) where
-    pub unstarted-ran : (x : Refusal) → v ≡ Refused x → Ran n S r steps a b a (Refused x)
+    pub unstarted-ran : (x : Refusal) → v ≡ Err x → Ran n S r steps a b a (Err x)
     unfolding run_verdict require left
     unstarted-ran x e =
-        let vo : verdict_of (start_result n S r) ≡ Refused x = sym began.verdict ∙ e in
+        let vo : verdict_of (start_result n S r) ≡ Err x = sym began.verdict ∙ e in
         let same : b ≡ r = same-ranges b r (rw vo at began.list) (rw vo at began.books) (rw vo at began.queues) in
         rw same (refused-ran x (rw (pair, vo)))
 
-    pub all-ran : v ≡ Accepted → (d : Ranges) (e : List ℕ) → Turns b steps d e → Ran n S r steps a d e Accepted
+    pub all-ran : v ≡ Ok tt → (d : Ranges) (e : List ℕ) → Turns b steps d e → Ran n S r steps a d e (Ok tt)
     unfolding run_verdict require left
     all-ran w d e turns =
-        let vo : verdict_of (start_result n S r) ≡ Accepted = sym began.verdict ∙ w in
+        let vo : verdict_of (start_result n S r) ≡ Ok tt = sym began.verdict ∙ w in
         let same : b ≡ start_ranges n S r = same-ranges b (start_ranges n S r) (rw vo at began.list) (rw vo at began.books) (rw vo at began.queues) in
         let t : Turns (start_ranges n S r) steps d e = rw same at turns in
         let s = accepts (start_result n S r) vo in
@@ -93,20 +100,20 @@ module _ (n S : ℕ) (r : Ranges) (steps a : List ℕ) where
 -- ---- steps applied to a group that exists
 
 module _ (r : Ranges) (steps a : List ℕ) where
-  pub refused-on : go_on_verdict r steps a ≡ Refused RecordsUnsound → WentOn r steps a r a (Refused RecordsUnsound)
+  pub refused-on : go_on_verdict r steps a ≡ Err RecordsUnsound → WentOn r steps a r a (Err RecordsUnsound)
   unfolding left
   refused-on e = record { verdict = sym e; list = rw e; books = rw e; queues = rw e; answers = rw e; shown = λ k. absurd (never RecordsUnsound k) }
 
-  pub unpaired-on : paired (length steps) (length a) ≡ false → WentOn r steps a r a (Refused RecordsUnsound)
+  pub unpaired-on : paired (length steps) (length a) ≡ false → WentOn r steps a r a (Err RecordsUnsound)
   unfolding go_on_verdict require
   unpaired-on e = refused-on (rw e)
 
   module _ (pair : paired (length steps) (length a) ≡ true) where
-    pub unsound-on : ranges_sound r ≡ false → WentOn r steps a r a (Refused RecordsUnsound)
+    pub unsound-on : ranges_sound r ≡ false → WentOn r steps a r a (Err RecordsUnsound)
     unfolding go_on_verdict require
     unsound-on e = refused-on (rw (pair, e))
 
-    pub all-on : ranges_sound r ≡ true → (d : Ranges) (e : List ℕ) → Turns r steps d e → WentOn r steps a d e Accepted
+    pub all-on : ranges_sound r ≡ true → (d : Ranges) (e : List ℕ) → Turns r steps d e → WentOn r steps a d e (Ok tt)
     unfolding go_on_verdict require left
     all-on h d e t = record {
       verdict = rw (pair, h);

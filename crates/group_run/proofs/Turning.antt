@@ -9,7 +9,7 @@ use lib.Seq.{length-take-le, take_at, take_all}
 use Rattle.numbers.specs.Number.{get}
 use Rattle.views.proofs.Members.{in-nil, top, pop}
 use Rattle.rules.specs.Data.{Step}
-use Rattle.events.specs.declared.Reply.{Reply}
+use Rattle.events.specs.Replies.{Reply}
 use Rattle.group_bytes.specs.Groups.{Ranges}
 use Rattle.group_bytes.specs.Steps.{step_ranges, step_reply, last_ranges, replies_of}
 use Rattle.group_bytes.specs.Promises.{AllGiven}

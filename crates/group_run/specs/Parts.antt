@@ -3,7 +3,8 @@ use Rattle.std.specs.Prelude.{◌≡◌, List, ◌++◌, ℕ, ◌+◌, ◌^◌, 
 use Rattle.views.specs.Members.{In}
 use Rattle.views.specs.Lists.{id_of}
 use Rattle.rules.specs.Data.{Step}
-use Rattle.events.specs.declared.Reply.{Reply}
+use Rattle.events.specs.Replies.{Reply, event_in}
+use Rattle.c_answers.specs.Answers.{fields_of}
 use Rattle.group_bytes.specs.Groups.{Ranges}
 use Rattle.group_bytes.specs.Steps.{step_ranges, step_reply, last_ranges, replies_of}
 use Rattle.group_bytes.specs.Promises.{Given, AllGiven}
@@ -16,8 +17,8 @@ answered a at x = take at a ++ (answer_bytes x ++ drop (at + answer_size) a)
 
 -- the numbers of a reply's event are within their widths, so the answer's bytes read back
 pub record Fits (x : Reply) : Type 0 where
-  pub view : id_of x.event.view < 256 ^ 4
-  pub entry : x.event.entry < 256 ^ 8
+  pub view : id_of (fields_of (event_in x)).view < 256 ^ 4
+  pub entry : (fields_of (event_in x)).entry < 256 ^ 8
 
 abbrev pub AllFit : List Reply → Type 0
 AllFit l = (x : Reply) → In x l → Fits x

@@ -4,11 +4,11 @@ use Rattle.numbers.specs.Number.{get}
 use Rattle.views.specs.Sizes.{identifier_size, number_size}
 use Rattle.views.specs.Refusals.{code_of}
 use Rattle.wire.specs.Reader.{view_in}
-use Rattle.rules.specs.Data.{Step, Event as Outward}
-use Rattle.events.specs.declared.Event.{Event}
-use Rattle.events.specs.declared.Reply.{Reply}
-use Rattle.events.specs.Replies.{happened}
-use Rattle.events.specs.Shown.{shown}
+use Rattle.views.specs.declared.View.{View}
+use Rattle.views.specs.Lists.{id_of}
+use Rattle.rules.specs.Data.{Member, Step, item, Event as Outward, attempt, register, send, hand, safe}
+use Rattle.events.specs.Kinds.{attempt_kind, register_kind, send_kind, hand_kind, safe_kind}
+use Rattle.events.specs.Replies.{Reply, event_in}
 use Rattle.c_answers.specs.Answers.{event_size, event_bytes, event_kind, event_member}
 use Rattle.c_answers.specs.Answers.{event_view, event_sender, event_entry}
 
@@ -49,7 +49,7 @@ abbrev pub answer_size : ℕ
 answer_size = answer_event + event_size
 
 unfoldable pub answer_bytes : Reply → List ℕ
-answer_bytes x = code_of x.verdict ∷ event_bytes x.event
+answer_bytes x = code_of x ∷ event_bytes (event_in x)
 
 unfoldable pub answers_bytes : List Reply → List ℕ
 answers_bytes [] = []
@@ -57,16 +57,26 @@ answers_bytes (x ∷ l) = answer_bytes x ++ answers_bytes l
 
 -- ---- the outward events that answers show, first to last
 
--- the event of the answer at a place
-unfoldable pub event_at : List ℕ → ℕ → Event
+-- the outward event of a kind of step with a member, a view, a sender and an entry number, if that kind has one:
+-- attempt P I S, register P I, send P I V, hand P I Q V, safe P I Q V
+unfoldable pub outward_by : ℕ → Member → View → Member → ℕ → List (Outward ℕ)
+outward_by k p v q x =
+    cond (eqb k attempt_kind) (attempt p v ∷ [])
+    (cond (eqb k register_kind) (register p (id_of v) ∷ [])
+    (cond (eqb k send_kind) (send p (id_of v) x ∷ [])
+    (cond (eqb k hand_kind) (hand p (id_of v) (item q x) ∷ [])
+    (cond (eqb k safe_kind) (safe p (id_of v) (item q x) ∷ []) []))))
+
+-- the outward event that the bytes of an answer at a place show
+unfoldable pub event_at : List ℕ → ℕ → List (Outward ℕ)
 event_at b at =
-    happened (get_or b (at + (answer_event + event_kind)) 0) (get_or b (at + (answer_event + event_member)) 0)
+    outward_by (get_or b (at + (answer_event + event_kind)) 0) (get_or b (at + (answer_event + event_member)) 0)
     (view_in b (at + (answer_event + event_view))) (get_or b (at + (answer_event + event_sender)) 0)
     (get b (at + (answer_event + event_entry)) number_size)
 
 -- a refusal shows nothing
 unfoldable pub shown_at : List ℕ → ℕ → List (Outward ℕ)
-shown_at b at = cond (eqb (get_or b at 0) 0) (shown (event_at b at)) []
+shown_at b at = cond (eqb (get_or b at 0) 0) (event_at b at) []
 
 -- those of n answers, from the record i on
 unfoldable pub events_from : List ℕ → ℕ → ℕ → List (Outward ℕ)

@@ -1,10 +1,8 @@
 -- What a list of steps gives and leaves, after a start or applied to a group that exists: every lent byte. Of a run
 -- also what is promised of the answers that the host sees and of the ranges.
-use Rattle.std.specs.Prelude.{◌≡◌, Bool, true, List, [], ◌∷◌, ℕ, ◌/◌, ◌%◌, eqb, length}
+use Rattle.std.specs.Prelude.{◌≡◌, Bool, true, List, [], ◌∷◌, ℕ, ◌/◌, ◌%◌, eqb, length, Ok}
 use Rattle.views.specs.declared.refusal.Refusal.TheVariants.{RecordsUnsound}
-use Rattle.views.specs.declared.refusal.Verdict.{Verdict}
-use Rattle.views.specs.declared.refusal.Verdict.TheVariants.{Accepted}
-use Rattle.views.specs.Refusals.{require, left}
+use Rattle.views.specs.Refusals.{Verdict, require, left}
 use Rattle.views.specs.Sets.{one}
 use Rattle.rules.specs.Sound.{conditions}
 use Rattle.rules.specs.Promise.{Promised}
@@ -41,16 +39,16 @@ pub record Ran (n S : ℕ) (r : Ranges) (steps a : List ℕ) (d : Ranges) (e : L
   pub answers : e
       ≡ left (run_verdict n S r steps a) (answers_bytes (replies_of (start_ranges n S r) (steps_in steps))) a
   -- demand 3: the events that the answers show are those of a run of Figure 1, and attempted views intersect
-  pub promise : v ≡ Accepted → Promised one S (events_in e)
+  pub promise : v ≡ Ok tt → Promised one S (events_in e)
   -- never wedged: the ranges are a sound group, which 4 does not refuse
-  pub sound : v ≡ Accepted → ranges_sound d ≡ true
+  pub sound : v ≡ Ok tt → ranges_sound d ≡ true
 
 -- ---- steps applied to a group that exists
 
 -- 4 for records that do not pair, then 4 for unsound ranges; what a step is refused by is in its answer
 unfoldable pub go_on_verdict : Ranges → List ℕ → List ℕ → Verdict
 go_on_verdict r steps answers =
-    require (paired (length steps) (length answers)) RecordsUnsound (require (ranges_sound r) RecordsUnsound Accepted)
+    require (paired (length steps) (length answers)) RecordsUnsound (require (ranges_sound r) RecordsUnsound (Ok tt))
 
 -- these steps, applied to the ranges r one after another, gave the verdict v; they left the ranges d, and made the
 -- answers a into e
@@ -63,4 +61,4 @@ pub record WentOn (r : Ranges) (steps a : List ℕ) (d : Ranges) (e : List ℕ) 
   -- each step's reply, as the step by itself would get it, in its record
   pub answers : e ≡ left (go_on_verdict r steps a) (answers_bytes (replies_of r (steps_in steps))) a
   -- the events that the answers show are those of the replies
-  pub shown : v ≡ Accepted → events_in e ≡ events_shown (replies_of r (steps_in steps))
+  pub shown : v ≡ Ok tt → events_in e ≡ events_shown (replies_of r (steps_in steps))

@@ -30,13 +30,7 @@ pub const ANSWER: usize = SHOWN + c_answers::EVENT;
 fn pair(steps: usize, answers: usize) -> bool
     ensures { result ≡ paired steps answers }
 {
-    if steps % STEP != 0 {
-        return false;
-    }
-    if answers % ANSWER != 0 {
-        return false;
-    }
-    answers / ANSWER == steps / STEP
+    steps % STEP == 0 && answers % ANSWER == 0 && answers / ANSWER == steps / STEP
 }
 
 // A group of so many members with a first view begins, and takes every step in turn; each has its answer.
@@ -54,16 +48,11 @@ pub fn run(
         answers.new result }
 {
     if !pair(steps.len(), answers.len()) {
-        return Verdict::Refused(Refusal::RecordsUnsound);
+        return Err(Refusal::RecordsUnsound);
     }
-    let v = group::start::start(list, all, queues, members, first);
-    match v {
-        Verdict::Refused(r) => Verdict::Refused(r),
-        Verdict::Accepted => {
-            crate::turns::each(list, all, queues, true, steps, answers);
-            Verdict::Accepted
-        }
-    }
+    group::start::start(list, all, queues, members, first)?;
+    turns::each(list, all, queues, true, steps, answers);
+    Ok(())
 }
 
 // A group that exists takes every step in turn; each has its answer. 4 is checked once for the whole list, unless some
@@ -80,12 +69,12 @@ pub fn go_on(
         (ranges list.new books.new queues.new) answers.new result }
 {
     if !pair(steps.len(), answers.len()) {
-        return Verdict::Refused(Refusal::RecordsUnsound);
+        return Err(Refusal::RecordsUnsound);
     }
     if !group_sound::sound(list, books, queues) {
-        return Verdict::Refused(Refusal::RecordsUnsound);
+        return Err(Refusal::RecordsUnsound);
     }
     let known = group::stays_sound::none_above(books);
-    crate::turns::each(list, books, queues, known, steps, answers);
-    Verdict::Accepted
+    turns::each(list, books, queues, known, steps, answers);
+    Ok(())
 }

@@ -3,7 +3,7 @@ ghost use Rattle.std.specs.Prelude.{◌+◌, ◌/◌, ◌≤◌, ◌*◌, length
 ghost use Rattle.group_bytes.specs.Groups.{ranges, ranges_sound};
 ghost use Rattle.group.specs.StaysSoundParts.{StaysSound};
 ghost use Rattle.group_run.specs.Records.{answer_size, step_size, step_at};
-ghost use Rattle.group_run.specs.Parts.{Wrote, Asked, Turned, Turns};
+ghost use Rattle.group_run.specs.Parts.{Wrote, Asked, Turns};
 
 use events::Reply;
 use views::sizes;
@@ -13,10 +13,12 @@ fn put(b: &mut [u8], at: usize, x: Reply)
     requires { at + answer_size ≤ length b.old }
     ensures { Wrote b.old at x b.new }
 {
-    let v = x.verdict;
-    let e = x.event;
-    b[at] = views::refusal::code(v);
-    c_answers::put_event(&mut b[at + crate::SHOWN..at + crate::ANSWER], e);
+    let (number, happened) = match x {
+        Ok(happened) => (0, happened),
+        Err(why) => (why.number(), None),
+    };
+    b[at] = number;
+    c_answers::put_event(&mut b[at + crate::SHOWN..at + crate::ANSWER], happened);
 }
 
 // The step in the record at a place is applied to the group; 4 is checked unless the group is known to be sound.
@@ -39,27 +41,6 @@ fn ask(
     group::step::next(list, all, queues, known, kind, first, second)
 }
 
-// The step i is applied to the group, and its answer is written.
-fn one(
-    list: &mut [u8],
-    all: &mut [u8],
-    queues: &mut [u8],
-    known: bool,
-    steps: &[u8],
-    answers: &mut [u8],
-    i: usize,
-)
-    requires { (known ≡ true → ranges_sound (ranges list.old all.old queues.old) ≡ true)
-        × (step_size * i + step_size ≤ length steps.now)
-        × (answer_size * i + answer_size ≤ length answers.old) }
-    ensures { Turned (ranges list.old all.old queues.old)
-        (step_at steps.now (step_size * i)) answers.old (answer_size * i)
-        (ranges list.new all.new queues.new) answers.new }
-{
-    let x = ask(list, all, queues, known, steps, crate::STEP * i);
-    put(answers, crate::ANSWER * i, x);
-}
-
 // Every step in turn. 4 is not checked if the group is known to stay sound.
 pub fn each(
     list: &mut [u8],
@@ -75,9 +56,8 @@ pub fn each(
         (ranges list.new all.new queues.new) answers.new }
 {
     let n = steps.len() / crate::STEP;
-    let mut i = 0;
-    while i < n {
-        one(list, all, queues, known, steps, answers, i);
-        i += 1;
+    for i in 0..n {
+        let x = ask(list, all, queues, known, steps, crate::STEP * i);
+        put(answers, crate::ANSWER * i, x);
     }
 }

@@ -1,7 +1,7 @@
 -- A group's entries, queues and books: sound in the group when they are by themselves, and their views are listed. Both ways.
 use mathlib.Core.Path.{◌≡◌, refl, sym, ◌∙◌}
 use mathlib.Core.Bool.{true}
-use mathlib.Core.Option.{Option, none, some}
+use Rattle.std.specs.Prelude.{Option, None, Some}
 use mathlib.Core.List.{List}
 use Prim.Native.Nat.{ℕ, ◌+◌, ◌≤◌}
 use native.Mathlib.Omega.{arith}
@@ -60,9 +60,9 @@ module _ (views : List View) (n : ℕ) (fits : (v : View) → In v views → set
   pub entries-out : (l : List Entry) → ((e : Entry) → In e l → EntryFacts n (Listed views) e) → all (entry_sound n) l ≡ true
   entries-out l h = all_from (entry_sound n) l (λ e j. entry-out e (h e j))
 
-  optional-fits : (o : Option View) → ((v : View) → o ≡ some v → In v views) → set_fits_if n o ≡ true
-  optional-fits none h = refl
-  optional-fits (some v) h = fits v (h v refl)
+  optional-fits : (o : Option View) → ((v : View) → o ≡ Some v → In v views) → set_fits_if n o ≡ true
+  optional-fits None h = refl
+  optional-fits (Some v) h = fits v (h v refl)
 
 -- ---- what waits, in bytes by rows, and an order, by columns
 
@@ -151,10 +151,10 @@ module _ (s : Group) (b : Book) where
       and tt)
 
   -- no order is longer than its limit
-  order-few : ((v : View) → In v s.views → length (s.order (id_of v)) ≤ max_ordered) → (o : Option View) → ((v : View) → o ≡ some v → In v s.views)
+  order-few : ((v : View) → In v s.views → length (s.order (id_of v)) ≤ max_ordered) → (o : Option View) → ((v : View) → o ≡ Some v → In v s.views)
       → length (order_at s o) ≤ limit_if o max_ordered
-  order-few h none k = omega arith
-  order-few h (some v) k = h v (k v refl)
+  order-few h None k = omega arith
+  order-few h (Some v) k = h v (k v refl)
 
   pub book-out : within 1 s.members max_members ≡ true → ((v : View) → In v s.views → set_fits s.members v ≡ true)
       → ((v : View) → In v s.views → length (s.order (id_of v)) ≤ max_ordered)

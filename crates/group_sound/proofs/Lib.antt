@@ -1,5 +1,6 @@
 pub mod ListedLaws
 pub mod Walks
+pub mod Books
 pub mod Infos
 pub mod OrderLaws
 pub mod Tests

@@ -3,7 +3,7 @@ use mathlib.Core.Path.{◌≡◌, refl, sym, ap, ap₂, ◌∙◌}
 use mathlib.Core.Logic.{◌⊎◌, ⊎_elim}
 use mathlib.Core.Bool.{Bool, true, false, cond}
 use mathlib.Core.List.{List, [], ◌∷◌}
-use Prim.Native.Nat.{ℕ, zero, suc, ◌+◌, ◌<◌, ◌≤◌}
+use Prim.Native.Nat.{ℕ, zero, suc, ◌+◌, ◌≤◌, max}
 use native.Mathlib.Numerals.{add-one}
 use native.Mathlib.Omega.{arith}
 use borrow.Author.Tests.{ne_eqb}
@@ -69,11 +69,11 @@ pub last-met : (u t : Bool) (v x : ℕ) → x ≡ fault_of t → u ≡ true → 
 last-met u t v x f h e = rw (h, e) f
 
 -- the worse of two
-pub worse : (a t : Bool) (w x v : ℕ) → w ≡ fault_of a → x ≡ fault_of t → ((w < x) × (v ≡ x)) ⊎ ((x ≤ w) × (v ≡ w)) → v ≡ fault_of (both a t)
-worse true true w x v e f h = ⊎_elim (λ (z : (w < x) × (v ≡ x)). omega arith) (λ (z : (x ≤ w) × (v ≡ w)). omega arith) h
-worse true false w x v e f h = ⊎_elim (λ (z : (w < x) × (v ≡ x)). omega arith) (λ (z : (x ≤ w) × (v ≡ w)). omega arith) h
-worse false true w x v e f h = ⊎_elim (λ (z : (w < x) × (v ≡ x)). omega arith) (λ (z : (x ≤ w) × (v ≡ w)). omega arith) h
-worse false false w x v e f h = ⊎_elim (λ (z : (w < x) × (v ≡ x)). omega arith) (λ (z : (x ≤ w) × (v ≡ w)). omega arith) h
+pub worse : (a t : Bool) (w x : ℕ) → w ≡ fault_of a → x ≡ fault_of t → max w x ≡ fault_of (both a t)
+worse true true w x e f = omega arith
+worse true false w x e f = omega arith
+worse false true w x e f = omega arith
+worse false false w x e f = omega arith
 
 -- the head of an entry, by the tests in the order in which they are asked
 

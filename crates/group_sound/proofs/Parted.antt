@@ -1,7 +1,7 @@
 -- Where the records of a group stand, and from sound ranges to their parts: the sizes, the list, each member's book, the queues of each view made.
 use mathlib.Core.Path.{◌≡◌, refl, sym, ap, ◌∙◌}
 use mathlib.Core.Bool.{true, not}
-use mathlib.Core.Option.{Option, none, some}
+use Rattle.std.specs.Prelude.{Option, None, Some}
 use mathlib.Core.List.{List}
 use Prim.Native.Nat.{ℕ, ◌+◌, ◌<◌, ◌≤◌}
 use native.Mathlib.Omega.{arith}
@@ -64,10 +64,10 @@ module _ (r : Ranges) where
   unfolding waiting_in
   waiting-of p h v i = rw (lt-ltb _ _ h, lt-ltb _ _ (place-made v i))
 
-  pub ordered_of : (o : Option View) → ((v : View) → o ≡ some v → In v views) → length (S.order_at (group_in r) o) ≡ ordered_in views r.queues o
+  pub ordered_of : (o : Option View) → ((v : View) → o ≡ Some v → In v views) → length (S.order_at (group_in r) o) ≡ ordered_in views r.queues o
   unfolding group_in ordered_in
-  ordered_of none h = refl
-  ordered_of (some v) h =
+  ordered_of None h = refl
+  ordered_of (Some v) h =
       let i = place_of (id_of v) views in
       ap length (order-of v (h v refl)) ∙ length-firsts (order_entry r.queues (order_at i)) (get_or r.queues (order_at i) 0)
 

@@ -1,7 +1,7 @@
 -- What the group tests of a book's carrier view and client view, one way out after another; and of the whole book.
 use mathlib.Core.Path.{◌≡◌, refl, sym, ap, ◌∙◌}
 use mathlib.Core.Bool.{Bool, true, false}
-use mathlib.Core.List.{List, [], ◌∷◌}
+use mathlib.Core.List.{List}
 use Prim.Native.Nat.{ℕ, ◌+◌, ◌<◌, ◌≤◌}
 use borrow.Author.Tests.{le-leb, lt-leb}
 use lib.Dec.{leb}
@@ -12,7 +12,7 @@ use Rattle.views.specs.Sets.{both}
 use Rattle.views.specs.Lists.{id_of, is_rising}
 use Rattle.wire.specs.Reader.{view_in, views_in}
 use Rattle.rules.specs.Member.{all}
-use Rattle.rules.specs.Sound.{conditions, listed, listed_if, info_listed}
+use Rattle.rules.specs.Sound.{listed, listed_if, info_listed}
 use Rattle.rules.proofs.Truth.{three}
 use Rattle.book_bytes.specs.declared.Seat.{Seat}
 use Rattle.book_bytes.specs.Places.{settled_at, carrier_at, client_at, taken_at, opens_at}

@@ -2,11 +2,11 @@
 use mathlib.Core.Path.{◌≡◌, refl}
 use mathlib.Core.Bool.{Bool, true, false, not}
 use mathlib.Core.List.{List, [], ◌∷◌}
-use Prim.Native.Nat.{ℕ, ◌+◌, ◌-◌, ◌*◌, ◌%◌, ◌/◌, ◌≤◌}
+use Prim.Native.Nat.{ℕ, ◌+◌, ◌*◌, ◌%◌, ◌/◌, ◌≤◌}
 use native.Mathlib.Omega.{arith}
 use borrow.Author.Tests.{eqb-true}
 use lib.Dec.{eqb, leb}
-use lib.ListN.{length, get_or, take, drop}
+use lib.ListN.{length, get_or}
 use Rattle.views.specs.declared.View.{View}
 use Rattle.views.specs.Limits.{max_members, max_views, max_open}
 use Rattle.views.specs.Sizes.{view_size, layout_number}
@@ -19,14 +19,14 @@ use Rattle.rules.specs.Sound.{conditions, set_fits, opens_rise, listed, listed_i
 use Rattle.rules.specs.Alone.{book_sound}
 use Rattle.rules.proofs.TestLaws.{within-says, conditions-say}
 use Rattle.book_bytes.specs.declared.Record.{Record}
-use Rattle.book_bytes.specs.Places.{book_size, settled_at, carrier_at, client_at, opens_at}
+use Rattle.book_bytes.specs.Places.{settled_at, carrier_at, client_at, opens_at}
 use Rattle.book_bytes.specs.Records.{seated, seat_in, record_in}
 use Rattle.book_bytes.specs.Books.{outgoing_in, book_in, layout_fits, bytes_sound}
 use Rattle.book_bytes.proofs.Opens.{opens_in}
 use Rattle.rules.proofs.Truth.{both-unit}
-use Rattle.group_bytes.specs.Places.{room_of, books_size, book_bytes, order_at, queues_size}
+use Rattle.group_bytes.specs.Places.{room_of, books_size, order_at, queues_size}
 use Rattle.group_bytes.specs.Groups.{Ranges, members_of, made_of, marks_of, layout_of}
-use Rattle.group_sound.specs.Parts.{sizes_fit, numbers_fit, list_sound, views_known, record_listed, member_sound}
+use Rattle.group_sound.specs.Parts.{sizes_fit, numbers_fit, list_sound, views_known, record_listed}
 
 sizes-order : (z a b c d : Bool) → conditions (z ∷ both a b ∷ c ∷ d ∷ []) ≡ both z (both a (both b (both c d)))
 unfolding conditions
@@ -124,10 +124,3 @@ infos-rise b h =
     let (_, (whole, _)) = conditions-say _ h in
     let (_, (_, (_, (_, (_, (_, (_, (_, (_, (rise, _)))))))))) = conditions-say _ whole in
     rise
-
--- ---- the part of the books that is the book of p
-
-pub part-answer : (views : List View) (q books : List ℕ) (n p : ℕ)
-    → member_sound views q n p (book_bytes books p) ≡ member_sound views q n p (take (book_size * p + book_size - book_size * p) (drop (book_size * p) books))
-unfolding book_bytes
-part-answer views q books n p = let e : book_size * p + book_size - book_size * p ≡ book_size = omega arith in rw e

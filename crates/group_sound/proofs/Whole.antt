@@ -1,7 +1,7 @@
 -- Three ranges are sound when their parts are: from the parts to the ranges, and both ways.
 use mathlib.Core.Path.{◌≡◌, ◌∙◌}
 use mathlib.Core.Bool.{true, not}
-use mathlib.Core.Option.{some}
+use Rattle.std.specs.Prelude.{Some}
 use mathlib.Core.List.{List}
 use Prim.Native.Nat.{ℕ, ◌+◌, ◌<◌, ◌≤◌}
 use native.Mathlib.Omega.{arith}
@@ -88,7 +88,7 @@ module _ (r : Ranges) where
       unfolding book_known
       listed-book = let (x, _) = conditions-say _ member-says.3 in record-listed r (bytes p) ∙ x
 
-      carrier-in : (v : View) → seated (record_in (bytes p)).carrier ≡ some v → In v views
+      carrier-in : (v : View) → seated (record_in (bytes p)).carrier ≡ Some v → In v views
       unfolding book_listed book_in
       carrier-in = let (_, (x, _)) = conditions-say _ listed-book in optional-in views (seated (record_in (bytes p)).carrier) x
 

@@ -1,7 +1,7 @@
 -- The parts in which three ranges are tested for a sound group: the sizes, the list, each member's book, the queues of
 -- each view made. Here `views` is the list of views made, and n the number of members.
 use Rattle.std.specs.Prelude.{Bool, true, not, List, [], ◌∷◌, ℕ, zero, suc, ◌+◌, ◌%◌, ◌/◌, eqb, leb, length, get_or}
-use Rattle.std.proofs.Math.Option.{Option, none, some}
+use Rattle.std.specs.Prelude.{Option, None, Some}
 use Rattle.views.specs.declared.View.{View}
 use Rattle.views.specs.Limits.{max_members, max_views, max_waiting}
 use Rattle.views.specs.Sizes.{view_size, layout_number}
@@ -60,8 +60,8 @@ record_listed views h = conditions (
 
 -- how many messages are ordered in a view or none, by the count in the queues
 unfoldable pub ordered_in : List View → List ℕ → Option View → ℕ
-ordered_in views q none = 0
-ordered_in views q (some v) = get_or q (order_at (place_of (id_of v) views)) 0
+ordered_in views q None = 0
+ordered_in views q (Some v) = get_or q (order_at (place_of (id_of v) views)) 0
 
 -- the carrier view and the client view of the book b are listed, if there are any, and no more was taken than is
 -- ordered

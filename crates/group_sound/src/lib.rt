@@ -20,20 +20,11 @@ use views::{limits, sizes};
 fn sizes_fit(list: usize, books: usize, queues: usize) -> bool
     ensures { result ≡ sizes_fit list books queues }
 {
-    if list % group_bytes::VIEW != 0 {
-        return false;
-    }
     let room = list / group_bytes::VIEW;
-    if room < 1 {
-        return false;
-    }
-    if limits::VIEWS < room {
-        return false;
-    }
-    if books != group_bytes::BOOKS {
-        return false;
-    }
-    queues == group_bytes::HEAD + group_bytes::TABLE * room
+    list % group_bytes::VIEW == 0
+        && (1..=limits::VIEWS).contains(&room)
+        && books == group_bytes::BOOKS
+        && queues == group_bytes::HEAD + group_bytes::TABLE * room
 }
 
 // The layout's number; the number of members and of views made, in a list with this room; no mark past the views made.
@@ -41,22 +32,10 @@ fn numbers_fit(layout: u8, n: u8, made: u8, room: usize, marks: u64) -> bool
     requires { room ≤ max_views }
     ensures { result ≡ numbers_fit layout n made room marks }
 {
-    if layout != sizes::LAYOUT {
-        return false;
-    }
-    if n < 1 {
-        return false;
-    }
-    if limits::MEMBERS < n {
-        return false;
-    }
-    if made < 1 {
-        return false;
-    }
-    if room < made as usize {
-        return false;
-    }
-    !(0 < marks >> made)
+    layout == sizes::LAYOUT
+        && (1..=limits::MEMBERS).contains(&n)
+        && (1..=room).contains(&(made as usize))
+        && marks >> made == 0
 }
 
 // The list, the books and the queues, with so many views made.
@@ -66,13 +45,9 @@ fn records_sound(list: &[u8], books: &[u8], queues: &[u8], made: u8, n: u8) -> b
     ensures { result ≡ records_sound (views_in list.now 0 made) n books.now
         queues.now }
 {
-    if !book_sound::views_at::sound(list, 0, made as usize, n) {
-        return false;
-    }
-    if !crate::members::members_sound(list, books, queues, made, n) {
-        return false;
-    }
-    crate::tables::tables_sound(list, queues, made, n)
+    book_sound::views_at::sound(list, 0, made as usize, n)
+        && crate::members::members_sound(list, books, queues, made, n)
+        && crate::tables::tables_sound(list, queues, made, n)
 }
 
 // The ranges are a sound group.
@@ -87,8 +62,6 @@ pub fn sound(list: &[u8], books: &[u8], queues: &[u8]) -> bool
     let made = queues[group_bytes::MADE];
     let marks = numbers::get_number(queues, group_bytes::MARKS, group_bytes::MARKS_SIZE);
     let layout = queues[group_bytes::LAYOUT];
-    if !numbers_fit(layout, n, made, list.len() / group_bytes::VIEW, marks) {
-        return false;
-    }
-    records_sound(list, books, queues, made, n)
+    numbers_fit(layout, n, made, list.len() / group_bytes::VIEW, marks)
+        && records_sound(list, books, queues, made, n)
 }

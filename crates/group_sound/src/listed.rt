@@ -20,10 +20,7 @@ pub fn is_at(list: &[u8], made: u8, v: View, i: u8) -> bool
         × (i ≡ place_of (id_of v) (views_in list.now 0 made)) }
     ensures { result ≡ listed (views_in list.now 0 made) v }
 {
-    if made <= i {
-        return false;
-    }
-    list[sizes::VIEW * (i as usize) + sizes::IDENTIFIER] == v.set
+    i < made && list[sizes::VIEW * i as usize + sizes::IDENTIFIER] == v.set
 }
 
 // The place of the view with the identifier. Nothing is sought if it is the view with the identifier w, whose place is
@@ -34,9 +31,10 @@ pub fn place_near(list: &[u8], made: u8, id: ViewId, w: ViewId, i: u8) -> u8
     ensures { result ≡ place_of id.0 (views_in list.now 0 made) }
 {
     if id.0 == w.0 {
-        return i;
+        i
+    } else {
+        group_bytes::place(list, made, id)
     }
-    group_bytes::place(list, made, id)
 }
 
 // The view at a place.
@@ -60,6 +58,7 @@ pub fn views_known(list: &[u8], b: &[u8], made: u8, from: usize, count: usize) -
     let first = wire::reader::load_view(b, from);
     let mut j = group_bytes::place(list, made, first.id) as usize;
     let mut i = 0;
+    // A for over the places of the list takes a tenth longer where a group is full.
     while i < count {
         if made as usize <= j {
             return false;
@@ -67,10 +66,7 @@ pub fn views_known(list: &[u8], b: &[u8], made: u8, from: usize, count: usize) -
         let v = wire::reader::load_view(b, from + sizes::VIEW * i);
         let w = wire::reader::load_view(list, sizes::VIEW * j);
         if v.id.0 <= w.id.0 {
-            if v.id.0 != w.id.0 {
-                return false;
-            }
-            if v.set != w.set {
+            if v.id.0 != w.id.0 || v.set != w.set {
                 return false;
             }
             i += 1;
@@ -88,10 +84,7 @@ pub fn opens_known(list: &[u8], b: &[u8], made: u8) -> bool
         (views_in b.now (opens_at + 1) (get_or b.now opens_at 0)) }
 {
     let opens = b[book_bytes::OPENS] as usize;
-    if 0 < opens {
-        return views_known(list, b, made, book_bytes::OPENS + 1, opens);
-    }
-    true
+    opens == 0 || views_known(list, b, made, book_bytes::OPENS + 1, opens)
 }
 
 // The views of an entry, if it is an info.
@@ -118,12 +111,5 @@ pub fn infos_known(list: &[u8], b: &[u8], made: u8, at: usize, count: usize) -> 
         × (is_rising (views_in list.now 0 made) ≡ true) × (slots_fit b.now at count ≡ true) }
     ensures { result ≡ all (info_known (views_in list.now 0 made)) (entries_in b.now at count) }
 {
-    let mut i = 0;
-    while i < count {
-        if !info_known(list, b, made, at + slots::SLOT * i) {
-            return false;
-        }
-        i += 1;
-    }
-    true
+    (0..count).all(|i| info_known(list, b, made, at + slots::SLOT * i))
 }

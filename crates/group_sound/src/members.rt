@@ -23,12 +23,11 @@ fn client_listed(list: &[u8], b: &[u8], made: u8, w: ViewId, i: u8) -> bool
     ensures { result ≡ listed_if (views_in list.now 0 made) (seated (seat_in b.now client_at)) }
 {
     let client = book_bytes::load_seat(b, book_bytes::CLIENT);
-    if client.there {
-        let v = client.view;
-        let j = crate::listed::place_near(list, made, v.id, w, i);
-        return crate::listed::is_at(list, made, v, j);
+    if !client.there {
+        return true;
     }
-    true
+    let j = crate::listed::place_near(list, made, client.view.id, w, i);
+    crate::listed::is_at(list, made, client.view, j)
 }
 
 // The carrier view and the client view of a book are listed, if there are any, and no more was taken than is ordered.
@@ -42,20 +41,13 @@ fn seats_known(list: &[u8], b: &[u8], queues: &[u8], made: u8, w: ViewId, i: u8)
     let carrier = book_bytes::load_seat(b, book_bytes::CARRIER);
     let taken = b[book_bytes::TAKEN];
     if !carrier.there {
-        if 0 < taken {
-            return false;
-        }
-        return client_listed(list, b, made, w, i);
+        return taken == 0 && client_listed(list, b, made, w, i);
     }
     let v = carrier.view;
     let j = crate::listed::place_near(list, made, v.id, w, i);
-    if !crate::listed::is_at(list, made, v, j) {
-        return false;
-    }
-    if queues[group_bytes::HEAD + group_bytes::TABLE * (j as usize)] < taken {
-        return false;
-    }
-    client_listed(list, b, made, v.id, j)
+    crate::listed::is_at(list, made, v, j)
+        && taken <= queues[group_bytes::HEAD + group_bytes::TABLE * j as usize]
+        && client_listed(list, b, made, v.id, j)
 }
 
 // What the group asks of a sound book: its views are listed, and no more was taken than is ordered.
@@ -66,22 +58,16 @@ fn book_known(list: &[u8], b: &[u8], queues: &[u8], made: u8) -> bool
 {
     let settled = wire::reader::load_view(b, book_bytes::SETTLED);
     let i = group_bytes::place(list, made, settled.id);
-    if !crate::listed::is_at(list, made, settled, i) {
-        return false;
-    }
-    if !crate::listed::opens_known(list, b, made) {
-        return false;
-    }
-    if !seats_known(list, b, queues, made, settled.id, i) {
-        return false;
-    }
-    crate::listed::infos_known(
-        list,
-        b,
-        made,
-        book_bytes::OUTGOING + 1,
-        b[book_bytes::OUTGOING] as usize,
-    )
+    crate::listed::is_at(list, made, settled, i)
+        && crate::listed::opens_known(list, b, made)
+        && seats_known(list, b, queues, made, settled.id, i)
+        && crate::listed::infos_known(
+            list,
+            b,
+            made,
+            book_bytes::OUTGOING + 1,
+            b[book_bytes::OUTGOING] as usize,
+        )
 }
 
 // The book of the member p.
@@ -91,16 +77,10 @@ fn member_sound(list: &[u8], b: &[u8], queues: &[u8], made: u8, n: u8, p: Member
     ensures { result ≡ member_sound (views_in list.now 0 made) queues.now n p.0
         b.now }
 {
-    if !book_sound::sound(b) {
-        return false;
-    }
-    if b[book_bytes::MEMBERS] != n {
-        return false;
-    }
-    if b[book_bytes::SELF] != p.0 {
-        return false;
-    }
-    book_known(list, b, queues, made)
+    book_sound::sound(b)
+        && b[book_bytes::MEMBERS] == n
+        && b[book_bytes::SELF] == p.0
+        && book_known(list, b, queues, made)
 }
 
 // The books of n members.
@@ -112,14 +92,7 @@ pub fn members_sound(list: &[u8], books: &[u8], queues: &[u8], made: u8, n: u8) 
         (λ p. member_sound (views_in list.now 0 made) queues.now n p
         (book_bytes books.now p)) }
 {
-    let mut p: u8 = 0;
-    while p < n {
-        let a = book_bytes::SIZE * (p as usize);
-        let e = a + book_bytes::SIZE;
-        if !member_sound(list, &books[a..e], queues, made, n, Member(p)) {
-            return false;
-        }
-        p += 1;
-    }
-    true
+    (0..n)
+        .zip(books.chunks_exact(book_bytes::SIZE))
+        .all(|(p, b)| member_sound(list, b, queues, made, n, Member(p)))
 }

@@ -38,10 +38,9 @@ fn heads(q: &[u8], c: usize, count: u8, n: u8) -> Seen
     ensures { (result.fit ≡ every count (heads_fit n q.now c))
         × (result.infos ≡ infos_within q.now c count) }
 {
-    let mut worst = 0;
-    let mut infos = 0;
-    let mut i = 0;
-    while i < count as usize {
+    let mut worst: u8 = 0;
+    let mut infos: u8 = 0;
+    for i in 0..count as usize {
         let kind = q[c + slots::order::KINDS + i];
         let wrong = fault(
             q[c + slots::order::SENDERS + i],
@@ -49,18 +48,16 @@ fn heads(q: &[u8], c: usize, count: u8, n: u8) -> Seen
             q[c + slots::order::COUNTS + i],
             n,
         );
-        worst = if worst < wrong { wrong } else { worst };
-        i += 1;
+        worst = worst.max(wrong);
         let info = if kind == format::INFO {
-            (i % 256) as u8
+            (i + 1) as u8
         } else {
             0
         };
-        infos = if infos < info { info } else { infos };
+        infos = infos.max(info);
     }
-    let fit = worst == 0;
     Seen {
-        fit,
+        fit: worst == 0,
         infos: infos as usize,
     }
 }
@@ -79,10 +76,7 @@ fn info_known(list: &[u8], q: &[u8], made: u8, c: usize, k: usize) -> bool
     if n == 1 {
         return crate::listed::view_listed(list, q, made, at);
     }
-    if !format::views_allowed(format::INFO, n) {
-        return false;
-    }
-    crate::listed::views_known(list, q, made, at, n)
+    format::views_allowed(format::INFO, n) && crate::listed::views_known(list, q, made, at, n)
 }
 
 // The infos among the first entries of the order at c.
@@ -91,14 +85,7 @@ fn infos_known(list: &[u8], q: &[u8], made: u8, c: usize, count: usize) -> bool
         × (is_rising (views_in list.now 0 made) ≡ true) }
     ensures { result ≡ every count (infos_known (views_in list.now 0 made) q.now c) }
 {
-    let mut i = 0;
-    while i < count {
-        if !info_known(list, q, made, c, i) {
-            return false;
-        }
-        i += 1;
-    }
-    true
+    (0..count).all(|i| info_known(list, q, made, c, i))
 }
 
 // The order with its count at c.
@@ -112,8 +99,5 @@ pub fn order_sound(list: &[u8], q: &[u8], made: u8, c: usize, n: u8) -> bool
         return false;
     }
     let h = heads(q, c, count, n);
-    if !h.fit {
-        return false;
-    }
-    infos_known(list, q, made, c, h.infos)
+    h.fit && infos_known(list, q, made, c, h.infos)
 }

@@ -21,10 +21,7 @@ fn slot_known(list: &[u8], q: &[u8], made: u8, at: usize) -> bool
     ensures { result ≡ both (slot_fits q.now at)
         (info_known (views_in list.now 0 made) (entry_in q.now at)) }
 {
-    if !slots::slot_fits(q, at) {
-        return false;
-    }
-    crate::listed::info_known(list, q, made, at)
+    slots::slot_fits(q, at) && crate::listed::info_known(list, q, made, at)
 }
 
 // The slot at a place: of known kind, its entry sound, its views listed. Most entries are client messages, of which the
@@ -53,14 +50,7 @@ fn entries_known(list: &[u8], q: &[u8], made: u8, at: usize, count: usize, n: u8
         × (list_sound n (views_in list.now 0 made) ≡ true) }
     ensures { result ≡ entries_known (views_in list.now 0 made) n q.now at count }
 {
-    let mut i = 0;
-    while i < count {
-        if !entry_known(list, q, made, at + slots::SLOT * i, n) {
-            return false;
-        }
-        i += 1;
-    }
-    true
+    (0..count).all(|i| entry_known(list, q, made, at + slots::SLOT * i, n))
 }
 
 // What waits for a member, with its count at a place.
@@ -69,10 +59,7 @@ fn queue_sound(list: &[u8], q: &[u8], made: u8, at: usize, n: u8) -> bool
         × (list_sound n (views_in list.now 0 made) ≡ true) }
     ensures { result ≡ queue_sound (views_in list.now 0 made) n q.now at }
 {
-    if limits::WAITING < q[at] {
-        return false;
-    }
-    entries_known(list, q, made, at + 1, q[at] as usize, n)
+    q[at] <= limits::WAITING && entries_known(list, q, made, at + 1, q[at] as usize, n)
 }
 
 // What waits for n members in the view at place i of the list.
@@ -82,14 +69,7 @@ fn waiting_sound(list: &[u8], q: &[u8], made: u8, i: usize, n: u8) -> bool
     ensures { result ≡ waiting_sound (views_in list.now 0 made) n q.now i }
 {
     let from = group_bytes::HEAD + group_bytes::TABLE * i + group_bytes::ORDER;
-    let mut p: u8 = 0;
-    while p < n {
-        if !queue_sound(list, q, made, from + group_bytes::WAITING * (p as usize), n) {
-            return false;
-        }
-        p += 1;
-    }
-    true
+    (0..n).all(|p| queue_sound(list, q, made, from + group_bytes::WAITING * p as usize, n))
 }
 
 // The queues of the view at place i of the list.
@@ -99,10 +79,7 @@ fn table_sound(list: &[u8], q: &[u8], made: u8, i: usize, n: u8) -> bool
     ensures { result ≡ table_sound (views_in list.now 0 made) n q.now i }
 {
     let at = group_bytes::HEAD + group_bytes::TABLE * i;
-    if !crate::orders::order_sound(list, q, made, at, n) {
-        return false;
-    }
-    waiting_sound(list, q, made, i, n)
+    crate::orders::order_sound(list, q, made, at, n) && waiting_sound(list, q, made, i, n)
 }
 
 // The queues of every view made.
@@ -111,13 +88,5 @@ pub fn tables_sound(list: &[u8], q: &[u8], made: u8, n: u8) -> bool
         × (list_sound n (views_in list.now 0 made) ≡ true) }
     ensures { result ≡ every made (table_sound (views_in list.now 0 made) n q.now) }
 {
-    let views = made as usize;
-    let mut i = 0;
-    while i < views {
-        if !table_sound(list, q, made, i, n) {
-            return false;
-        }
-        i += 1;
-    }
-    true
+    (0..made as usize).all(|i| table_sound(list, q, made, i, n))
 }

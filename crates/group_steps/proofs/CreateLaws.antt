@@ -2,18 +2,20 @@
 use mathlib.Core.Path.{◌≡◌, refl, sym, ap, ◌∙◌}
 use mathlib.Core.Bool.{Bool, true, false}
 use mathlib.Core.List.{List}
-use Prim.Native.Nat.{ℕ, suc, ◌+◌, ◌-◌, ◌*◌, ◌≤◌, ◌<◌}
+use Prim.Native.Nat.{ℕ, zero, suc, ◌+◌, ◌*◌, ◌≤◌, ◌<◌}
 use native.Mathlib.Numerals.{add-one}
 use native.Mathlib.Omega.{arith}
 use borrow.Author.Tests.{lt-ltb, le-ltb}
+use lib.Dec.{ltb}
 use lib.ListN.{set}
+use Rattle.std.specs.Prelude.{◌&&◌, Ok, Err}
+use Rattle.std.specs.List.{list_all, range_with_len}
 use Rattle.numbers.specs.Number.{get}
 use Rattle.views.specs.declared.refusal.Refusal.{Refusal}
 use Rattle.views.specs.declared.refusal.Refusal.TheVariants.{SetUnfit, IdentifierNotAbove, ListFull}
-use Rattle.views.specs.declared.refusal.Verdict.TheVariants.{Accepted, Refused}
 use Rattle.views.specs.Limits.{max_members}
 use Rattle.views.specs.Sizes.{view_size}
-use Rattle.views.specs.Sets.{fits}
+use Rattle.views.specs.Sets.{both, fits}
 use Rattle.views.specs.Lists.{view_of}
 use Rattle.views.specs.Refusals.{left}
 use Rattle.wire.specs.Reader.{views_in}
@@ -30,31 +32,23 @@ use Rattle.group_bytes.proofs.PlaceLaws.{length-made}
 use Rattle.group_bytes.proofs.Creating.{Creating, created, create-says}
 use Rattle.group_steps.specs.CarrierParts.{all_below, creating, Created}
 
--- ---- the identifiers, by turns: the views from the i-th on
+-- ---- the identifiers, in turn
 
-abbrev pub below_from : List ℕ → ℕ → ℕ → ℕ → Bool
-below_from b g n i = all_below g (views_in b (view_size * i) (n - i))
+in_turn : (a b : Bool) → (a && b) ≡ both a b
+in_turn false b = refl
+in_turn true b = refl
 
-pub below-first : (b : List ℕ) (g n : ℕ) → all_below g (views_in b 0 n) ≡ below_from b g n 0
-below-first b g n = let k : n - 0 ≡ n = omega arith in rw k
-
-module _ (b : List ℕ) (g n i : ℕ) where
-  split : i < n → below_from b g n i ≡ all_below g (views_in b (view_size * i) (suc (n - (i + 1))))
-  split h = let k : n - i ≡ suc (n - (i + 1)) = omega arith in ap (λ (z : ℕ). all_below g (views_in b (view_size * i) z)) k
-
-  pub below-turn : i < n → get b (view_size * i) 4 < g → below_from b g n i ≡ below_from b g n (i + 1)
+module _ (b : List ℕ) (g : ℕ) where
+  below_past : (n a : ℕ) → list_all (λ i. ltb (get b (view_size * i) 4) g) (range_with_len a n) ≡ all_below g (views_in b (view_size * a) n)
   unfolding all views_in
-  below-turn h l =
-      let a : view_size * i + 5 ≡ view_size * (i + 1) = omega arith in
-      split h ∙ rw (lt-ltb (get b (view_size * i) 4) g l, a)
+  below_past zero a = refl
+  below_past (suc n) a =
+      let here = ltb (get b (view_size * a) 4) g in
+      let next : view_size * (a + 1) ≡ view_size * a + 5 = omega arith in
+      in_turn here _ ∙ ap (both here) (below_past n (a + 1) ∙ rw next)
 
-  pub below-stop : i < n → g ≤ get b (view_size * i) 4 → false ≡ below_from b g n i
-  unfolding all views_in
-  below-stop h l = sym (split h ∙ rw (le-ltb (get b (view_size * i) 4) g l))
-
-  pub below_end : i ≡ n → true ≡ below_from b g n i
-  unfolding all views_in
-  below_end e = let k : n - i ≡ 0 = omega arith in rw k
+  pub below_listed : (n : ℕ) → list_all (λ i. ltb (get b (view_size * i) 4) g) (range_with_len 0 n) ≡ all_below g (views_in b 0 n)
+  below_listed n = below_past n 0
 
 -- ---- the queues, by turns
 
@@ -72,22 +66,22 @@ clear-end q i c p e f = rw (e, f)
 
 -- ---- the verdict and the bytes
 
-pub create-refused : (r : Ranges) (g S : ℕ) (x : Refusal) → verdict_of (creating r g S) ≡ Refused x → Created r g S r.list r.queues (Refused x)
+pub create-refused : (r : Ranges) (g S : ℕ) (x : Refusal) → verdict_of (creating r g S) ≡ Err x → Created r g S r.list r.queues (Err x)
 unfolding left
 create-refused r g S x e = record { verdict = sym e; made = rw e; cleared = rw e }
 
 module _ (r : Ranges) (g S : ℕ) where
-  pub unfit : fits (members_of r) S ≡ false → verdict_of (creating r g S) ≡ Refused SetUnfit
+  pub unfit : fits (members_of r) S ≡ false → verdict_of (creating r g S) ≡ Err SetUnfit
   unfolding creates group_in need
   unfit e = rw e
 
   module _ (f : fits (members_of r) S ≡ true) where
-    pub not-above : all_below g (views_made r) ≡ false → verdict_of (creating r g S) ≡ Refused IdentifierNotAbove
+    pub not-above : all_below g (views_made r) ≡ false → verdict_of (creating r g S) ≡ Err IdentifierNotAbove
     unfolding creates group_in need
     not-above e = rw (f, e)
 
     module _ (a : all_below g (views_made r) ≡ true) where
-      pub list_full : room_of r.list ≤ made_of r → verdict_of (creating r g S) ≡ Refused ListFull
+      pub list_full : room_of r.list ≤ made_of r → verdict_of (creating r g S) ≡ Err ListFull
       unfolding creates group_in need
       list_full h = rw (f, a, length-made r, le-ltb _ _ h)
 
@@ -101,6 +95,6 @@ module _ (r : Ranges) (g S : ℕ) where
         made-says ranged = create-says r ranged g S _ makes
 
         pub create-accepted : (l q : List ℕ) → l ≡ store_view r.list (view_size * made_of r) (view_of g S) → q ≡ set (table_cleared r.queues (made_of r)) made_at (made_of r + 1)
-            → Created r g S l q Accepted
+            → Created r g S l q (Ok tt)
         unfolding left create_ranges
         create-accepted l q e h = let v = ap verdict_of makes in record { verdict = sym v; made = rw v e; cleared = rw v h }

@@ -1,15 +1,15 @@
 -- Deliver: each refusal at its place in the row; the next entry can be taken, and what the step on the book gives is what the group's rule gives.
 use mathlib.Core.Path.{◌≡◌, refl, sym, ap, ◌∙◌, subst}
 use mathlib.Core.Bool.{true, false}
-use mathlib.Core.Option.{none, some}
+use Rattle.std.specs.Prelude.{None, Some, Err}
 use mathlib.Core.List.{List, [], ◌++◌}
 use Prim.Native.Nat.{ℕ, ◌+◌, ◌*◌, ◌≤◌, ◌<◌}
 use native.Mathlib.Omega.{arith}
 use borrow.Author.Tests.{lt-ltb, le-ltb}
 use lib.ListN.{length, get_or, take, drop, drop_of_length-le}
 use Rattle.views.specs.declared.View.{View}
-use Rattle.views.specs.declared.refusal.Refusal.TheVariants.{NoSuchMember, NoCarrierView, NoneToDeliver}
-use Rattle.views.specs.declared.refusal.Verdict.TheVariants.{Refused}
+use Rattle.views.specs.declared.refusal.Refusal.{Refusal}
+use Rattle.views.specs.declared.refusal.Refusal.TheVariants.{NoCarrierView, NoneToDeliver}
 use Rattle.views.specs.Limits.{max_views, max_members, max_ordered}
 use Rattle.views.specs.Sizes.{view_size}
 use Rattle.views.specs.Lists.{id_of}
@@ -29,8 +29,7 @@ use Rattle.slots.proofs.Orders.{length-order, order-next, order-message, order-f
 use Rattle.book_bytes.specs.Places.{members_at, carrier_at, taken_at, book_size}
 use Rattle.book_bytes.specs.Records.{seat_in, record_in}
 use Rattle.book_bytes.specs.Books.{book_in, bytes_sound}
-use Rattle.events.specs.declared.Reply.{Reply}
-use Rattle.events.specs.Replies.{no_event, replied, reply_of, verdict_of}
+use Rattle.events.specs.Replies.{Reply, reply_of, verdict_of}
 use Rattle.book_steps.specs.Acts.{taking, take_bytes}
 use Rattle.group_bytes.specs.Places.{book_bytes, order_at}
 use Rattle.group_bytes.specs.Groups.{Ranges, members_of, made_of, views_made, place_of, group_in, ranges_sound}
@@ -41,8 +40,8 @@ use Rattle.group_bytes.proofs.BookSounds.{book-is}
 use Rattle.group_bytes.proofs.Inside.{order-inside}
 use Rattle.group_bytes.proofs.Tables.{order-at}
 use Rattle.group_bytes.proofs.DeliverGroup.{Takes, takes-accepted, deliver-takes}
-use Rattle.group_steps.specs.OwnParts.{HasBook, of_member, OwnStep}
-use Rattle.group_steps.proofs.OwnStepLaws.{desk-done}
+use Rattle.group_steps.specs.OwnParts.{HasBook, of_member, book_place, OwnStep}
+use Rattle.group_steps.proofs.OwnStepLaws.{place-given, place-refused, own-done}
 use Rattle.group_steps.proofs.Rows.{ranged, group-sound}
 use Rattle.group_steps.specs.VisitParts.{delivering, Delivered}
 use Rattle.group_steps.proofs.JoinLaws.{desk-of, of-member}
@@ -78,18 +77,15 @@ module _ (books : List ℕ) (p : Member) (there : p < get_or books members_at 0)
       → OwnStep p (of_member books p (λ b. taking q m (book_in b))) (take_bytes q m) books exit x
   part-taken q z m is x c exit y e =
       subst (λ (z : Message). OwnStep p (of_member books p (λ b. taking q z (book_in b))) (take_bytes q z) books exit x) is
-      (desk-done books p (λ b. taking q z (book_in b)) (take_bytes q z) x there n size c exit y e)
-
-  pub part-seat : seat_in part carrier_at ≡ seat_in (book_bytes books p) carrier_at
-  unfolding book_bytes
-  part-seat = rw size
+      (own-done books p (λ b. taking q z (book_in b)) (take_bytes q z) x (place-given books p there) n size c exit y e)
 
 -- ---- the row
 
 module _ (r : Ranges) (p : Member) where
-  pub deliver-no-member : members_of r ≤ p → (x : Reply) → x ≡ replied (Refused NoSuchMember) no_event → Delivered r p r.books x
-  unfolding delivering need replied left
-  deliver-no-member h x e = let t = le-ltb _ _ h in record { reply = rw t e; taken = rw t }
+  -- 6, as the place of the book says
+  pub deliver-no-member : (x : Refusal) → Err x ≡ book_place r.books p → Delivered r p r.books (Err x)
+  unfolding delivering need left
+  deliver-no-member x e = let (past, why) = place-refused r.books p e in let t = le-ltb _ _ past in record { reply = rw (t, why); taken = rw t }
 
   module _ (s : ranges_sound r ≡ true) (member : p < members_of r) where
     abbrev b : List ℕ
@@ -102,13 +98,13 @@ module _ (r : Ranges) (p : Member) where
     unfolding delivering need
     by-rule = rw (lt-ltb _ _ member)
 
-    carrier-none : (seat_in b carrier_at).there ≡ false → B.carrier.view ≡ none
+    carrier-none : (seat_in b carrier_at).there ≡ false → B.carrier.view ≡ None
     unfolding book_in record_in
     carrier-none e = ap (λ (C : Book). C.carrier.view) (book-is r (ranged r s) p member) ∙ rw e
 
-    pub deliver-no-carrier : (seat_in b carrier_at).there ≡ false → (x : Reply) → x ≡ replied (Refused NoCarrierView) no_event → Delivered r p r.books x
-    unfolding deliver_step with_view replied left
-    deliver-no-carrier h x e = let t = carrier-none h in record { reply = rw (by-rule, t) e; taken = rw (by-rule, t) }
+    pub deliver-no-carrier : (seat_in b carrier_at).there ≡ false → Delivered r p r.books (Err NoCarrierView)
+    unfolding deliver_step with_view left
+    deliver-no-carrier h = let t = carrier-none h in record { reply = rw (by-rule, t); taken = rw (by-rule, t) }
 
     module _ (there : (seat_in b carrier_at).there ≡ true) where
       abbrev v : View
@@ -117,7 +113,7 @@ module _ (r : Ranges) (p : Member) where
       abbrev i : ℕ
       i = place_of (id_of v) (views_made r)
 
-      carrier-some : B.carrier.view ≡ some v
+      carrier-some : B.carrier.view ≡ Some v
       unfolding book_in record_in
       carrier-some = ap (λ (C : Book). C.carrier.view) (book-is r (ranged r s) p member) ∙ rw there
 
@@ -146,11 +142,11 @@ module _ (r : Ranges) (p : Member) where
       unfolding deliver_step with_view group_in
       by_first = by-rule ∙ rw (carrier-some, taken_is, order-at r (id_of v) i refl carrier-made)
 
-      pub deliver-none : get_or r.queues (order_at i) 0 ≤ get_or b taken_at 0 → (x : Reply) → x ≡ replied (Refused NoneToDeliver) no_event → Delivered r p r.books x
-      unfolding with_first replied left
-      deliver-none h x e =
+      pub deliver-none : get_or r.queues (order_at i) 0 ≤ get_or b taken_at 0 → Delivered r p r.books (Err NoneToDeliver)
+      unfolding with_first left
+      deliver-none h =
           let t : ahead ≡ [] = drop_of_length-le (entries_ordered r.queues o) {i = k} (omega (arith, length-order r.queues o)) in
-          record { reply = rw (by_first, t) e; taken = rw (by_first, t) }
+          record { reply = rw (by_first, t); taken = rw (by_first, t) }
 
       module _ (bytes : RangesBytes r) (more : get_or b taken_at 0 < get_or r.queues (order_at i) 0) where
         -- the next entry

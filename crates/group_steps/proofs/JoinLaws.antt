@@ -1,4 +1,5 @@
 -- Join: each refusal at its place in the row; what the step on the member's book gives is what the group's rule gives.
+use Rattle.std.specs.Prelude.{Some, Err}
 use mathlib.Core.Path.{◌≡◌, sym, ap, ◌∙◌}
 use mathlib.Core.Bool.{true}
 use mathlib.Core.List.{List, ◌++◌}
@@ -7,9 +8,7 @@ use native.Mathlib.Omega.{arith}
 use borrow.Author.Tests.{lt-ltb, le-ltb}
 use lib.ListN.{get_or, take, drop}
 use Rattle.views.specs.declared.View.{View}
-use Rattle.views.specs.declared.list.Lookup.TheVariants.{Found}
 use Rattle.views.specs.declared.refusal.Refusal.TheVariants.{NoSuchMember, NoSuchView}
-use Rattle.views.specs.declared.refusal.Verdict.TheVariants.{Refused}
 use Rattle.views.specs.Sizes.{view_size}
 use Rattle.views.specs.Lists.{no_view, find_of}
 use Rattle.views.specs.Refusals.{left}
@@ -20,8 +19,7 @@ use Rattle.rules.specs.Member.{Done, joins}
 use Rattle.rules.specs.Group.{own, with_listed, join_step}
 use Rattle.book_bytes.specs.Places.{members_at, book_size}
 use Rattle.book_bytes.specs.Books.{book_in, own_in_book}
-use Rattle.events.specs.declared.Reply.{Reply}
-use Rattle.events.specs.Replies.{no_event, replied, reply_of, verdict_of}
+use Rattle.events.specs.Replies.{Reply, reply_of, verdict_of}
 use Rattle.book_steps.specs.Acts.{join_bytes}
 use Rattle.group_bytes.specs.Places.{book_bytes, with_book}
 use Rattle.group_bytes.specs.Groups.{Ranges, members_of, made_of, views_made, place_of, group_in, ranges_sound}
@@ -31,7 +29,7 @@ use Rattle.group_bytes.proofs.AnswerLaws.{own-reply, own-verdict}
 use Rattle.group_bytes.proofs.PlaceLaws.{place_found}
 use Rattle.group_bytes.proofs.BookSounds.{self_in, book-is, sound-book}
 use Rattle.group_steps.specs.OwnParts.{HasBook, of_member, OwnStep}
-use Rattle.group_steps.proofs.OwnStepLaws.{desk-done}
+use Rattle.group_steps.proofs.OwnStepLaws.{place-given, own-done}
 use Rattle.group_steps.proofs.Found.{found_at, missing_at}
 use Rattle.group_steps.proofs.Rows.{ranged, group-sound}
 use Rattle.group_steps.specs.VisitParts.{joining, Joined}
@@ -57,23 +55,23 @@ pub enter-done : (books : List ℕ) (p : Member) → p < get_or books members_at
     → exit ≡ take (book_size * p) books ++ (c ++ drop m (drop (book_size * p) books))
     → OwnStep p (of_member books p (λ b. joins (own_in_book b) w (book_in b))) (join_bytes w) books exit x
 enter-done books p there v w e m size x c exit f g =
-    rw (← e) (desk-done books p (λ b. joins (own_in_book b) v (book_in b)) (join_bytes v) x there m size c exit f g)
+    rw (← e) (own-done books p (λ b. joins (own_in_book b) v (book_in b)) (join_bytes v) x (place-given books p there) m size c exit f g)
 
 -- ---- the row
 
 module _ (r : Ranges) (p : Member) (g : ℕ) where
-  pub join-no-member : members_of r ≤ p → (x : Reply) → x ≡ replied (Refused NoSuchMember) no_event → Joined r p g r.books x
-  unfolding joining need replied left
-  join-no-member h x e = let t = le-ltb _ _ h in record { reply = rw t e; entered = rw t }
+  pub join-no-member : members_of r ≤ p → Joined r p g r.books (Err NoSuchMember)
+  unfolding joining need left
+  join-no-member h = let t = le-ltb _ _ h in record { reply = rw t; entered = rw t }
 
   module _ (member : p < members_of r) where
     by-rule : joining r p g ≡ join_step (group_in r) p g
     unfolding joining need
     by-rule = rw (lt-ltb _ _ member)
 
-    pub join-no-view : made_of r ≤ place_of g (views_made r) → (x : Reply) → x ≡ replied (Refused NoSuchView) no_event → Joined r p g r.books x
-    unfolding join_step group_in with_listed replied left
-    join-no-view h x e = let t = missing_at r g h in record { reply = rw (by-rule, t) e; entered = rw (by-rule, t) }
+    pub join-no-view : made_of r ≤ place_of g (views_made r) → Joined r p g r.books (Err NoSuchView)
+    unfolding join_step group_in with_listed left
+    join-no-view h = let t = missing_at r g h in record { reply = rw (by-rule, t); entered = rw (by-rule, t) }
 
     module _ (s : ranges_sound r ≡ true) (i : ℕ) (place : i ≡ place_of g (views_made r)) (there : i < made_of r) where
       -- the view at the place is the view of the identifier
@@ -82,10 +80,10 @@ module _ (r : Ranges) (p : Member) (g : ℕ) where
           let e : view_size * i ≡ 0 + view_size * i = omega arith in
           ap (view_in r.list) e ∙ sym (views-at r.list 0 (made_of r) i there) ∙ ap (λ (k : ℕ). get_or (views_made r) k no_view) place
 
-      found : find_of g (views_made r) ≡ Found (view_at r g)
+      found : find_of g (views_made r) ≡ Some (view_at r g)
       found =
           let (v, e) = found_at r g (rw (← place) there) in
-          e ∙ ap Found (sym (place_found g (views_made r) v e).1)
+          e ∙ ap Some (sym (place_found g (views_made r) v e).1)
 
       -- what the rule gives of the book
       abbrev result : Result Done

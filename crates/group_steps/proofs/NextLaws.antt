@@ -1,4 +1,5 @@
 -- Deliver in the code's terms: the order's place as it is looked up, the position as it is read from the books.
+use Rattle.std.specs.Prelude.{Err}
 use mathlib.Core.Path.{◌≡◌, sym, ap, ◌∙◌}
 use mathlib.Core.Bool.{true}
 use mathlib.Core.List.{List}
@@ -7,7 +8,6 @@ use native.Mathlib.Omega.{arith}
 use lib.ListN.{length, get_or}
 use Rattle.views.specs.declared.ViewId.{ViewId}
 use Rattle.views.specs.declared.refusal.Refusal.TheVariants.{NoneToDeliver}
-use Rattle.views.specs.declared.refusal.Verdict.TheVariants.{Refused}
 use Rattle.views.specs.Limits.{max_members, max_ordered}
 use Rattle.rules.specs.Data.{Member}
 use Rattle.slots.specs.Slots.{fits_kind}
@@ -15,8 +15,7 @@ use Rattle.slots.specs.Columns.{order_size, order_sender, order_kind, order_coun
 use Rattle.book_bytes.specs.Places.{carrier_at, taken_at, book_size}
 use Rattle.book_bytes.specs.Records.{seat_in}
 use Rattle.book_bytes.specs.Books.{book_in}
-use Rattle.events.specs.declared.Reply.{Reply}
-use Rattle.events.specs.Replies.{no_event, replied}
+use Rattle.events.specs.Replies.{Reply}
 use Rattle.book_steps.specs.Acts.{taking, take_bytes}
 use Rattle.group_bytes.specs.Places.{book_bytes, order_at}
 use Rattle.group_bytes.specs.Groups.{Ranges, members_of, views_made, place_of, ranges_sound}
@@ -50,8 +49,8 @@ module _ (r : Ranges) (p : Member) (s : ranges_sound r ≡ true) (member : p < m
   pub next-inside : c + order_size ≤ length r.queues
   next-inside = omega (arith, at-order, order-inside r (ranged r s) i (carrier-made r p s member there))
 
-  pub next-none : get_or r.queues c 0 ≤ k → (x : Reply) → x ≡ replied (Refused NoneToDeliver) no_event → Delivered r p r.books x
-  next-none h x e = deliver-none r p s member there (omega (arith, at_count, at-taken)) x e
+  pub next-none : get_or r.queues c 0 ≤ k → Delivered r p r.books (Err NoneToDeliver)
+  next-none h = deliver-none r p s member there (omega (arith, at_count, at-taken))
 
   module _ (bytes : RangesBytes r) (more : k < get_or r.queues c 0) where
     ahead : get_or (book_bytes r.books p) taken_at 0 < get_or r.queues (order_at i) 0

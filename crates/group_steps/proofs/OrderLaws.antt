@@ -8,7 +8,7 @@ use borrow.Author.Tests.{lt-ltb, le-ltb}
 use lib.ListN.{length, get_or}
 use Rattle.views.specs.declared.refusal.Refusal.{Refusal}
 use Rattle.views.specs.declared.refusal.Refusal.TheVariants.{NoSuchView, NoneWaiting, OrderFull}
-use Rattle.views.specs.declared.refusal.Verdict.TheVariants.{Accepted, Refused}
+use Rattle.std.specs.Prelude.{Ok, Err}
 use Rattle.views.specs.Limits.{max_ordered}
 use Rattle.views.specs.Refusals.{left}
 use Rattle.wire.specs.Format.{told_kind}
@@ -63,11 +63,11 @@ unfolding order_ranges
 order-bytes r p g c w q e f h = h ∙ ap₂ (λ (c w : ℕ). popped (added r.queues c w) w (w + 1)) e f
 
 -- a refusal leaves the queues, and an accepted order moves the entry
-pub order-refused : (r : Ranges) (p g : ℕ) (x : Refusal) → verdict_of (ordering r p g) ≡ Refused x → Ordered r p g r.queues (Refused x)
+pub order-refused : (r : Ranges) (p g : ℕ) (x : Refusal) → verdict_of (ordering r p g) ≡ Err x → Ordered r p g r.queues (Err x)
 unfolding left
 order-refused r p g x e = record { verdict = sym e; moved = rw e }
 
-pub order-accepted : (r : Ranges) (p g : ℕ) (q : List ℕ) → verdict_of (ordering r p g) ≡ Accepted → q ≡ (order_ranges r p g).queues → Ordered r p g q Accepted
+pub order-accepted : (r : Ranges) (p g : ℕ) (q : List ℕ) → verdict_of (ordering r p g) ≡ Ok tt → q ≡ (order_ranges r p g).queues → Ordered r p g q (Ok tt)
 unfolding left
 order-accepted r p g q e f = record { verdict = sym e; moved = rw e f }
 
@@ -76,12 +76,12 @@ order-accepted r p g q e f = record { verdict = sym e; moved = rw e f }
 module _ (r : Ranges) (p g : ℕ) where
   module _ (member : p < members_of r) where
     -- what sound ranges say of the entry and of its places where order is accepted
-    pub order-known : Ranged r → sound (group_in r) ≡ true → verdict_of (ordering r p g) ≡ Accepted → Ordering r p (place_of g (views_made r))
+    pub order-known : Ranged r → sound (group_in r) ≡ true → verdict_of (ordering r p g) ≡ Ok tt → Ordering r p (place_of g (views_made r))
     order-known fits sounds h =
         let (x, e) = accepts (ordering r p g) h in
         order-says r fits sounds p g member x (sym (by-rule r p (order_step (group_in r) p g) member) ∙ e)
 
-    pub no-view : made_of r ≤ place_of g (views_made r) → verdict_of (ordering r p g) ≡ Refused NoSuchView
+    pub no-view : made_of r ≤ place_of g (views_made r) → verdict_of (ordering r p g) ≡ Err NoSuchView
     unfolding order_step group_in with_listed
     no-view h = ap verdict_of (by-rule r p (order_step (group_in r) p g) member) ∙ rw (missing_at r g h)
 
@@ -92,7 +92,7 @@ module _ (r : Ranges) (p g : ℕ) where
       abbrev w : ℕ
       w = waiting_at i p
 
-      pub none-waiting : get_or r.queues w 0 ≡ 0 → verdict_of (ordering r p g) ≡ Refused NoneWaiting
+      pub none-waiting : get_or r.queues w 0 ≡ 0 → verdict_of (ordering r p g) ≡ Err NoneWaiting
       unfolding order_step group_in with_listed with_first
       none-waiting h =
           let f = found_at r g there in
@@ -103,7 +103,7 @@ module _ (r : Ranges) (p g : ℕ) where
       order-length = ap length (order-at r g i refl there) ∙ length-order r.queues (order_at i)
 
       module _ (some : 0 < get_or r.queues w 0) where
-        pub order-full : max_ordered ≤ get_or r.queues (order_at i) 0 → verdict_of (ordering r p g) ≡ Refused OrderFull
+        pub order-full : max_ordered ≤ get_or r.queues (order_at i) 0 → verdict_of (ordering r p g) ≡ Err OrderFull
         unfolding order_step group_in with_listed with_first need
         order-full h =
             let f = found_at r g there in
@@ -111,7 +111,7 @@ module _ (r : Ranges) (p g : ℕ) where
             let l = waiting-at r g i refl p member there ∙ k in
             ap verdict_of (by-rule r p (order_step (group_in r) p g) member) ∙ rw (f.1, l, order-length, le-ltb _ _ h)
 
-        pub order-moves : get_or r.queues (order_at i) 0 < max_ordered → verdict_of (ordering r p g) ≡ Accepted
+        pub order-moves : get_or r.queues (order_at i) 0 < max_ordered → verdict_of (ordering r p g) ≡ Ok tt
         unfolding order_step group_in with_listed with_first need
         order-moves h =
             let f = found_at r g there in

@@ -1,15 +1,14 @@
 -- Pass: the member's book as a part of the books, each refusal at its place in the row, and the bytes of an accepted one.
 use mathlib.Core.Path.{◌≡◌, refl, sym, ap, ◌∙◌}
 use mathlib.Core.Bool.{true, false}
-use mathlib.Core.Option.{some}
-use mathlib.Core.List.{List, ◌++◌}
+use Rattle.std.specs.Prelude.{Some, Ok, Err}
+use mathlib.Core.List.{List}
 use Prim.Native.Nat.{ℕ, ◌+◌, ◌*◌, ◌≤◌, ◌<◌}
 use native.Mathlib.Omega.{arith}
 use borrow.Author.Tests.{lt-ltb, le-ltb}
 use lib.ListN.{length, get_or, take, drop}
 use Rattle.views.specs.declared.refusal.Refusal.{Refusal}
-use Rattle.views.specs.declared.refusal.Refusal.TheVariants.{NoCarrierView, NoneOutgoing, WaitingFull}
-use Rattle.views.specs.declared.refusal.Verdict.TheVariants.{Accepted, Refused}
+use Rattle.views.specs.declared.refusal.Refusal.TheVariants.{NoSuchMember, NoCarrierView, NoneOutgoing, WaitingFull}
 use Rattle.views.specs.Limits.{max_outgoing, max_waiting}
 use Rattle.views.specs.Lists.{id_of}
 use Rattle.views.specs.Refusals.{left}
@@ -35,28 +34,26 @@ use Rattle.group_bytes.proofs.Inside.{waiting-inside}
 use Rattle.group_bytes.proofs.PassGroup.{carried_in}
 use Rattle.group_bytes.proofs.Tables.{waiting-at}
 use Rattle.group_steps.specs.CarrierParts.{passing, Passed}
-use Rattle.group_steps.proofs.Rows.{ranged, group-sound, by-rule, first_of}
+use Rattle.group_steps.proofs.Rows.{ranged, group-sound, no_member, by-rule, first_of}
+use Rattle.group_steps.specs.OwnParts.{book_place}
+use Rattle.group_steps.proofs.OwnStepLaws.{place-refused, part-is}
 
 -- ---- the book of p is the part of the books that the code lends
 
-module _ (books : List ℕ) (p m : ℕ) (size : m ≡ book_size) where
-  pub part-is : take m (drop (book_size * p) books) ≡ book_bytes books p
-  unfolding book_bytes
-  part-is = rw size
-
-  pub place_is : (s : Seat) → s ≡ seat_in (take m (drop (book_size * p) books)) carrier_at → s ≡ (record_in (book_bytes books p)).carrier
-  unfolding record_in
-  place_is s e = e ∙ ap (λ (b : List ℕ). seat_in b carrier_at) part-is
-
-  pub put_back : (b : List ℕ) → take (book_size * p) books ++ (b ++ drop m (drop (book_size * p) books)) ≡ with_book books p b
-  unfolding with_book
-  put_back b = rw size
+pub place_is : (books : List ℕ) (p : ℕ) {a : ℕ} → Ok a ≡ book_place books p → (m : ℕ) → m ≡ book_size → (s : Seat)
+    → s ≡ seat_in (take m (drop a books)) carrier_at → s ≡ (record_in (book_bytes books p)).carrier
+unfolding record_in
+place_is books p found m size s e = e ∙ ap (λ (b : List ℕ). seat_in b carrier_at) (part-is books p found m size)
 
 -- ---- the verdict and the bytes
 
-pub pass-refused : (r : Ranges) (p : ℕ) (x : Refusal) → verdict_of (passing r p) ≡ Refused x → Passed r p r.books r.queues (Refused x)
+pub pass-refused : (r : Ranges) (p : ℕ) (x : Refusal) → verdict_of (passing r p) ≡ Err x → Passed r p r.books r.queues (Err x)
 unfolding left
 pass-refused r p x e = record { verdict = sym e; gone = rw e; added = rw e }
+
+-- 6, as the place of the book says
+pub pass-no-member : (r : Ranges) (p : ℕ) (x : Refusal) → Err x ≡ book_place r.books p → Passed r p r.books r.queues (Err x)
+pass-no-member r p x e = let (past, why) = place-refused r.books p e in rw why (pass-refused r p NoSuchMember (no_member r p (pass_step (group_in r) p) past))
 
 module _ (r : Ranges) (p : ℕ) where
   abbrev b : List ℕ
@@ -68,8 +65,8 @@ module _ (r : Ranges) (p : ℕ) where
   abbrev w : ℕ
   w = waiting_at i p
 
-  pub pass-accepted : (l q : List ℕ) → verdict_of (passing r p) ≡ Accepted → l ≡ with_book r.books p (pass_bytes b) → q ≡ slot_added r.queues w b (outgoing_at + 1)
-      → Passed r p l q Accepted
+  pub pass-accepted : (l q : List ℕ) → verdict_of (passing r p) ≡ Ok tt → l ≡ with_book r.books p (pass_bytes b) → q ≡ slot_added r.queues w b (outgoing_at + 1)
+      → Passed r p l q (Ok tt)
   unfolding left pass_ranges
   pass-accepted l q e f g = record { verdict = sym e; gone = rw e f; added = rw e g }
 
@@ -80,7 +77,7 @@ module _ (r : Ranges) (p : ℕ) where
     rule : verdict_of (passing r p) ≡ verdict_of (pass_step (group_in r) p)
     rule = ap verdict_of (by-rule r p (pass_step (group_in r) p) member)
 
-    pub no-carrier : (record_in b).carrier.there ≡ false → verdict_of (passing r p) ≡ Refused NoCarrierView
+    pub no-carrier : (record_in b).carrier.there ≡ false → verdict_of (passing r p) ≡ Err NoCarrierView
     unfolding pass_step passes book_in with_view after
     no-carrier t = rule ∙ rw (own, t)
 
@@ -89,7 +86,7 @@ module _ (r : Ranges) (p : ℕ) where
       pub carried-made : i < made_of r
       unfolding group_in book_in
       carried-made =
-          let c : ((group_in r).books p).carrier.view ≡ some (carried_in b) = ap (λ (x : Book). x.carrier.view) own ∙ rw t in
+          let c : ((group_in r).books p).carrier.view ≡ Some (carried_in b) = ap (λ (x : Book). x.carrier.view) own ∙ rw t in
           let listed = ((sound-says (group_in r) (group-sound r s)).book p member).carrier-known (carried_in b) c in
           omega (arith, length-made r, place_in (carried_in b) (views_made r) listed)
 
@@ -97,19 +94,19 @@ module _ (r : Ranges) (p : ℕ) where
       unfolding group_in
       waits = ap length (waiting-at r (id_of (carried_in b)) i refl p member carried-made) ∙ length-entries r.queues (w + 1) (get_or r.queues w 0)
 
-      pub none-outgoing : get_or b outgoing_at 0 ≡ 0 → verdict_of (passing r p) ≡ Refused NoneOutgoing
+      pub none-outgoing : get_or b outgoing_at 0 ≡ 0 → verdict_of (passing r p) ≡ Err NoneOutgoing
       unfolding pass_step passes book_in with_view with_first after
       none-outgoing h = rule ∙ rw (own, t, no-entries b (outgoing_at + 1) (get_or b outgoing_at 0) h)
 
       module _ (some : 0 < get_or b outgoing_at 0) where
-        pub waiting-full : max_waiting ≤ get_or r.queues w 0 → verdict_of (passing r p) ≡ Refused WaitingFull
+        pub waiting-full : max_waiting ≤ get_or r.queues w 0 → verdict_of (passing r p) ≡ Err WaitingFull
         unfolding pass_step passes book_in with_view with_first after need
         waiting-full h =
             let (e, rest, k) = first_of b (outgoing_at + 1) (get_or b outgoing_at 0) some in
             rule ∙ rw (own, t, k, waits, le-ltb _ _ h)
 
         module _ (room : get_or r.queues w 0 < max_waiting) where
-          pub pass-moves : verdict_of (passing r p) ≡ Accepted
+          pub pass-moves : verdict_of (passing r p) ≡ Ok tt
           unfolding pass_step passes book_in with_view with_first after need
           pass-moves =
               let (e, rest, k) = first_of b (outgoing_at + 1) (get_or b outgoing_at 0) some in

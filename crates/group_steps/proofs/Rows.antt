@@ -6,7 +6,7 @@ use Prim.Native.Nat.{ℕ, zero, suc, ◌≤◌, ◌<◌}
 use native.Mathlib.Omega.{arith}
 use borrow.Author.Tests.{lt-ltb, le-ltb}
 use Rattle.views.specs.declared.refusal.Refusal.TheVariants.{NoSuchMember}
-use Rattle.views.specs.declared.refusal.Verdict.TheVariants.{Refused}
+use Rattle.std.specs.Prelude.{Err}
 use Rattle.views.specs.Lists.{is_rising}
 use Rattle.views.proofs.SetLaws.{both_true}
 use Rattle.rules.specs.Data.{Entry, Result, need}
@@ -37,7 +37,7 @@ module _ (r : Ranges) (s : ranges_sound r ≡ true) where
 -- ---- 6, then the rule
 
 module _ (r : Ranges) (p : ℕ) (x : Result Next) where
-  pub no_member : members_of r ≤ p → verdict_of (by_member r p x) ≡ Refused NoSuchMember
+  pub no_member : members_of r ≤ p → verdict_of (by_member r p x) ≡ Err NoSuchMember
   unfolding by_member need
   no_member h = rw (le-ltb _ _ h)
 

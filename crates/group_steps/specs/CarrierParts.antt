@@ -3,9 +3,8 @@
 use Rattle.std.specs.Prelude.{◌≡◌, Bool, List, ℕ, ltb}
 use Rattle.views.specs.declared.View.{View}
 use Rattle.views.specs.declared.refusal.Refusal.TheVariants.{NoSuchMember}
-use Rattle.views.specs.declared.refusal.Verdict.{Verdict}
+use Rattle.views.specs.Refusals.{Verdict, left}
 use Rattle.views.specs.Lists.{id_of}
-use Rattle.views.specs.Refusals.{left}
 use Rattle.rules.specs.Data.{Identifier, Member, Result, need}
 use Rattle.rules.specs.Member.{all}
 use Rattle.rules.specs.Group.{Next, creates, pass_step, order_step}

@@ -5,8 +5,7 @@ use Rattle.views.specs.declared.refusal.Refusal.TheVariants.{NoSuchMember}
 use Rattle.views.specs.Refusals.{left}
 use Rattle.rules.specs.Data.{Identifier, Member, Result, need}
 use Rattle.rules.specs.Group.{Next, join_step, deliver_step}
-use Rattle.events.specs.declared.Reply.{Reply}
-use Rattle.events.specs.Replies.{verdict_of}
+use Rattle.events.specs.Replies.{Reply, verdict_of}
 use Rattle.group_bytes.specs.Groups.{Ranges, members_of, group_in}
 use Rattle.group_bytes.specs.Moves.{view_at, join_ranges, deliver_ranges}
 use Rattle.group_bytes.specs.Answers.{next_reply}

@@ -41,12 +41,12 @@ pub fn join(list: &[u8], all: &mut [u8], queues: &[u8], p: Member, id: ViewId) -
         all.new result }
 {
     if all[book_bytes::MEMBERS] <= p.0 {
-        return events::refuse(Refusal::NoSuchMember);
+        return Err(Refusal::NoSuchMember);
     }
     let made = queues[group_bytes::MADE];
     let i = group_bytes::place(list, made, id);
     if made <= i {
-        return events::refuse(Refusal::NoSuchView);
+        return Err(Refusal::NoSuchView);
     }
     enter(list, all, p, i)
 }
@@ -57,10 +57,6 @@ pub fn collect(all: &mut [u8], p: Member) -> Reply
     ensures { OwnStep p.0 (of_member all.old p.0 (λ b. collects (members_in b) (book_in b)))
         collect_bytes all.old all.new result }
 {
-    if all[book_bytes::MEMBERS] <= p.0 {
-        return events::refuse(Refusal::NoSuchMember);
-    }
-    let a = book_bytes::SIZE * (p.0 as usize);
-    let e = a + book_bytes::SIZE;
-    book_steps::carrier_view::collect(&mut all[a..e])
+    let a = crate::book_at(all, p)?;
+    book_steps::carrier_view::collect(&mut all[a..a + book_bytes::SIZE])
 }

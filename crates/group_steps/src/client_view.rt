@@ -6,7 +6,6 @@ ghost use Rattle.group_steps.specs.OwnParts.{HasBook, of_member, OwnStep};
 
 use events::Reply;
 use views::Member;
-use views::refusal::Refusal;
 
 // Noted for the client view; outgoing gains a registered message.
 pub fn register(all: &mut [u8], p: Member) -> Reply
@@ -14,12 +13,8 @@ pub fn register(all: &mut [u8], p: Member) -> Reply
     ensures { OwnStep p.0 (of_member all.old p.0 (λ b. registers (own_in_book b) (book_in b)))
         register_bytes all.old all.new result }
 {
-    if all[book_bytes::MEMBERS] <= p.0 {
-        return events::refuse(Refusal::NoSuchMember);
-    }
-    let a = book_bytes::SIZE * (p.0 as usize);
-    let e = a + book_bytes::SIZE;
-    book_steps::client_view::register(&mut all[a..e])
+    let a = crate::book_at(all, p)?;
+    book_steps::client_view::register(&mut all[a..a + book_bytes::SIZE])
 }
 
 // Outgoing gains a client message.
@@ -28,12 +23,8 @@ pub fn send(all: &mut [u8], p: Member, entry: u64) -> Reply
     ensures { OwnStep p.0 (of_member all.old p.0 (λ b. sends (own_in_book b) entry (book_in b)))
         (send_bytes entry) all.old all.new result }
 {
-    if all[book_bytes::MEMBERS] <= p.0 {
-        return events::refuse(Refusal::NoSuchMember);
-    }
-    let a = book_bytes::SIZE * (p.0 as usize);
-    let e = a + book_bytes::SIZE;
-    book_steps::client_view::send(&mut all[a..e], entry)
+    let a = crate::book_at(all, p)?;
+    book_steps::client_view::send(&mut all[a..a + book_bytes::SIZE], entry)
 }
 
 // The next of the client view's inward list is given out.
@@ -42,12 +33,8 @@ pub fn hand(all: &mut [u8], p: Member) -> Reply
     ensures { OwnStep p.0 (of_member all.old p.0 (λ b. hands (own_in_book b) (book_in b))) hand_bytes
         all.old all.new result }
 {
-    if all[book_bytes::MEMBERS] <= p.0 {
-        return events::refuse(Refusal::NoSuchMember);
-    }
-    let a = book_bytes::SIZE * (p.0 as usize);
-    let e = a + book_bytes::SIZE;
-    book_steps::client_view::hand(&mut all[a..e])
+    let a = crate::book_at(all, p)?;
+    book_steps::client_view::hand(&mut all[a..a + book_bytes::SIZE])
 }
 
 // Outgoing gains told, with the number handed out in the client view.
@@ -56,12 +43,8 @@ pub fn tell(all: &mut [u8], p: Member) -> Reply
     ensures { OwnStep p.0 (of_member all.old p.0 (λ b. tells (own_in_book b) (book_in b))) tell_bytes
         all.old all.new result }
 {
-    if all[book_bytes::MEMBERS] <= p.0 {
-        return events::refuse(Refusal::NoSuchMember);
-    }
-    let a = book_bytes::SIZE * (p.0 as usize);
-    let e = a + book_bytes::SIZE;
-    book_steps::client_view::tell(&mut all[a..e])
+    let a = crate::book_at(all, p)?;
+    book_steps::client_view::tell(&mut all[a..a + book_bytes::SIZE])
 }
 
 // The next handed message not yet reported is reported.
@@ -71,10 +54,6 @@ pub fn safe(all: &mut [u8], p: Member) -> Reply
         (of_member all.old p.0 (λ b. safes (members_in b) (own_in_book b) (book_in b))) safe_bytes
         all.old all.new result }
 {
-    if all[book_bytes::MEMBERS] <= p.0 {
-        return events::refuse(Refusal::NoSuchMember);
-    }
-    let a = book_bytes::SIZE * (p.0 as usize);
-    let e = a + book_bytes::SIZE;
-    book_steps::client_view::safe(&mut all[a..e])
+    let a = crate::book_at(all, p)?;
+    book_steps::client_view::safe(&mut all[a..a + book_bytes::SIZE])
 }

@@ -73,7 +73,7 @@ fn next(list: &[u8], all: &mut [u8], queues: &[u8], p: Member, g: ViewId) -> Rep
     let c = order_of(list, queues, g);
     let k = all[book_bytes::SIZE * (p.0 as usize) + book_bytes::TAKEN];
     if queues[c] <= k {
-        return events::refuse(Refusal::NoneToDeliver);
+        return Err(Refusal::NoneToDeliver);
     }
     take_at(all, queues, p, c, k as usize)
 }
@@ -85,14 +85,10 @@ pub fn deliver(list: &[u8], all: &mut [u8], queues: &[u8], p: Member) -> Reply
         (record { list = list.entry.now; books = all.old; queues = queues.now }) p.0
         all.new result }
 {
-    if all[book_bytes::MEMBERS] <= p.0 {
-        return events::refuse(Refusal::NoSuchMember);
-    }
-    let a = book_bytes::SIZE * (p.0 as usize);
-    let e = a + book_bytes::SIZE;
-    let seat = book_bytes::load_seat(&all[a..e], book_bytes::CARRIER);
+    let a = crate::book_at(all, p)?;
+    let seat = book_bytes::load_seat(&all[a..a + book_bytes::SIZE], book_bytes::CARRIER);
     if !seat.there {
-        return events::refuse(Refusal::NoCarrierView);
+        return Err(Refusal::NoCarrierView);
     }
     next(list, all, queues, p, seat.view.id)
 }

@@ -7,21 +7,20 @@ use Prim.Native.Nat.{ℕ, ◌≤◌, ◌<◌}
 use native.Mathlib.Omega.{arith}
 use borrow.Author.Tests.{ltb-true, lt-ltb, le-ltb, not-true, not-false}
 use lib.Dec.{ltb}
+use Rattle.std.specs.Prelude.{Ok, Err}
 use Rattle.views.specs.declared.refusal.Refusal.{Refusal}
 use Rattle.views.specs.declared.refusal.Refusal.TheVariants.{RecordsUnsound, NoSuchMember}
-use Rattle.views.specs.declared.refusal.Verdict.{Verdict}
-use Rattle.views.specs.declared.refusal.Verdict.TheVariants.{Accepted, Refused}
-use Rattle.views.proofs.SetLaws.{known}
 use Rattle.views.specs.Refusals.{left}
+use Rattle.views.proofs.SetLaws.{known}
+use Rattle.views.proofs.VerdictLaws.{never}
 use Rattle.rules.specs.Data.{Result, refused, accepted, need}
 use Rattle.rules.specs.Member.{Done}
 use Rattle.rules.specs.Alone.{book_sound, alone}
 use Rattle.rules.specs.Sound.{conditions}
 use Rattle.rules.proofs.TestLaws.{conditions-say}
 use Rattle.book_bytes.specs.Books.{book_in, layout_fits, bytes_sound, members_in, own_in_book}
-use Rattle.events.specs.declared.Reply.{Reply}
-use Rattle.events.specs.Replies.{no_event, replied, reply_of, verdict_of}
-use Rattle.book_steps.proofs.Committed.{refused-by}
+use Rattle.events.specs.Replies.{Reply, reply_of, verdict_of}
+use Rattle.book_steps.proofs.Committed.{Answered, refused-by}
 use Rattle.member.specs.Calls.{on_book, Gave}
 use Rattle.member.specs.Parts.{admitted}
 
@@ -47,15 +46,15 @@ sound-called b r h = let (l, (s, _)) = conditions-say _ h in rw (l, s)
 
 -- ---- admit
 
-pub admit-unsound : (b : List ℕ) (t : Bool) → t ≡ bytes_sound b → not t ≡ true → Refused RecordsUnsound ≡ admitted b
+pub admit-unsound : (b : List ℕ) (t : Bool) → t ≡ bytes_sound b → not t ≡ true → Err RecordsUnsound ≡ admitted b
 unfolding admitted
 admit-unsound b t e h = let f : bytes_sound b ≡ false = sym e ∙ not-true t h in rw f
 
-pub admit-beyond : (b : List ℕ) (t : Bool) → t ≡ bytes_sound b → not t ≡ false → members_in b ≤ own_in_book b → Refused NoSuchMember ≡ admitted b
+pub admit-beyond : (b : List ℕ) (t : Bool) → t ≡ bytes_sound b → not t ≡ false → members_in b ≤ own_in_book b → Err NoSuchMember ≡ admitted b
 unfolding admitted
 admit-beyond b t e h l = let f : bytes_sound b ≡ true = sym e ∙ not-false t h in rw (f, le-ltb (own_in_book b) (members_in b) l)
 
-pub admit-passes : (b : List ℕ) (t : Bool) → t ≡ bytes_sound b → not t ≡ false → own_in_book b < members_in b → Accepted ≡ admitted b
+pub admit-passes : (b : List ℕ) (t : Bool) → t ≡ bytes_sound b → not t ≡ false → own_in_book b < members_in b → admitted b ≡ Ok tt
 unfolding admitted
 admit-passes b t e h l = let f : bytes_sound b ≡ true = sym e ∙ not-false t h in rw (f, lt-ltb (own_in_book b) (members_in b) l)
 
@@ -64,19 +63,19 @@ pub record Admitted (b : List ℕ) : Type 0 where
   pub sound : bytes_sound b ≡ true
   pub member : own_in_book b < members_in b
 
-pub admit-says : (b : List ℕ) (v : Verdict) → v ≡ admitted b → v ≡ Accepted → Admitted b
+pub admit-says : (b : List ℕ) → admitted b ≡ Ok tt → Admitted b
 unfolding admitted
-admit-says b v e t =
-    let a : admitted b ≡ Accepted = sym e ∙ t in
+admit-says b a =
     ⊎_elim (λ (s : bytes_sound b ≡ true).
     ⊎_elim (λ (l : ltb (own_in_book b) (members_in b) ≡ true). record { sound = s; member = ltb-true _ _ l })
-    (λ (l : ltb (own_in_book b) (members_in b) ≡ false). let k : Refused NoSuchMember ≡ Accepted = rw (s, l) at a in let z : ◌≡◌ {A = ℕ} 0 1 = cc in absurd (omega arith))
+    (λ (l : ltb (own_in_book b) (members_in b) ≡ false). absurd (never NoSuchMember (rw (s, l) at a)))
     (known (ltb (own_in_book b) (members_in b))))
-    (λ (s : bytes_sound b ≡ false). let k : Refused RecordsUnsound ≡ Accepted = rw s at a in let z : ◌≡◌ {A = ℕ} 0 1 = cc in absurd (omega arith))
+    (λ (s : bytes_sound b ≡ false). absurd (never RecordsUnsound (rw s at a)))
     (known (bytes_sound b))
 
-pub call-sound : (b : List ℕ) (v : Verdict) → v ≡ admitted b → v ≡ Accepted → bytes_sound b ≡ true
-call-sound b v e t = (admit-says b v e t).sound
+-- the same of the test's answer in the code
+pub call-sound : {u : Unit {0}} (b : List ℕ) → Ok u ≡ admitted b → bytes_sound b ≡ true
+call-sound b e = (admit-says b (sym e)).sound
 
 -- ---- the call's result
 
@@ -84,15 +83,14 @@ pub called-admitted : {A : Type 0} (b : List ℕ) (r : Result A) → Admitted b 
 unfolding need
 called-admitted b r a = sound-called b r a.sound ∙ rw (lt-ltb _ _ a.member) refl
 
-pub called-refused : {A : Type 0} (b : List ℕ) (r : Result A) (v : Verdict) (x : Refusal) → v ≡ admitted b → v ≡ Refused x → called b r ≡ refused x
+pub called-refused : {A : Type 0} (b : List ℕ) (r : Result A) (x : Refusal) → admitted b ≡ Err x → called b r ≡ refused x
 unfolding admitted need
-called-refused {A} b r v x e t =
-    let a : admitted b ≡ Refused x = sym e ∙ t in
+called-refused {A} b r x a =
     ⊎_elim (λ (s : bytes_sound b ≡ true).
-    ⊎_elim (λ (l : ltb (own_in_book b) (members_in b) ≡ true). let k : Accepted ≡ Refused x = rw (s, l) at a in let z : ◌≡◌ {A = ℕ} 0 1 = cc in absurd (omega arith))
-    (λ (l : ltb (own_in_book b) (members_in b) ≡ false). let k : Refused NoSuchMember ≡ Refused x = rw (s, l) at a in let i : NoSuchMember ≡ x = cc in sound-called b r s ∙ rw (l, i) refl)
+    ⊎_elim (λ (l : ltb (own_in_book b) (members_in b) ≡ true). absurd (never x (sym (rw (s, l) at a))))
+    (λ (l : ltb (own_in_book b) (members_in b) ≡ false). let k : Err NoSuchMember ≡ Err x = rw (s, l) at a in let i : NoSuchMember ≡ x = cc in sound-called b r s ∙ rw (l, i) refl)
     (known (ltb (own_in_book b) (members_in b))))
-    (λ (s : bytes_sound b ≡ false). let k : Refused RecordsUnsound ≡ Refused x = rw s at a in let i : RecordsUnsound ≡ x = cc in unsound-called b r s ∙ rw i refl)
+    (λ (s : bytes_sound b ≡ false). let k : Err RecordsUnsound ≡ Err x = rw s at a in let i : RecordsUnsound ≡ x = cc in unsound-called b r s ∙ rw i refl)
     (known (bytes_sound b))
 
 -- ---- what an accepted call met
@@ -113,14 +111,14 @@ called-gave b r x e =
 -- ---- a call that is a step
 
 -- r is the step's result, `new` what it leaves if it is accepted
-module _ (b : List ℕ) (r : Result Done) (new : List ℕ) (v : Verdict) (admits : v ≡ admitted b) where
-  pub call-refused : (x : Refusal) → v ≡ Refused x → (y : Reply) → y ≡ replied (Refused x) no_event → Gave (called b r) new b b y
-  call-refused x t y e =
-      let k : called b r ≡ refused x = called-refused b r v x admits t in
-      let (f, g) = refused-by (called b r) x new b y (ap verdict_of k) e in
+module _ (b : List ℕ) (r : Result Done) (new : List ℕ) where
+  pub call-refused : {x : Refusal} → Err x ≡ admitted b → Gave (called b r) new b b (Err x)
+  call-refused {x} e =
+      let k : called b r ≡ refused x = called-refused b r x (sym e) in
+      let (f, g) = refused-by (called b r) x new b (ap verdict_of k) in
       record { reply = f; book = g }
 
-  pub call-done : v ≡ Accepted → (y : Reply) (d : List ℕ) → (y ≡ reply_of r) × (d ≡ left (verdict_of r) new b) → Gave (called b r) new b d y
-  call-done t y d (f, g) =
-      let k : called b r ≡ r = called-admitted b r (admit-says b v admits t) in
+  pub call-done : {u : Unit {0}} → Ok u ≡ admitted b → (y : Reply) (d : List ℕ) → Answered r new b y d → Gave (called b r) new b d y
+  call-done e y d (f, g) =
+      let k : called b r ≡ r = called-admitted b r (admit-says b (sym e)) in
       record { reply = f ∙ ap reply_of (sym k); book = g ∙ ap (λ (x : Result Done). left (verdict_of x) new b) (sym k) }

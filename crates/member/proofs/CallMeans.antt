@@ -1,7 +1,7 @@
 -- An accepted call leaves bytes that are the rule's book, in the layout, of the same member.
 use mathlib.Core.Path.{◌≡◌, refl, ◌∙◌}
 use mathlib.Core.Bool.{true}
-use mathlib.Core.Option.{Option, none, some}
+use Rattle.std.specs.Prelude.{Option, None, Some, Ok}
 use mathlib.Core.List.{List}
 use Prim.Native.Nat.{ℕ, ◌^◌, ◌≤◌, ◌<◌}
 use native.Mathlib.Omega.{arith}
@@ -13,6 +13,8 @@ use Rattle.views.specs.declared.refusal.Refusal.{Refusal}
 use Rattle.views.specs.Limits.{max_members, max_open, max_ordered}
 use Rattle.views.specs.Sets.{one, has}
 use Rattle.views.specs.Lists.{id_of}
+use Rattle.wire.specs.declared.Reading.{Reading}
+use Rattle.wire.specs.Reader.{read_front}
 use Rattle.wire.specs.Single.{read_one}
 use Rattle.wire.proofs.TripViews.{AreBytes}
 use Rattle.rules.specs.Data.{Book as Ruled, Message, client, info, registered, told, entry, ok, Result, refused, accepted, with_view, after}
@@ -20,7 +22,7 @@ use Rattle.rules.specs.Member.{Done, Passing, passing, delivered, attempts}
 use Rattle.rules.specs.Sound.{count_fits}
 use Rattle.rules.specs.Alone.{Sent, sent_of, book_sound, alone, join_alone, pass_alone, deliver_alone, attempt_alone}
 use Rattle.rules.proofs.TestLaws.{within-says, conditions-say}
-use Rattle.rules.proofs.Alone.Readable.{Carries, Given, one-given}
+use Rattle.rules.proofs.Alone.Readable.{Carries, Given, sent-met, one-given}
 use Rattle.slots.proofs.Stored.{MessageFits, told_of}
 use Rattle.book_bytes.specs.Places.{taken_at}
 use Rattle.book_bytes.specs.Records.{record_in}
@@ -39,10 +41,10 @@ use Rattle.member.proofs.ArriveLaws.{carrier-mark, sender-small}
 
 -- ---- what an accepted result met
 
-pub view-gave : {A : Type 0} (o : Option View) (r : Refusal) (f : View → Result A) (y : A) → with_view o r f ≡ accepted y → (v : View) × (o ≡ some v) × (f v ≡ accepted y)
+pub view-gave : {A : Type 0} (o : Option View) (r : Refusal) (f : View → Result A) (y : A) → with_view o r f ≡ accepted y → (v : View) × (o ≡ Some v) × (f v ≡ accepted y)
 unfolding with_view
-view-gave none r f y e = let z : ◌≡◌ {A = ℕ} 0 1 = cc in absurd (omega arith)
-view-gave (some v) r f y e = (v, refl, e)
+view-gave None r f y e = let z : ◌≡◌ {A = ℕ} 0 1 = cc in absurd (omega arith)
+view-gave (Some v) r f y e = (v, refl, e)
 
 pub after-gave : {A B : Type 0} (r : Result A) (f : A → Result B) (y : B) → after r f ≡ accepted y → (x : A) × (r ≡ accepted x) × (f x ≡ accepted y)
 unfolding after
@@ -58,6 +60,14 @@ delivers-read n p read q b d e =
     let (v, _, e3) = view-gave b.carrier.view _ _ d e2 in
     let (x, is, _) = after-gave read _ d e3 in
     (x, is)
+
+-- and where it is the message at the front of bytes, that was read
+pub call-read : (s : List ℕ) (q : ℕ) (b : List ℕ) (d : Done) → message_call (sent_of (read_front s)) q b ≡ accepted d → (r : Reading) × (read_front s ≡ Ok r)
+call-read s q b d e =
+    let (_, alone) = need-gave _ _ _ _ e in
+    let (x, is) = delivers-read (members_in b) (own_in_book b) (sent_of (read_front s)) q (book_in b) d alone in
+    let (r, read, _) = sent-met (read_front s) x is in
+    (r, read)
 
 -- ---- a message that was read
 

@@ -11,20 +11,18 @@ use lib.ListN.{length, take, drop, length-drop}
 use lib.Seq.{drop-drop}
 use Rattle.views.specs.declared.refusal.Refusal.{Refusal}
 use Rattle.views.specs.declared.refusal.Refusal.TheVariants.{RecordsUnsound}
-use Rattle.views.specs.declared.refusal.Verdict.{Verdict}
-use Rattle.views.specs.declared.refusal.Verdict.TheVariants.{Accepted, Refused}
+use Rattle.views.specs.Refusals.{Verdict, and_then, left}
+use Rattle.std.specs.Prelude.{Ok, Err}
 use Rattle.views.specs.Members.{In}
-use Rattle.views.specs.Refusals.{left}
 use Rattle.views.proofs.SetLaws.{known}
-use Rattle.views.proofs.VerdictLaws.{never}
-use Rattle.wire.specs.declared.Front.{Front}
-use Rattle.wire.specs.declared.Frame.{Frame}
+use Rattle.views.proofs.VerdictLaws.{never, after-ok, then-met}
 use Rattle.wire.specs.Widths.{AreBytes}
-use Rattle.wire.specs.Reader.{read_front}
+use Rattle.wire.specs.Reader.{frame_in, read_front, front_of}
+use Rattle.wire.proofs.FrontLaws.{read-from}
 use Rattle.wire.proofs.PacketTrip.{front-takes, drop-bytes, readings-none, readings-some, readings-more}
 use Rattle.rules.specs.Data.{Book as Ruled, Result, refused, accepted, need}
 use Rattle.rules.specs.Member.{Done}
-use Rattle.rules.specs.Alone.{Sent, sent_by, sent_of, book_sound, deliver_alone, Delivery, deliveries_one_by_one, packet_alone, stops}
+use Rattle.rules.specs.Alone.{Sent, sent_of, book_sound, deliver_alone, Delivery, deliveries_one_by_one, packet_alone, stops}
 use Rattle.rules.proofs.TestLaws.{◌and◌, conditions-say, conditions-from}
 use Rattle.rules.specs.Sound.{conditions}
 use Rattle.rules.proofs.Alone.Taken.{deliver-sound}
@@ -39,8 +37,7 @@ use Rattle.book_steps.proofs.Means.{Means}
 use Rattle.member.specs.Calls.{taken_bytes, messages_in, packet_call, take_each, count_of, packet_bytes, delivered_of, GaveEach}
 use Rattle.member.specs.Parts.{message_call, GaveFront}
 use Rattle.member.specs.Promises.{Apart}
-use Rattle.member.proofs.CallLaws.{need-gave}
-use Rattle.member.proofs.CallMeans.{delivers-read, message-call}
+use Rattle.member.proofs.CallMeans.{delivers-read, call-read, message-call}
 
 -- ---- one message
 
@@ -59,7 +56,7 @@ unfolding bytes_sound need
 sound-message read q b h = let (l, _) = conditions-say _ h in rw l
 
 pub gather-refused : (read : Result Sent) (l : List (Result Sent)) (q : ℕ) (b : List ℕ) → bytes_sound b ≡ true → (r : Refusal) → message_call read q b ≡ refused r
-    → gather (read ∷ l) q b ≡ record { count = 0; stopped = Refused r; book = b }
+    → gather (read ∷ l) q b ≡ record { count = 0; stopped = Err r; book = b }
 unfolding deliveries_one_by_one take_each
 gather-refused read l q b h r e = let k = sym (sound-message read q b h) ∙ e in rw k refl
 
@@ -95,22 +92,15 @@ module _ (read : Result Sent) (given : Given read) (q : ℕ) (b : List ℕ) (byt
       let turn : x.count + 1 ≡ 1 + x.count = omega arith in
       first ∙ rw (m.members, m.self, m.book) (λ i. record { count = turn i; stopped = x.stopped; book = take_each (take (next i) (read ∷ l)) q b })
 
--- ---- a result by its verdict
+-- ---- a message at the front that stops the packet was refused, x being what it got
 
-verdict-refused : {A : Type 0} (x : Result A) (r : Refusal) → verdict_of x ≡ Refused r → x ≡ refused r
-verdict-refused (refused z) r e = let k : z ≡ r = cc in ap (λ (w : Refusal). refused w) k
-verdict-refused (accepted y) r e = absurd (never r (sym e))
-
--- a message that was taken had been read
-sent-read : (v : Verdict) (f : Frame) (x : Sent) → sent_by v f ≡ accepted x → v ≡ Accepted
-sent-read Accepted f x e = refl
-sent-read (Refused r) f x e = let z : ◌≡◌ {A = ℕ} 0 1 = cc in absurd (omega arith)
-
-call-read : (s : List ℕ) (q : ℕ) (b : List ℕ) (d : Done) → message_call (sent_of (read_front s)) q b ≡ accepted d → (read_front s).verdict ≡ Accepted
-call-read s q b d e =
-    let (_, alone) = need-gave _ _ _ _ e in
-    let (x, is) = delivers-read (members_in b) (own_in_book b) (sent_of (read_front s)) q (book_in b) d alone in
-    sent-read (read_front s).verdict (read_front s).frame x is
+call-stopped : (s : List ℕ) (q : ℕ) (b : List ℕ) (r : Refusal) (x : Result Done) → message_call (sent_of (read_front s)) q b ≡ x
+    → and_then (verdict_of x) (front_of s) ≡ Err r → x ≡ refused r
+unfolding and_then
+call-stopped s q b r (refused z) e h = let k : z ≡ r = cc in ap (λ (w : Refusal). refused w) k
+call-stopped s q b r (accepted d) e h =
+    let (k, read) = call-read s q b d e in
+    absurd (never r (sym h ∙ after-ok _ read))
 
 sound-book : (b : List ℕ) → bytes_sound b ≡ true → book_sound (members_in b) (book_in b) ≡ true
 unfolding bytes_sound
@@ -122,7 +112,7 @@ sound-book b h = let (_, (s, _)) = conditions-say _ h in s
 pub record Gathered (l : List (Result Sent)) (q : ℕ) (b : List ℕ) : Type 0 where
   pub means : Means b (gather l q b).book (deliveries_one_by_one (members_in b) (own_in_book b) l q (book_in b)).book
   pub sound : bytes_sound (gather l q b).book ≡ true
-  pub stopped : (r : Refusal) → (gather l q b).stopped ≡ Refused r → In r stops
+  pub stopped : (r : Refusal) → (gather l q b).stopped ≡ Err r → In r stops
 
 means-self : (b : List ℕ) → AreBytes b → bytes_sound b ≡ true → Means b b (book_in b)
 means-self b y s = record { book = refl; layout = sound-layout b s; bytes = y; members = refl; self = refl }
@@ -140,7 +130,7 @@ gathered-on read (given, stop) l q b y s others (refused r) e =
       means = rw k (means-self b y s);
       sound = rw k s;
       stopped = λ z h.
-          let j : Refused r ≡ Refused z = rw k at h in
+          let j : Err r ≡ Err z = rw k at h in
           let i : r ≡ z = cc in
           rw (← i) (deliver-stops (members_in b) (own_in_book b) read q (book_in b) (sound-book b s) stop r k);
     }
@@ -203,17 +193,17 @@ packet-call s q b w y x e =
 
 -- what it gives, by what its messages gave
 pub packet-gave : (s : List ℕ) (q : ℕ) (b d : List ℕ) (n : ℕ) (v : Verdict) → bytes_sound b ≡ true → gather (messages_in s) q b ≡ record { count = n; stopped = v; book = d }
-    → GaveEach (packet_call s q b) (packet_bytes s q b) b d (record { verdict = Accepted; count = n; stopped = v })
+    → GaveEach (packet_call s q b) (packet_bytes s q b) b d (Ok (record { count = n; stopped = v }))
 unfolding left
 packet-gave s q b d n v h e =
     let k = packet-sound s q b h in
     record {
-      reply = (λ i. record { verdict = Accepted; count = (sym e i).count; stopped = (sym e i).stopped }) ∙ ap delivered_of (sym k);
+      reply = (λ i. Ok (record { count = (sym e i).count; stopped = (sym e i).stopped })) ∙ ap delivered_of (sym k);
       book = ap (λ (a : Apart). a.book) (sym e) ∙ sym (packet-left s q b h) ∙ ap (λ (x : Result Delivery). left (verdict_of x) (packet_bytes s q b) b) (sym k);
     }
 
 pub packet-refused : (s : List ℕ) (q : ℕ) (b : List ℕ) (t : Bool) → t ≡ bytes_sound b → not t ≡ true
-    → GaveEach (packet_call s q b) (packet_bytes s q b) b b (record { verdict = Refused RecordsUnsound; count = 0; stopped = Accepted })
+    → GaveEach (packet_call s q b) (packet_bytes s q b) b b (Err RecordsUnsound)
 unfolding left
 packet-refused s q b t e h =
     let k : packet_call s q b ≡ refused RecordsUnsound = packet-unsound s q b (sym e ∙ not-true t h) in
@@ -242,70 +232,65 @@ underway-begins b s q y h =
     }
 
 pub underway-ends : (b₀ s : List ℕ) (q : ℕ) (b : List ℕ) (at n : ℕ) → bytes_sound b₀ ≡ true → Underway b₀ s q b at n → length s ≤ at
-    → GaveEach (packet_call s q b₀) (packet_bytes s q b₀) b₀ b (record { verdict = Accepted; count = n; stopped = Accepted })
+    → GaveEach (packet_call s q b₀) (packet_bytes s q b₀) b₀ b (Ok (record { count = n; stopped = Ok tt }))
 unfolding deliveries_one_by_one take_each
 underway-ends b₀ s q b at n h u e =
     let none : messages_in (drop at s) ≡ [] = ap (map sent_of) (readings-none (drop at s) (length-drop at s ∙ omega arith)) in
-    let last : gather (messages_in (drop at s)) q b ≡ record { count = 0; stopped = Accepted; book = b } = rw none refl in
-    packet-gave s q b₀ b n Accepted h (u.so_far ∙ ap (plus n) last ∙ (λ i. record { count = no_more i; stopped = Accepted; book = b }))
+    let last : gather (messages_in (drop at s)) q b ≡ record { count = 0; stopped = Ok tt; book = b } = rw none refl in
+    packet-gave s q b₀ b n (Ok tt) h (u.so_far ∙ ap (plus n) last ∙ (λ i. record { count = no_more i; stopped = Ok tt; book = b }))
   where
     no_more : n + 0 ≡ n
     no_more = omega arith
 
-module _ (b₀ s : List ℕ) (q : ℕ) (b : List ℕ) (at n : ℕ) (y : AreBytes s) (u : Underway b₀ s q b at n) (more : at < length s) (d : List ℕ) (f : Front)
-    (gave : GaveFront (drop at s) q b d f) where
+module _ (b₀ s : List ℕ) (q : ℕ) (b : List ℕ) (at n : ℕ) (y : AreBytes s) (u : Underway b₀ s q b at n) (more : at < length s) (d : List ℕ) where
   abbrev rest : List ℕ
   rest = drop at s
 
   some_left : 0 < length rest
   some_left = omega (arith, length-drop at s)
 
-  call-verdict : (v : Verdict) → f.verdict ≡ v → verdict_of (message_call (sent_of (read_front rest)) q b) ≡ v
-  call-verdict v e = sym gave.verdict ∙ e
-
-  pub underway-stops : bytes_sound b₀ ≡ true → (r : Refusal) → f.verdict ≡ Refused r
-      → GaveEach (packet_call s q b₀) (packet_bytes s q b₀) b₀ d (record { verdict = Accepted; count = n; stopped = f.verdict })
+  pub underway-stops : bytes_sound b₀ ≡ true → (r : Refusal) → GaveFront rest q b d (Err r)
+      → GaveEach (packet_call s q b₀) (packet_bytes s q b₀) b₀ d (Ok (record { count = n; stopped = Err r }))
   unfolding left
-  underway-stops h r e =
+  underway-stops h r gave =
       let (l, some) = readings-some rest some_left in
       let read : messages_in rest ≡ sent_of (read_front rest) ∷ map sent_of l = ap (map sent_of) some in
-      let call : message_call (sent_of (read_front rest)) q b ≡ refused r = verdict-refused _ r (call-verdict (Refused r) e) in
-      let last : gather (messages_in rest) q b ≡ record { count = 0; stopped = Refused r; book = b }
+      let call : message_call (sent_of (read_front rest)) q b ≡ refused r = call-stopped rest q b r _ refl (sym gave.reply) in
+      let last : gather (messages_in rest) q b ≡ record { count = 0; stopped = Err r; book = b }
       = ap (λ (k : List (Result Sent)). gather k q b) read ∙ gather-refused (sent_of (read_front rest)) (map sent_of l) q b u.sound r call in
-      let same : d ≡ b = gave.book ∙ rw e refl in
+      let same : d ≡ b = gave.book in
       let total : n + 0 ≡ n = omega arith in
-      packet-gave s q b₀ d n f.verdict h (u.so_far ∙ ap (plus n) last ∙ (λ i. record { count = total i; stopped = sym e i; book = sym same i }))
+      packet-gave s q b₀ d n (Err r) h (u.so_far ∙ ap (plus n) last ∙ (λ i. record { count = total i; stopped = Err r; book = sym same i }))
 
-  module _ (e : f.verdict ≡ Accepted) where
-    taken : (x : Done) × (message_call (sent_of (read_front rest)) q b ≡ accepted x)
-    taken = accepts _ (call-verdict Accepted e)
+  -- one that took k bytes
+  module _ (k : ℕ) (gave : GaveFront rest q b d (Ok k)) where
+    abbrev sent : Result Sent
+    sent = sent_of (read_front rest)
+
+    taken : (x : Done) × (message_call sent q b ≡ accepted x)
+    taken = accepts _ (then-met _ _ (sym gave.reply)).0
 
     -- the reader had accepted it
-    front : (read_front rest).verdict ≡ Accepted
-    front = call-read rest q b taken.0 taken.1
+    front : read_front rest ≡ Ok (record { taken = k; frame = frame_in rest })
+    front = read-from rest k (then-met (verdict_of (message_call sent q b)) _ (sym gave.reply)).1
 
-    pub underway-takes : (7 ≤ f.taken) × (at + f.taken ≤ length s)
-    underway-takes =
-        let (low, high) = front-takes rest front in
-        let t = gave.taken e in
-        (omega arith, omega (arith, length-drop at s))
+    pub underway-takes : (7 ≤ k) × (at + k ≤ length s)
+    underway-takes = let (low, high) = front-takes rest front in (low, omega (arith, length-drop at s, high))
 
-    pub underway-goes : Underway b₀ s q d (at + f.taken) (n + 1)
+    pub underway-goes : Underway b₀ s q d (at + k) (n + 1)
     unfolding left
     underway-goes =
         let given = front-given rest (drop-bytes at s y) in
         let (x, call) = taken in
-        let sent = sent_of (read_front rest) in
-        let new : d ≡ taken_bytes sent q b = gave.book ∙ rw e refl in
+        let new : d ≡ taken_bytes sent q b = gave.book in
         let m = taken-means sent given q b u.bytes u.sound x call in
-        let t = gave.taken e in
         let (low, high) = underway-takes in
-        let behind : drop (read_front rest).taken rest ≡ drop (at + f.taken) s = drop-drop (read_front rest).taken at s ∙ ap (λ (k : ℕ). drop (at + k) s) (sym t) in
-        let read : messages_in rest ≡ sent ∷ messages_in (drop (at + f.taken) s)
-        = ap (map sent_of) (readings-more rest some_left front) ∙ ap (λ (k : List ℕ). sent ∷ messages_in k) behind in
-        let one : gather (messages_in rest) q b ≡ plus 1 (gather (messages_in (drop (at + f.taken) s)) q (taken_bytes sent q b))
-        = ap (λ (k : List (Result Sent)). gather k q b) read ∙ gather-taken sent given q b u.bytes u.sound x call (messages_in (drop (at + f.taken) s)) in
-        let after = gather (messages_in (drop (at + f.taken) s)) q (taken_bytes sent q b) in
+        let behind : drop k rest ≡ drop (at + k) s = drop-drop k at s in
+        let read : messages_in rest ≡ sent ∷ messages_in (drop (at + k) s)
+        = ap (map sent_of) (readings-more rest some_left front) ∙ (λ i. sent_of (sym front i) ∷ messages_in (behind i)) in
+        let one : gather (messages_in rest) q b ≡ plus 1 (gather (messages_in (drop (at + k) s)) q (taken_bytes sent q b))
+        = ap (λ (z : List (Result Sent)). gather z q b) read ∙ gather-taken sent given q b u.bytes u.sound x call (messages_in (drop (at + k) s)) in
+        let after = gather (messages_in (drop (at + k) s)) q (taken_bytes sent q b) in
         let total : n + (1 + after.count) ≡ n + 1 + after.count = omega arith in
         record {
           bytes = rw new m.bytes;

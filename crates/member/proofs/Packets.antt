@@ -22,25 +22,25 @@ use Rattle.member.specs.Promises.{Apart, apart, Packets}
 use Rattle.member.proofs.PacketLaws.{gather, gather-refused, gather-taken, taken-means, taken-sound, gathered, packet-gives, packet-sound, packet-left}
 
 -- a piece as one message
-abbrev sent_as : List ℕ → Result Sent
-sent_as s = sent_of (read_one s)
+abbrev piece_sent : List ℕ → Result Sent
+piece_sent s = sent_of (read_one s)
 
 -- ---- messages each by itself
 
-apart-on : (s : List ℕ) → Fine (sent_as s) → (l : List (List ℕ)) (q : ℕ) (b : List ℕ) → AreBytes b → bytes_sound b ≡ true
-    → ((c : List ℕ) → AreBytes c → bytes_sound c ≡ true → apart l q c ≡ gather (map sent_as l) q c) → (x : Result Done) → deliver_call s q b ≡ x
-    → apart (s ∷ l) q b ≡ gather (map sent_as (s ∷ l)) q b
+apart-on : (s : List ℕ) → Fine (piece_sent s) → (l : List (List ℕ)) (q : ℕ) (b : List ℕ) → AreBytes b → bytes_sound b ≡ true
+    → ((c : List ℕ) → AreBytes c → bytes_sound c ≡ true → apart l q c ≡ gather (map piece_sent l) q c) → (x : Result Done) → deliver_call s q b ≡ x
+    → apart (s ∷ l) q b ≡ gather (map piece_sent (s ∷ l)) q b
 unfolding apart after deliver_call deliver_bytes left
-apart-on s fine l q b y h others (refused r) e = rw e (sym (gather-refused (sent_as s) (map sent_as l) q b h r e))
+apart-on s fine l q b y h others (refused r) e = rw e (sym (gather-refused (piece_sent s) (map piece_sent l) q b h r e))
 apart-on s (given, _) l q b y h others (accepted d) e =
-    let m = taken-means (sent_as s) given q b y h d e in
-    let rest = gather (map sent_as l) q (taken_bytes (sent_as s) q b) in
+    let m = taken-means (piece_sent s) given q b y h d e in
+    let rest = gather (map piece_sent l) q (taken_bytes (piece_sent s) q b) in
     let turn : rest.count + 1 ≡ 1 + rest.count = omega arith in
-    rw e (ap (λ (a : Apart). record { count = a.count + 1; stopped = a.stopped; book = a.book }) (others _ m.bytes (taken-sound (sent_as s) given q b y h d e))
+    rw e (ap (λ (a : Apart). record { count = a.count + 1; stopped = a.stopped; book = a.book }) (others _ m.bytes (taken-sound (piece_sent s) given q b y h d e))
     ∙ (λ i. record { count = turn i; stopped = rest.stopped; book = rest.book })
-    ∙ sym (gather-taken (sent_as s) given q b y h d e (map sent_as l)))
+    ∙ sym (gather-taken (piece_sent s) given q b y h d e (map piece_sent l)))
 
-apart-is : (l : List (List ℕ)) → Each Fine (map sent_as l) → (q : ℕ) (b : List ℕ) → AreBytes b → bytes_sound b ≡ true → apart l q b ≡ gather (map sent_as l) q b
+apart-is : (l : List (List ℕ)) → Each Fine (map piece_sent l) → (q : ℕ) (b : List ℕ) → AreBytes b → bytes_sound b ≡ true → apart l q b ≡ gather (map piece_sent l) q b
 unfolding apart deliveries_one_by_one take_each
 apart-is [] f q b y h = refl
 apart-is (s ∷ l) (fine, f) q b y h = apart-on s fine l q b y h (λ c. apart-is l f q c) (deliver_call s q b) refl
@@ -52,7 +52,7 @@ one_by_one : (s : List ℕ) (q : ℕ) (b : List ℕ) → AreBytes s → AreBytes
 unfolding after left
 one_by_one s q b w y x e =
     let (h, is) = packet-gives s q b x e in
-    let read : messages_in s ≡ map sent_as (pieces_in s) = ap (map sent_of) (sym (pieces-read s w)) ∙ map-map sent_of read_one (pieces_in s) in
+    let read : messages_in s ≡ map piece_sent (pieces_in s) = ap (map sent_of) (sym (pieces-read s w)) ∙ map-map sent_of read_one (pieces_in s) in
     let whole : record { count = x.count; stopped = x.stopped; book = after (packet s q) b } ≡ gather (messages_in s) q b
     = rw (e, packet-left s q b h, is) refl in
     whole ∙ ap (λ (l : List (Result Sent)). gather l q b) read ∙ sym (apart-is (pieces_in s) (subst (Each Fine) read (each-fine s w)) q b y h)

@@ -2,7 +2,8 @@
 use mathlib.Core.Path.{◌≡◌, refl, subst, sym, ap, ◌∙◌}
 use mathlib.Core.Logic.{⊎_elim}
 use mathlib.Core.Bool.{true, false, not}
-use mathlib.Core.Option.{none, some}
+use Rattle.std.specs.Prelude.{None, Some, Ok, Err}
+use Rattle.std.specs.Prelude.{Result as Outcome}
 use mathlib.Core.List.{List, [], ◌∷◌}
 use Prim.Native.Nat.{ℕ, zero, suc, ◌+◌, ◌≤◌, ◌<◌}
 use native.Mathlib.Omega.{arith}
@@ -13,20 +14,18 @@ use Rattle.views.specs.declared.View.{View}
 use Rattle.views.specs.declared.ViewId.{ViewId}
 use Rattle.views.specs.declared.refusal.Refusal.{Refusal}
 use Rattle.views.specs.declared.refusal.Refusal.TheVariants.{NoCarrierView, NoneOutgoing, BufferTooShort}
-use Rattle.views.specs.declared.refusal.Verdict.{Verdict}
-use Rattle.views.specs.declared.refusal.Verdict.TheVariants.{Accepted, Refused}
-use Rattle.views.specs.Limits.{max_views, max_ordered}
 use Rattle.views.specs.Refusals.{require, and_then, left}
+use Rattle.views.specs.Limits.{max_views, max_ordered}
 use Rattle.views.specs.Sets.{is_empty, is_beyond}
 use Rattle.views.specs.Lists.{id_of, is_rising, list_of}
 use Rattle.views.proofs.SetLaws.{known, both_true}
 use Rattle.views.proofs.Members.{In, top}
+use Rattle.views.proofs.VerdictLaws.{then-given, then-met}
 use Rattle.wire.specs.declared.Frame.{Frame}
 use Rattle.wire.specs.declared.Message.{Message as Carried}
-use Rattle.wire.specs.declared.Written.{Written}
 use Rattle.wire.specs.Format.{kind_of, views_allowed, some_empty, told_fits, content_of}
 use Rattle.wire.specs.Reader.{view_in}
-use Rattle.wire.specs.Writer.{number_of, frame_bytes, frame_verdict, write_verdict, written_of, frame_from, LiesAt, Wrote}
+use Rattle.wire.specs.Writer.{number_of, frame_bytes, frame_verdict, write_verdict, frame_from, LiesAt, Wrote}
 use Rattle.wire.proofs.ReaderLaws.{list-views_in}
 use Rattle.rules.specs.Data.{Book as Ruled, Message, client, info, registered, told, Entry, entry, Result, refused, accepted, need, with_view, with_first, after}
 use Rattle.rules.specs.Member.{Passing, passing, outgoes, all}
@@ -44,9 +43,8 @@ use Rattle.book_bytes.specs.Records.{flag_in, seat_in, record_in}
 use Rattle.book_bytes.specs.Books.{outgoing_in, book_in, bytes_sound, members_in}
 use Rattle.book_steps.specs.Acts.{pass_bytes}
 use Rattle.book_steps.proofs.Committed.{sound-layout}
-use Rattle.member.specs.declared.Passed.{Passed}
 use Rattle.member.specs.Calls.{pass_call, passed_of, pass_buffer, GaveOut}
-use Rattle.member.specs.Parts.{admitted, passing_into, passed_with, SentOut}
+use Rattle.member.specs.Parts.{admitted, passing_into, SentOut}
 use Rattle.member.proofs.CallLaws.{called, called-admitted, called-refused, admit-says}
 
 -- ---- the frame of a slot, by the parts that are loaded of it
@@ -56,57 +54,43 @@ pub parts-frame : (b : List ℕ) (at : ℕ) (view : ViewId) (m : Carried) (n : �
 unfolding frame_at
 parts-frame b at view m n em en = λ i. frame_from view (sym em i) b (at + 11) (sym en i)
 
-pub wrote-slot : (b : List ℕ) (at : ℕ) (view : ViewId) (m : Carried) (n : ℕ) → m ≡ carried_at b at → n ≡ framed b at → (out end : List ℕ) (w : Written)
-    → Wrote (frame_from view m b (at + 11) n) out end w → Wrote (frame_at b at view.0) out end w
+pub wrote-slot : (b : List ℕ) (at : ℕ) (view : ViewId) (m : Carried) (n : ℕ) → m ≡ carried_at b at → n ≡ framed b at
+    → (out end : List ℕ) (w : Outcome ℕ Refusal) → Wrote (frame_from view m b (at + 11) n) out end w → Wrote (frame_at b at view.0) out end w
 wrote-slot b at view m n em en out end w x = subst (λ (f : Frame). Wrote f out end w) (sym (parts-frame b at view m n em en)) x
 
 -- ---- the frame written, then the message gone
 
-written-verdict : (v : Verdict) (n : ℕ) → (written_of v n).verdict ≡ v
-unfolding written_of
-written-verdict Accepted n = refl
-written-verdict (Refused r) n = refl
+module _ (f : Frame) (b out end : List ℕ) where
+  pub out-refused : {x : Refusal} → Wrote f out end (Err x) → SentOut f b b out end (Err x)
+  unfolding left
+  out-refused {x} w =
+      let v : write_verdict f (length out) ≡ Err x = then-given _ _ (sym w.reply) in
+      record { reply = w.reply; book = rw v refl; buffer = w.buffer }
 
-written-length : (v : Verdict) (n : ℕ) → v ≡ Accepted → (written_of v n).length ≡ n
-unfolding written_of
-written-length v n e = rw e refl
-
-module _ (f : Frame) (b out end : List ℕ) (w : Written) (wrote : Wrote f out end w) where
-  verdict-is : w.verdict ≡ write_verdict f (length out)
-  verdict-is = ap (λ (x : Written). x.verdict) wrote.reply ∙ written-verdict (write_verdict f (length out)) (length (frame_bytes f))
-
-  pub out-refused : (x : Refusal) → w.verdict ≡ Refused x → SentOut f b b out end (record { verdict = Refused x; length = 0 })
-  unfolding passed_with left
-  out-refused x t =
-      let v : write_verdict f (length out) ≡ Refused x = sym verdict-is ∙ t in
-      record { reply = rw v refl; book = rw v refl; buffer = wrote.buffer }
-
-  pub out-accepted : w.verdict ≡ Accepted → (d : List ℕ) → d ≡ pass_bytes b → SentOut f b d out end (record { verdict = Accepted; length = w.length })
-  unfolding passed_with left
-  out-accepted t d e =
-      let v : write_verdict f (length out) ≡ Accepted = sym verdict-is ∙ t in
-      let n : w.length ≡ length (frame_bytes f)
-      = ap (λ (x : Written). x.length) wrote.reply ∙ written-length (write_verdict f (length out)) (length (frame_bytes f)) v in
-      record { reply = rw (v, n) refl; book = rw v e; buffer = wrote.buffer }
+  pub out-accepted : {n : ℕ} → Wrote f out end (Ok n) → (d : List ℕ) → d ≡ pass_bytes b → SentOut f b d out end (Ok n)
+  unfolding left
+  out-accepted w d e =
+      let v : write_verdict f (length out) ≡ Ok tt = (then-met _ _ (sym w.reply)).0 in
+      record { reply = w.reply; book = rw v e; buffer = w.buffer }
 
 -- ---- what the rule gives
 
-passing-none : (b : Ruled) → b.carrier.view ≡ none → passing b ≡ refused NoCarrierView
+passing-none : (b : Ruled) → b.carrier.view ≡ None → passing b ≡ refused NoCarrierView
 unfolding passing with_view
 passing-none b e = rw e refl
 
-passing-empty : (b : Ruled) (v : View) → b.carrier.view ≡ some v → b.outgoing ≡ [] → passing b ≡ refused NoneOutgoing
+passing-empty : (b : Ruled) (v : View) → b.carrier.view ≡ Some v → b.outgoing ≡ [] → passing b ≡ refused NoneOutgoing
 unfolding passing with_view with_first
 passing-empty b v e f = rw (e, f) refl
 
-passing-first : (b : Ruled) (v : View) (x : Entry) (l : List Entry) → b.carrier.view ≡ some v → b.outgoing ≡ x ∷ l
+passing-first : (b : Ruled) (v : View) (x : Entry) (l : List Entry) → b.carrier.view ≡ Some v → b.outgoing ≡ x ∷ l
     → passing b ≡ accepted (record { to = v; first = x; book = outgoes l b })
 unfolding passing with_view with_first
 passing-first b v x l e f = rw (e, f) refl
 
 -- a refusal gives its number and leaves everything
 pub out_none : (b : Ruled) (x : Refusal) → passing b ≡ refused x → (new c out : List ℕ)
-    → GaveOut (passing_into (length out) b) new c c out out (record { verdict = Refused x; length = 0 })
+    → GaveOut (passing_into (length out) b) new c c out out (Err x)
 unfolding after left
 out_none b x e new c out = record { reply = rw e refl; book = rw e refl; buffer = rw e refl }
 
@@ -121,7 +105,7 @@ none-empty n (v ∷ l) h =
     rw e (none-empty n l t.1)
 
 message-content : (n q : ℕ) (m : Message) → count_fits (entry q m) ≡ true → sets_fit n (entry q m) ≡ true → opens_rise (entry q m) ≡ true
-    → (views_allowed (kind_of (carried_of m)) (length (views_of m)) ≡ true) × (content_of (kind_of (carried_of m)) (views_of m) (number_of (carried_of m)) ≡ Accepted)
+    → (views_allowed (kind_of (carried_of m)) (length (views_of m)) ≡ true) × (content_of (kind_of (carried_of m)) (views_of m) (number_of (carried_of m)) ≡ Ok tt)
 unfolding views_allowed content_of some_empty is_rising told_fits require
 message-content n q (client x) c s o = (refl, refl)
 message-content n q (info v l) c s o =
@@ -132,8 +116,8 @@ message-content n q (told k) c s o = (refl, rw c refl)
 
 -- a frame that carries the message is accepted
 frame-accepted : (f : Frame) (m : Message) → f.message ≡ carried_of m → list_of f.views ≡ views_of m → f.views.count ≡ length (views_of m)
-    → views_allowed (kind_of (carried_of m)) (length (views_of m)) ≡ true → content_of (kind_of (carried_of m)) (views_of m) (number_of (carried_of m)) ≡ Accepted
-    → frame_verdict f ≡ Accepted
+    → views_allowed (kind_of (carried_of m)) (length (views_of m)) ≡ true → content_of (kind_of (carried_of m)) (views_of m) (number_of (carried_of m)) ≡ Ok tt
+    → frame_verdict f ≡ Ok tt
 unfolding frame_verdict require
 frame-accepted f m e l c a w = rw (e, l, c, a) w
 
@@ -172,21 +156,21 @@ abbrev pub first_at : ℕ
 first_at = outgoing_at + 1
 
 -- the frame of a seat's view, written and gone, is the rule's answer
-sent-as : (f : Frame) (x : Passing) (b d out end : List ℕ) (r : Passed) → frame_verdict f ≡ Accepted → frame_bytes f ≡ passed_bytes x → SentOut f b d out end r
-    → GaveOut (need (leb (length (passed_bytes x)) (length out)) BufferTooShort (accepted x)) (pass_bytes b) b d out end r
-unfolding write_verdict and_then require need passed_with left
-sent-as f x b d out end r a e o =
+out-as : (f : Frame) (x : Passing) (b d out end : List ℕ) (r : Outcome ℕ Refusal) → frame_verdict f ≡ Ok tt → frame_bytes f ≡ passed_bytes x
+    → SentOut f b d out end r → GaveOut (need (leb (length (passed_bytes x)) (length out)) BufferTooShort (accepted x)) (pass_bytes b) b d out end r
+unfolding write_verdict and_then require need left
+out-as f x b d out end r a e o =
     ⊎_elim (λ (t : leb (length (passed_bytes x)) (length out) ≡ true).
-    let v : write_verdict f (length out) ≡ Accepted = rw (a, e, t) refl in
+    let v : write_verdict f (length out) ≡ Ok tt = rw (a, e, t) refl in
     record { reply = o.reply ∙ rw (v, t, e) refl; book = o.book ∙ rw (v, t) refl; buffer = o.buffer ∙ rw (v, t, e) refl })
     (λ (t : leb (length (passed_bytes x)) (length out) ≡ false).
-    let v : write_verdict f (length out) ≡ Refused BufferTooShort = rw (a, e, t) refl in
+    let v : write_verdict f (length out) ≡ Err BufferTooShort = rw (a, e, t) refl in
     record { reply = o.reply ∙ rw (v, t) refl; book = o.book ∙ rw (v, t) refl; buffer = o.buffer ∙ rw (v, t) refl })
     (known (leb (length (passed_bytes x)) (length out)))
 
 module _ (b : List ℕ) (sound : bytes_sound b ≡ true) where
   -- the frame of the first outgoing message, sent in any view, is one that the writer accepts
-  pub first_frame : 0 < get_or b outgoing_at 0 → (g : ℕ) → EntryOk b first_at × (frame_verdict (frame_at b first_at g) ≡ Accepted)
+  pub first_frame : 0 < get_or b outgoing_at 0 → (g : ℕ) → EntryOk b first_at × (frame_verdict (frame_at b first_at g) ≡ Ok tt)
   first_frame h g =
       let (l, first) = entries-first b first_at (get_or b outgoing_at 0) h in
       let says = outgoing-says b sound (entry_in b first_at) (rw first top) in
@@ -209,14 +193,14 @@ module _ (b : List ℕ) (sound : bytes_sound b ≡ true) where
     there-is = ap (λ (x : Seat). x.there) (sym loaded)
 
     pub pass-unseated : (out : List ℕ) → not s.there ≡ true
-        → GaveOut (passing_into (length out) (book_in b)) (pass_bytes b) b b out out (record { verdict = Refused NoCarrierView; length = 0 })
+        → GaveOut (passing_into (length out) (book_in b)) (pass_bytes b) b b out out (Err NoCarrierView)
     unfolding book_in record_in
     pass-unseated out h =
         let t : flag_in b carrier_at ≡ false = there-is ∙ not-true _ h in
         out_none (book_in b) NoCarrierView (passing-none (book_in b) (rw t refl)) (pass_bytes b) b out
 
     module _ (seated : not s.there ≡ false) where
-      carrier-is : (book_in b).carrier.view ≡ some (view_in b (carrier_at + 1))
+      carrier-is : (book_in b).carrier.view ≡ Some (view_in b (carrier_at + 1))
       unfolding book_in record_in
       carrier-is = let t : flag_in b carrier_at ≡ true = there-is ∙ not-false _ seated in rw t refl
 
@@ -225,14 +209,14 @@ module _ (b : List ℕ) (sound : bytes_sound b ≡ true) where
       out-is l e = e
 
       pub pass-emptied : (out : List ℕ) → get_or b outgoing_at 0 ≡ 0
-          → GaveOut (passing_into (length out) (book_in b)) (pass_bytes b) b b out out (record { verdict = Refused NoneOutgoing; length = 0 })
+          → GaveOut (passing_into (length out) (book_in b)) (pass_bytes b) b b out out (Err NoneOutgoing)
       unfolding book_in entries_in
       pass-emptied out h =
           let none_out : (book_in b).outgoing ≡ [] = ap (entries_in b first_at) h in
           out_none (book_in b) NoneOutgoing (passing-empty (book_in b) (view_in b (carrier_at + 1)) carrier-is none_out) (pass_bytes b) b out
 
-      pub pass-done : 0 < get_or b outgoing_at 0 → (d out end : List ℕ) (r : Passed) → SentOut (frame_at b (outgoing_at + 1) s.view.id.0) b d out end r
-          → GaveOut (passing_into (length out) (book_in b)) (pass_bytes b) b d out end r
+      pub pass-done : 0 < get_or b outgoing_at 0 → (d out end : List ℕ) (r : Outcome ℕ Refusal)
+          → SentOut (frame_at b (outgoing_at + 1) s.view.id.0) b d out end r → GaveOut (passing_into (length out) (book_in b)) (pass_bytes b) b d out end r
       unfolding after
       pass-done h d out end r o =
           let (l, first) = entries-first b first_at (get_or b outgoing_at 0) h in
@@ -244,21 +228,25 @@ module _ (b : List ℕ) (sound : bytes_sound b ≡ true) where
           let gives : passing (book_in b) ≡ accepted x = passing-first (book_in b) v (entry_in b first_at) l carrier-is (out-is l first) in
           let f = frame_at b first_at g in
           let bytes : frame_bytes f ≡ passed_bytes x = frame-message b first_at g ok ∙ ap (λ (w : View). message_bytes (id_of w) (message_in b first_at)) same in
-          rw gives (sent-as f x b d out end r frame bytes o)
+          rw gives (out-as f x b d out end r frame bytes o)
 
 -- ---- after 4 and 6
 
-module _ (b out : List ℕ) (v : Verdict) (admits : v ≡ admitted b) where
-  pub pass-refused : (x : Refusal) → v ≡ Refused x → GaveOut (pass_call (length out) b) (pass_bytes b) b b out out (record { verdict = Refused x; length = 0 })
+module _ (b out : List ℕ) where
+  pub pass-refused : {x : Refusal} → Err x ≡ admitted b → GaveOut (pass_call (length out) b) (pass_bytes b) b b out out (Err x)
   unfolding pass_call pass_alone left
-  pass-refused x t =
-      let k : called b (passing_into (length out) (book_in b)) ≡ refused x = called-refused b (passing_into (length out) (book_in b)) v x admits t in
-      record { reply = ap passed_of (sym k); book = ap (λ (r : Result Passing). left (verdict_of r) (pass_bytes b) b) (sym k); buffer = ap (λ (r : Result Passing). pass_buffer r out) (sym k) }
+  pass-refused {x} e =
+      let k : called b (passing_into (length out) (book_in b)) ≡ refused x = called-refused b (passing_into (length out) (book_in b)) x (sym e) in
+      record {
+        reply = ap passed_of (sym k);
+        book = ap (λ (r : Result Passing). left (verdict_of r) (pass_bytes b) b) (sym k);
+        buffer = ap (λ (r : Result Passing). pass_buffer r out) (sym k);
+      }
 
-  pub pass-given : v ≡ Accepted → (d end : List ℕ) (r : Passed) → GaveOut (passing_into (length out) (book_in b)) (pass_bytes b) b d out end r
-      → GaveOut (pass_call (length out) b) (pass_bytes b) b d out end r
+  pub pass-given : {u : Unit {0}} → Ok u ≡ admitted b → (d end : List ℕ) (r : Outcome ℕ Refusal)
+      → GaveOut (passing_into (length out) (book_in b)) (pass_bytes b) b d out end r → GaveOut (pass_call (length out) b) (pass_bytes b) b d out end r
   unfolding pass_call pass_alone
-  pass-given t d end r g =
+  pass-given e d end r g =
       let k : called b (passing_into (length out) (book_in b)) ≡ passing_into (length out) (book_in b)
-      = called-admitted b (passing_into (length out) (book_in b)) (admit-says b v admits t) in
+      = called-admitted b (passing_into (length out) (book_in b)) (admit-says b (sym e)) in
       rw k g

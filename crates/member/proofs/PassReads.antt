@@ -2,14 +2,13 @@
 use mathlib.Core.Path.{◌≡◌, refl, sym, ap, ◌∙◌}
 use mathlib.Core.Logic.{⊎_elim}
 use mathlib.Core.Bool.{true, false}
-use mathlib.Core.Option.{none, some}
+use Rattle.std.specs.Prelude.{None, Some, Ok}
 use mathlib.Core.List.{List, [], ◌∷◌}
 use Prim.Native.Nat.{ℕ, zero, suc, ◌+◌, ◌^◌, ◌≤◌, ◌<◌}
 use native.Mathlib.Omega.{arith}
 use lib.ListN.{get_or}
 use Rattle.views.specs.declared.View.{View}
 use Rattle.views.specs.declared.refusal.Refusal.{Refusal}
-use Rattle.views.specs.declared.refusal.Verdict.TheVariants.{Accepted}
 use Rattle.views.specs.Limits.{max_views}
 use Rattle.views.specs.Lists.{id_of}
 use Rattle.views.proofs.SetLaws.{known}
@@ -55,11 +54,11 @@ outgoing-first : (b : List ℕ) (e : Entry) (l : List Entry) → (book_in b).out
 unfolding book_in
 outgoing-first b e l h = entries-some b first_at (get_or b outgoing_at 0) e l h
 
-carrier-view : (b : List ℕ) (v : View) → (book_in b).carrier.view ≡ some v → view_in b (carrier_at + 1) ≡ v
+carrier-view : (b : List ℕ) (v : View) → (book_in b).carrier.view ≡ Some v → view_in b (carrier_at + 1) ≡ v
 unfolding book_in record_in
 carrier-view b v e =
-    ⊎_elim (λ (t : flag_in b carrier_at ≡ true). let k : some (view_in b (carrier_at + 1)) ≡ some v = rw t at e in cc)
-    (λ (t : flag_in b carrier_at ≡ false). let k : none ≡ some v = rw t at e in let z : ◌≡◌ {A = ℕ} 0 1 = cc in absurd (omega arith))
+    ⊎_elim (λ (t : flag_in b carrier_at ≡ true). let k : Some (view_in b (carrier_at + 1)) ≡ Some v = rw t at e in cc)
+    (λ (t : flag_in b carrier_at ≡ false). let k : None ≡ Some v = rw t at e in let z : ◌≡◌ {A = ℕ} 0 1 = cc in absurd (omega arith))
     (known (flag_in b carrier_at))
 
 -- ---- the frame of an entry in bytes is within its widths
@@ -74,7 +73,7 @@ frame-fits b at g bytes h few = record {
 }
 
 -- so it is read as the entry's message
-sent-at : (b : List ℕ) (at g : ℕ) → EntryOk b at → Fits (frame_at b at g) → frame_verdict (frame_at b at g) ≡ Accepted
+sent-at : (b : List ℕ) (at g : ℕ) → EntryOk b at → Fits (frame_at b at g) → frame_verdict (frame_at b at g) ≡ Ok tt
     → sent_of (read_one (frame_bytes (frame_at b at g))) ≡ accepted (record { view = g; message = message_in b at })
 unfolding frame_at
 sent-at b at g ok fit v = written-sent (frame_at b at g) (message_in b at) fit v (frame-carried b at g ok) (frame-views b at g ok)

@@ -1,10 +1,11 @@
 -- The member by itself, on a lent book of any length and content: what each call gives, and what it leaves in every
 -- lent byte. A call's result is that of rules/specs/Alone on the book that the bytes are; 4 comes first, for what only
 -- bytes can hold.
-use Rattle.std.specs.Prelude.{◌≡◌, List, [], ◌∷◌, map, ℕ, eqb, length, take}
+use Rattle.std.specs.Prelude.{◌≡◌, List, [], ◌∷◌, map, ℕ, eqb, length, take, None, Ok, Err}
+use Rattle.std.specs.Prelude.{Result as Given}
 use Rattle.views.specs.declared.View.{View}
+use Rattle.views.specs.declared.refusal.Refusal.{Refusal}
 use Rattle.views.specs.declared.refusal.Refusal.TheVariants.{RecordsUnsound}
-use Rattle.views.specs.declared.refusal.Verdict.TheVariants.{Accepted, Refused}
 use Rattle.views.specs.Sets.{one}
 use Rattle.views.specs.Refusals.{left}
 use Rattle.wire.specs.Single.{read_one}
@@ -16,11 +17,9 @@ use Rattle.rules.specs.Alone.{Sent, sent_of, alone, start_alone, join_alone, pas
 use Rattle.rules.specs.Alone.{Delivery, packet_alone, attempt_alone}
 use Rattle.book_bytes.specs.Places.{book_size}
 use Rattle.book_bytes.specs.Books.{book_in, layout_fits, members_in, own_in_book}
-use Rattle.events.specs.declared.Reply.{Reply}
-use Rattle.events.specs.Replies.{no_event, reply_of, verdict_of}
+use Rattle.events.specs.declared.Delivered.{Delivered}
+use Rattle.events.specs.Replies.{Reply, reply_of, verdict_of}
 use Rattle.book_steps.specs.Acts.{take_bytes}
-use Rattle.member.specs.declared.Passed.{Passed}
-use Rattle.member.specs.declared.Delivered.{Delivered}
 
 -- ---- the results
 
@@ -79,14 +78,14 @@ unfoldable pub start_call : ℕ → ℕ → Member → List ℕ → Result Ruled
 start_call n S p b = need (eqb (length b) book_size) RecordsUnsound (start_alone n S p)
 
 abbrev pub start_reply : Result Ruled → Reply
-start_reply (refused r) = record { verdict = Refused r; event = no_event }
-start_reply (accepted x) = record { verdict = Accepted; event = no_event }
+start_reply (refused r) = Err r
+start_reply (accepted x) = Ok None
 
 -- ---- pass: the number of bytes written, and the buffer; a refusal leaves it as it was
 
-abbrev pub passed_of : Result Passing → Passed
-passed_of (refused r) = record { verdict = Refused r; length = 0 }
-passed_of (accepted x) = record { verdict = Accepted; length = length (passed_bytes x) }
+abbrev pub passed_of : Result Passing → Given ℕ Refusal
+passed_of (refused r) = Err r
+passed_of (accepted x) = Ok (length (passed_bytes x))
 
 abbrev pub pass_buffer : Result Passing → List ℕ → List ℕ
 pass_buffer (refused r) out = out
@@ -114,10 +113,10 @@ count_of (accepted x) = x.count
 unfoldable pub packet_bytes : List ℕ → Member → List ℕ → List ℕ
 packet_bytes s q b = take_each (take (count_of (packet_call s q b)) (messages_in s)) q b
 
--- the verdict on the call; where it is accepted, how many were delivered and what stopped it
-abbrev pub delivered_of : Result Delivery → Delivered
-delivered_of (refused r) = record { verdict = Refused r; count = 0; stopped = Accepted }
-delivered_of (accepted x) = record { verdict = Accepted; count = x.count; stopped = x.stopped }
+-- how many were delivered and what stopped it
+abbrev pub delivered_of : Result Delivery → Given Delivered Refusal
+delivered_of (refused r) = Err r
+delivered_of (accepted x) = Ok (record { count = x.count; stopped = x.stopped })
 
 -- ---- what a call gives and leaves: the reply r, and the book's bytes at exit; an accepted one leaves `new`
 
@@ -126,12 +125,12 @@ pub record Gave (result : Result Done) (new entry exit : List ℕ) (r : Reply) :
   pub book : exit ≡ left (verdict_of result) new entry
 
 -- the same of pass, with the buffer before and after it
-pub record GaveOut (result : Result Passing) (new entry exit before after : List ℕ) (r : Passed) : Type 0 where
+pub record GaveOut (result : Result Passing) (new entry exit before after : List ℕ) (r : Given ℕ Refusal) : Type 0 where
   pub reply : r ≡ passed_of result
   pub book : exit ≡ left (verdict_of result) new entry
   pub buffer : after ≡ pass_buffer result before
 
 -- the same of a packet
-pub record GaveEach (result : Result Delivery) (new entry exit : List ℕ) (r : Delivered) : Type 0 where
+pub record GaveEach (result : Result Delivery) (new entry exit : List ℕ) (r : Given Delivered Refusal) : Type 0 where
   pub reply : r ≡ delivered_of result
   pub book : exit ≡ left (verdict_of result) new entry

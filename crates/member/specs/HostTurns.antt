@@ -1,7 +1,6 @@
 -- Hosts that keep the one rule of duty 1 (docs/HOST.md): they work in turns, and nothing leaves a turn before its save.
 -- A host may stop at any time, and comes back with what it has on disk. World and calls are those of Hosts.antt.
-use Rattle.std.specs.Prelude.{◌≡◌, List, [], ◌∷◌, ◌++◌, ℕ, ◌<◌}
-use Rattle.views.specs.declared.refusal.Verdict.TheVariants.{Accepted}
+use Rattle.std.specs.Prelude.{◌≡◌, List, [], ◌∷◌, ◌++◌, ℕ, ◌<◌, Ok}
 use Rattle.views.specs.Points.{at}
 use Rattle.views.specs.Refusals.{left}
 use Rattle.views.specs.Lists.{id_of}
@@ -105,7 +104,7 @@ pub data Works (n : ℕ) : Hosts → Hosts → List (Event ℕ) → Type 0 where
 -- from starts that are accepted, and saved: what it comes to, and the events that were published
 pub data Worked (n S : ℕ) : Hosts → List (Event ℕ) → Type 0 where
   begin : (lent : Member → List ℕ) → 0 < n
-      → ((p : Member) → p < n → verdict_of (start_call n S p (lent p)) ≡ Accepted)
+      → ((p : Member) → p < n → verdict_of (start_call n S p (lent p)) ≡ Ok tt)
       → Worked n S (quiet (world0 n S lent)) []
   then : {h k : Hosts} {l e : List (Event ℕ)} → Worked n S h l → Works n h k e → Worked n S k (l ++ e)
 

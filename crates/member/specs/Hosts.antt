@@ -1,12 +1,10 @@
 -- Hosts over a carrier of their own, as they are: each member's book is the bytes that its host lends, and messages are
 -- bytes. Of the carrier and the hosts is asked what rules/specs/Hosts.antt asks, 1 to 4, and that numbers are within
 -- their widths.
-use Rattle.std.specs.Prelude.{◌≡◌, ◌≢◌, ◌⊎◌, true, List, [], ◌∷◌, ◌++◌, ℕ, ◌^◌, ◌<◌}
-use Rattle.std.proofs.Math.Option.{some}
+use Rattle.std.specs.Prelude.{◌≡◌, ◌≢◌, ◌⊎◌, true, List, [], ◌∷◌, ◌++◌, ℕ, ◌^◌, ◌<◌, Ok, Err, Some}
 use Rattle.views.specs.declared.View.{View}
 use Rattle.views.specs.declared.refusal.Refusal.{Refusal}
 use Rattle.views.specs.declared.refusal.Refusal.TheVariants.{OrderFull, TooManyOpen}
-use Rattle.views.specs.declared.refusal.Verdict.TheVariants.{Accepted, Refused}
 use Rattle.views.specs.Members.{In}
 use Rattle.views.specs.Points.{at, at2}
 use Rattle.views.specs.Refusals.{left}
@@ -68,7 +66,7 @@ abbrev pub called : World → Member → Result Done → List ℕ → World
 called w p r new = rebooked w p (left (verdict_of r) new (w.books p))
 
 abbrev pub shows : Result Done → List (Event ℕ)
-shows r = shown_by (reply_of r).verdict (reply_of r).event
+shows r = shown_by (reply_of r)
 
 -- what pass wrote into its buffer is given out in the view that it is tagged with
 abbrev pub passed : World → Member → Result Passing → World
@@ -89,7 +87,7 @@ Next w p v q bytes = At (w.order (id_of v)) (book_of w p).carrier.taken (record 
 -- bytes that are read as a message of its carrier view are the next that it has to take of it
 abbrev pub InOrder : World → Member → List ℕ → Member → Type 0
 InOrder w p bytes q =
-    (v : View) (m : Message) → (book_of w p).carrier.view ≡ some v
+    (v : View) (m : Message) → (book_of w p).carrier.view ≡ Some v
     → sent_of (read_one bytes) ≡ accepted (record { view = id_of v; message = m }) → Next w p v q bytes
 
 -- each with its result, and the bytes of the book where it is accepted
@@ -136,7 +134,7 @@ pub data Happens (n : ℕ) : World → World → List (Event ℕ) → Type 0 whe
 -- from starts that are accepted, of each of the n members: the world that it comes to, and the outward events
 pub data History (n S : ℕ) : World → List (Event ℕ) → Type 0 where
   begin : (lent : Member → List ℕ) → 0 < n
-      → ((p : Member) → p < n → verdict_of (start_call n S p (lent p)) ≡ Accepted)
+      → ((p : Member) → p < n → verdict_of (start_call n S p (lent p)) ≡ Ok tt)
       → History n S (world0 n S lent) []
   then : {w t : World} {l k : List (Event ℕ)} → History n S w l → Happens n w t k → History n S t (l ++ k)
 
@@ -160,8 +158,8 @@ NeverFourHosts =
 abbrev pub TakesNext : Type 0
 TakesNext =
     (n S : ℕ) (w : World) (l : List (Event ℕ)) → History n S w l
-    → (p : Member) → p < n → (v : View) (q : Member) (bytes : List ℕ) → (book_of w p).carrier.view ≡ some v
-    → Next w p v q bytes → (r : Refusal) → verdict_of (deliver_call bytes q (w.books p)) ≡ Refused r
+    → (p : Member) → p < n → (v : View) (q : Member) (bytes : List ℕ) → (book_of w p).carrier.view ≡ Some v
+    → Next w p v q bytes → (r : Refusal) → verdict_of (deliver_call bytes q (w.books p)) ≡ Err r
     → (r ≡ OrderFull) ⊎ (r ≡ TooManyOpen)
 
 -- ---- packets
@@ -171,7 +169,7 @@ unfoldable pub EachInOrder : World → Member → List (List ℕ) → Member →
 EachInOrder w p [] q = Unit {0}
 EachInOrder w p (bytes ∷ l) q =
     InOrder w p bytes q
-    × (verdict_of (deliver_call bytes q (w.books p)) ≡ Accepted
+    × (verdict_of (deliver_call bytes q (w.books p)) ≡ Ok tt
     → EachInOrder (rebooked w p (deliver_bytes bytes q (w.books p))) p l q)
 
 -- a packet whose messages are in order leaves a world that a history comes to with the same events: what is promised of

@@ -1,10 +1,9 @@
 -- What is promised of the member by itself: demand 2, that each call does what the rules say; that 4 never comes for
 -- what its own steps made; and that a packet is its messages one by one.
-use Rattle.std.specs.Prelude.{◌≡◌, true, false, List, [], ◌∷◌, ℕ, ◌+◌, ◌≤◌}
+use Rattle.std.specs.Prelude.{◌≡◌, true, false, List, [], ◌∷◌, ℕ, ◌+◌, ◌≤◌, Ok, Err}
 use Rattle.views.specs.declared.refusal.Refusal.{Refusal}
 use Rattle.views.specs.declared.refusal.Refusal.TheVariants.{RecordsUnsound}
-use Rattle.views.specs.declared.refusal.Verdict.{Verdict}
-use Rattle.views.specs.declared.refusal.Verdict.TheVariants.{Accepted, Refused}
+use Rattle.views.specs.Refusals.{Verdict}
 use Rattle.views.specs.Limits.{max_ordered}
 use Rattle.views.specs.Members.{In}
 use Rattle.views.specs.Lists.{id_of}
@@ -58,12 +57,12 @@ pub record Apart : Type 0 where
 
 -- one that is refused stops it and changes nothing
 abbrev pub unless : Verdict → List ℕ → Apart → Apart
-unless (Refused r) b others = record { count = 0; stopped = Refused r; book = b }
-unless Accepted b others = record { count = others.count + 1; stopped = others.stopped; book = others.book }
+unless (Err r) b others = record { count = 0; stopped = Err r; book = b }
+unless (Ok u) b others = record { count = others.count + 1; stopped = others.stopped; book = others.book }
 
 -- the bytes of each as deliver takes them from the sender q
 unfoldable pub apart : List (List ℕ) → Member → List ℕ → Apart
-apart [] q b = record { count = 0; stopped = Accepted; book = b }
+apart [] q b = record { count = 0; stopped = Ok tt; book = b }
 apart (s ∷ l) q b = unless (verdict_of (deliver_call s q b)) b (apart l q (after (deliver s q) b))
 
 -- of every packet that 4 does not refuse
@@ -74,7 +73,7 @@ pub record Packets : Type 0 where
       → record { count = x.count; stopped = x.stopped; book = after (packet s q) b } ≡ apart (pieces_in s) q b
   -- what stops it is neither 4 nor 38, and what it leaves is a sound book again, whatever sound book it was
   pub stopped_by : (s : List ℕ) (q : Member) (b : List ℕ) → AreBytes s → AreBytes b
-      → (x : Delivery) → packet_call s q b ≡ accepted x → (r : Refusal) → x.stopped ≡ Refused r → In r stops
+      → (x : Delivery) → packet_call s q b ≡ accepted x → (r : Refusal) → x.stopped ≡ Err r → In r stops
   pub still-sound : (s : List ℕ) (q : Member) (b : List ℕ) → AreBytes s → AreBytes b → bytes_sound b ≡ true
       → bytes_sound (after (packet s q) b) ≡ true
   -- no more are delivered than a view's order has

@@ -11,7 +11,7 @@ ghost use Rattle.member.specs.Calls.{Gave, join_call, attempt_call, collect_call
 use crate::admit;
 use events::Reply;
 use views::View;
-use views::refusal::{Refusal, Verdict};
+use views::refusal::Refusal;
 
 // The view v becomes the carrier view of a sound book: 7, 11, 12.
 fn join_view(b: &mut [u8], v: View) -> Reply
@@ -23,7 +23,7 @@ fn join_view(b: &mut [u8], v: View) -> Reply
         (join_bytes v b.old) b.old) }
 {
     if !book_sound::views_at::set_fits(b[book_bytes::MEMBERS], v) {
-        return events::refuse(Refusal::SetUnfit);
+        return Err(Refusal::SetUnfit);
     }
     book_steps::carrier_view::join(b, v)
 }
@@ -33,11 +33,8 @@ pub fn join(b: &mut [u8], v: View) -> Reply
     ensures { Gave (join_call v b.old) (join_bytes v b.old) b.old
         b.new result }
 {
-    let verdict = admit(b);
-    match verdict {
-        Verdict::Refused(r) => events::refuse(r),
-        Verdict::Accepted => join_view(b, v),
-    }
+    admit(b)?;
+    join_view(b, v)
 }
 
 // The carrier view becomes open and becomes the client view.
@@ -45,11 +42,8 @@ pub fn attempt(b: &mut [u8]) -> Reply
     ensures { Gave (attempt_call b.old) (attempt_bytes b.old) b.old
         b.new result }
 {
-    let v = admit(b);
-    match v {
-        Verdict::Refused(r) => events::refuse(r),
-        Verdict::Accepted => book_steps::carrier_view::attempt(b),
-    }
+    admit(b)?;
+    book_steps::carrier_view::attempt(b)
 }
 
 // The carrier view becomes settled; only open views above it remain.
@@ -57,9 +51,6 @@ pub fn collect(b: &mut [u8]) -> Reply
     ensures { Gave (collect_call b.old) (collect_bytes b.old) b.old
         b.new result }
 {
-    let v = admit(b);
-    match v {
-        Verdict::Refused(r) => events::refuse(r),
-        Verdict::Accepted => book_steps::carrier_view::collect(b),
-    }
+    admit(b)?;
+    book_steps::carrier_view::collect(b)
 }

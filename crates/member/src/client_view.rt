@@ -4,18 +4,14 @@ ghost use Rattle.member.specs.Calls.{Gave, register_call, send_call, hand_call, 
 
 use crate::admit;
 use events::Reply;
-use views::refusal::Verdict;
 
 // Noted for the client view; outgoing gains a registered message.
 pub fn register(b: &mut [u8]) -> Reply
     ensures { Gave (register_call b.old) (register_bytes b.old) b.old
         b.new result }
 {
-    let v = admit(b);
-    match v {
-        Verdict::Refused(r) => events::refuse(r),
-        Verdict::Accepted => book_steps::client_view::register(b),
-    }
+    admit(b)?;
+    book_steps::client_view::register(b)
 }
 
 // Outgoing gains a client message.
@@ -23,11 +19,8 @@ pub fn send(b: &mut [u8], entry: u64) -> Reply
     ensures { Gave (send_call entry b.old) (send_bytes entry b.old) b.old
         b.new result }
 {
-    let v = admit(b);
-    match v {
-        Verdict::Refused(r) => events::refuse(r),
-        Verdict::Accepted => book_steps::client_view::send(b, entry),
-    }
+    admit(b)?;
+    book_steps::client_view::send(b, entry)
 }
 
 // The next of the client view's inward list is given out.
@@ -35,11 +28,8 @@ pub fn hand(b: &mut [u8]) -> Reply
     ensures { Gave (hand_call b.old) (hand_bytes b.old) b.old b.new
         result }
 {
-    let v = admit(b);
-    match v {
-        Verdict::Refused(r) => events::refuse(r),
-        Verdict::Accepted => book_steps::client_view::hand(b),
-    }
+    admit(b)?;
+    book_steps::client_view::hand(b)
 }
 
 // Outgoing gains told, with the number handed out in the client view.
@@ -47,11 +37,8 @@ pub fn tell(b: &mut [u8]) -> Reply
     ensures { Gave (tell_call b.old) (tell_bytes b.old) b.old b.new
         result }
 {
-    let v = admit(b);
-    match v {
-        Verdict::Refused(r) => events::refuse(r),
-        Verdict::Accepted => book_steps::client_view::tell(b),
-    }
+    admit(b)?;
+    book_steps::client_view::tell(b)
 }
 
 // The next handed message not yet reported is reported, once every member of the view told of it.
@@ -59,9 +46,6 @@ pub fn safe(b: &mut [u8]) -> Reply
     ensures { Gave (safe_call b.old) (safe_bytes b.old) b.old b.new
         result }
 {
-    let v = admit(b);
-    match v {
-        Verdict::Refused(r) => events::refuse(r),
-        Verdict::Accepted => book_steps::client_view::safe(b),
-    }
+    admit(b)?;
+    book_steps::client_view::safe(b)
 }

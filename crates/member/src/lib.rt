@@ -17,33 +17,17 @@ use events::Reply;
 use views::refusal::{Refusal, Verdict};
 use views::{Member, View, ViewId, limits};
 
-// What pass gives: the verdict, and how many bytes were written.
-#[derive(Clone, Copy)]
-pub struct Passed {
-    pub verdict: Verdict,
-    pub length: usize,
-}
-
-// What a packet's delivery gives: the verdict on the call and, where it is accepted, how many messages were delivered
-// and the refusal of the next.
-#[derive(Clone, Copy)]
-pub struct Delivered {
-    pub verdict: Verdict,
-    pub count: usize,
-    pub stopped: Verdict,
-}
-
 // 4 for bytes that are no sound book, then 6 for an own number not below the members.
 pub fn admit(b: &[u8]) -> Verdict
     ensures { result ≡ admitted b.now }
 {
     if !book_sound::sound(b) {
-        return Verdict::Refused(Refusal::RecordsUnsound);
+        return Err(Refusal::RecordsUnsound);
     }
     if b[book_bytes::MEMBERS] <= b[book_bytes::SELF] {
-        return Verdict::Refused(Refusal::NoSuchMember);
+        return Err(Refusal::NoSuchMember);
     }
-    Verdict::Accepted
+    Ok(())
 }
 
 // 4 for a book not of its length, then 1, 2, 6.
@@ -51,22 +35,19 @@ fn startable(b: &[u8], members: u8, set: u8, own: Member) -> Verdict
     ensures { result ≡ verdict_of (start_call members set own.0 b.now) }
 {
     if b.len() != book_bytes::SIZE {
-        return Verdict::Refused(Refusal::RecordsUnsound);
+        return Err(Refusal::RecordsUnsound);
     }
-    if members < 1 {
-        return Verdict::Refused(Refusal::MembersOutOfRange);
-    }
-    if limits::MEMBERS < members {
-        return Verdict::Refused(Refusal::MembersOutOfRange);
+    if !(1..=limits::MEMBERS).contains(&members) {
+        return Err(Refusal::MembersOutOfRange);
     }
     let view = View { id: ViewId(0), set };
     if !book_sound::views_at::set_fits(members, view) {
-        return Verdict::Refused(Refusal::FirstSetUnfit);
+        return Err(Refusal::FirstSetUnfit);
     }
     if members <= own.0 {
-        return Verdict::Refused(Refusal::NoSuchMember);
+        return Err(Refusal::NoSuchMember);
     }
-    Verdict::Accepted
+    Ok(())
 }
 
 // The member is given the members, the first set and its number.
@@ -75,15 +56,7 @@ pub fn start(b: &mut [u8], members: u8, set: u8, own: Member) -> Reply
         × (b.new ≡ left (verdict_of (start_call members set own.0 b.old))
         (start_bytes members set own.0 b.old) b.old) }
 {
-    let v = startable(b, members, set, own);
-    match v {
-        Verdict::Refused(r) => events::refuse(r),
-        Verdict::Accepted => {
-            book_bytes::fresh::book(b, members, set, own);
-            Reply {
-                verdict: Verdict::Accepted,
-                event: events::no_event(),
-            }
-        }
-    }
+    startable(b, members, set, own)?;
+    book_bytes::fresh::book(b, members, set, own);
+    Ok(None)
 }

@@ -10,10 +10,8 @@ pub fn get_number(b: &[u8], at: usize, width: usize) -> u64
     ensures { (result ≡ get b.now at width) × (result < 256 ^ width) }
 {
     let mut x = 0u64;
-    let mut i = 0;
-    while i < width {
-        x = x * 256 + b[at + i] as u64;
-        i += 1;
+    for byte in &b[at..at + width] {
+        x = x * 256 + u64::from(*byte);
     }
     x
 }
@@ -24,10 +22,8 @@ pub fn put_number(b: &mut [u8], at: usize, width: usize, x: u64)
     ensures { b.new ≡ put b.old at width x }
 {
     let mut rest = x;
-    let mut i = width;
-    while 0 < i {
-        i -= 1;
+    for i in (0..width).rev() {
         b[at + i] = (rest % 256) as u8;
-        rest = rest / 256;
+        rest /= 256;
     }
 }

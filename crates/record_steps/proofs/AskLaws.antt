@@ -1,31 +1,19 @@
 -- What the walks over members and over views find, and the seats compared.
-use mathlib.Core.Path.{◌≡◌, refl, sym}
-use mathlib.Core.Bool.{Bool, true, false, cond, not, ◌||◌}
-use mathlib.Core.Option.{none, some}
-use mathlib.Core.List.{List}
-use Prim.Native.Nat.{ℕ, suc, ◌+◌, ◌<◌}
-use native.Mathlib.Numerals.{add-one}
+use mathlib.Core.Path.{◌≡◌, refl, sym, ◌∙◌}
+use mathlib.Core.Bool.{Bool, true, false, cond, not, ◌&&◌, ◌||◌}
+use Rattle.std.specs.Prelude.{None, Some}
+use mathlib.Core.List.{List, [], ◌∷◌}
+use Prim.Native.Nat.{ℕ, zero, suc, ◌+◌}
+use Rattle.std.specs.List.{list_all, range_with_len}
+use native.Mathlib.Omega.{arith}
 use lib.Dec.{eqb, eqb-zero-suc}
-use lib.ListN.{length, get_or, take, drop}
 use Rattle.views.specs.declared.View.{View}
-use Rattle.views.specs.Sets.{has, one, majority_of}
-use Rattle.views.specs.Lists.{id_of, no_view}
-use Rattle.views.proofs.PlaceLaws.{drop-used}
+use Rattle.views.specs.Sets.{has, both, one, majority_of}
+use Rattle.views.specs.Lists.{id_of}
 use Rattle.rules.specs.Data.{rank}
 use Rattle.rules.specs.Member.{every, all, passes}
 use Rattle.book_bytes.specs.declared.Seat.{Seat}
 use Rattle.book_bytes.specs.Records.{seated}
-
--- ---- every member
-
-module _ (f : ℕ → Bool) where
-  pub every-none : every 0 f ≡ true
-  unfolding every
-  every-none = refl
-
-  pub every_more : (q : ℕ) → every q f ≡ true → f q ≡ true → every (q + 1) f ≡ true
-  unfolding every
-  every_more q e i = rw (add-one q, e, i)
 
 -- a member of the set is asked, another is not
 module _ (members : ℕ) (f : ℕ → Bool) (q : ℕ) where
@@ -38,20 +26,31 @@ module _ (members : ℕ) (f : ℕ → Bool) (q : ℕ) where
   pub unasked : has members q ≡ false → (not (has members q) || f q) ≡ true
   unasked e = rw e
 
+-- ---- the tests of the library, of every number of a range and of every item of a list
+
+both-and : (a b : Bool) → (a && b) ≡ both a b
+both-and true b = refl
+both-and false b = refl
+
+range_more : (f : ℕ → Bool) (a n j : ℕ) → a + n ≡ j → list_all f (range_with_len a (suc n)) ≡ (list_all f (range_with_len a n) && f j)
+range_more f a zero j e = grind (arith, e)
+range_more f a (suc n) j e = let more = range_more f (a + 1) n j (omega arith) in grind (arith, more)
+
+pub every-range : (f : ℕ → Bool) (n : ℕ) → list_all f (range_with_len 0 n) ≡ every n f
+unfolding every
+every-range f zero = refl
+every-range f (suc n) = range_more f 0 n n (omega arith) ∙ rw (every-range f n) (both-and (every n f) (f n))
+
+pub all-list : {A : Type 0} (f : A → Bool) (l : List A) → list_all f l ≡ all f l
+unfolding all
+all-list f [] = refl
+all-list f (x ∷ l) = rw (all-list f l) (both-and (f x) (all f l))
+
 -- ---- every held view
 
 pub passes-majority : (v held : View) → passes one v held ≡ majority_of v.set held.set
 unfolding passes majority_of
 passes-majority v held = refl
-
-module _ (f : View → Bool) (count : ℕ) (at : List View) (i : ℕ) (h : i < length (take count at)) where
-  pub all-on : f (get_or at i no_view) ≡ true → all f (drop i (take count at)) ≡ all f (drop (i + 1) (take count at))
-  unfolding all
-  all-on e = rw (drop-used count at i h, e)
-
-  pub all-stop : f (get_or at i no_view) ≡ false → all f (drop i (take count at)) ≡ false
-  unfolding all
-  all-stop e = rw (drop-used count at i h, e)
 
 -- ---- seats
 
@@ -61,6 +60,6 @@ rank-there s e = rw e
 pub rank-none : (s : Seat) → s.there ≡ false → rank (seated s) ≡ 0
 rank-none s e = rw e
 
-pub none-same : (there : Bool) (v : View) → not there ≡ eqb 0 (rank (cond there (some v) none))
+pub none-same : (there : Bool) (v : View) → not there ≡ eqb 0 (rank (cond there (Some v) None))
 none-same true v = sym (eqb-zero-suc (id_of v))
 none-same false v = refl

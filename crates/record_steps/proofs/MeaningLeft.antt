@@ -1,7 +1,7 @@
 -- The book that an accepted step leaves, for each of the member's rules on any book.
 use mathlib.Core.Path.{◌≡◌, refl, ap, ◌∙◌}
 use mathlib.Core.Bool.{Bool, true, false}
-use mathlib.Core.Option.{Option, none, some}
+use Rattle.std.specs.Prelude.{Option, None, Some}
 use mathlib.Core.List.{List, [], ◌∷◌, ◌++◌}
 use Prim.Native.Nat.{ℕ, ◌+◌}
 use native.Mathlib.Omega.{arith}
@@ -27,10 +27,10 @@ unfolding need
 need-leaves true r x b h = h refl
 need-leaves false r x b h = refused-leaves r b
 
-view-leaves : (o : Option View) (r : Refusal) (f : View → Result Done) (b : Book) → ((v : View) → o ≡ some v → Leaves (f v) b) → Leaves (with_view o r f) b
+view-leaves : (o : Option View) (r : Refusal) (f : View → Result Done) (b : Book) → ((v : View) → o ≡ Some v → Leaves (f v) b) → Leaves (with_view o r f) b
 unfolding with_view
-view-leaves none r f b h = refused-leaves r b
-view-leaves (some v) r f b h = h v refl
+view-leaves None r f b h = refused-leaves r b
+view-leaves (Some v) r f b h = h v refl
 
 first-leaves : {B : Type 0} (l : List B) (r : Refusal) (f : B → List B → Result Done) (b : Book) → ((x : B) (rest : List B) → Leaves (f x rest) b)
     → Leaves (with_first l r f) b
@@ -55,7 +55,7 @@ module _ (p : ℕ) (b : Book) where
   joins-leaves v = need-leaves _ _ _ _ (λ t. need-leaves _ _ _ _ (λ u. does-leaves _ _ _ refl))
 
   -- v is the carrier view, if there is one
-  pub attempts-leaves : (weight : ℕ → ℕ) (n : ℕ) (v : View) → ((w : View) → b.carrier.view ≡ some w → w ≡ v) → Leaves (attempts weight n p b) (attempted v b)
+  pub attempts-leaves : (weight : ℕ → ℕ) (n : ℕ) (v : View) → ((w : View) → b.carrier.view ≡ Some w → w ≡ v) → Leaves (attempts weight n p b) (attempted v b)
   unfolding attempts
   attempts-leaves weight n v only =
       view-leaves _ _ _ _ (λ w e. need-leaves _ _ _ _ (λ t. need-leaves _ _ _ _ (λ u. need-leaves _ _ _ _ (λ x. does-leaves _ _ _ (ap (λ (x : View). attempted x b) (only w e))))))
@@ -84,6 +84,6 @@ module _ (p : ℕ) (b : Book) where
   unfolding safes
   safes-leaves n = view-leaves _ _ _ _ (λ v e. need-leaves _ _ _ _ (λ t. first-leaves _ _ _ _ (λ x rest. need-leaves _ _ _ _ (λ u. does-leaves _ _ _ refl))))
 
-pub collects-leaves : (b : Book) (n : ℕ) (v : View) → ((w : View) → b.carrier.view ≡ some w → w ≡ v) → Leaves (collects n b) (collected v b)
+pub collects-leaves : (b : Book) (n : ℕ) (v : View) → ((w : View) → b.carrier.view ≡ Some w → w ≡ v) → Leaves (collects n b) (collected v b)
 unfolding collects
 collects-leaves b n v only = view-leaves _ _ _ _ (λ w e. need-leaves _ _ _ _ (λ t. need-leaves _ _ _ _ (λ u. does-leaves _ _ _ (ap (λ (x : View). collected x b) (only w e)))))

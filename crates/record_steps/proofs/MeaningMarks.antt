@@ -3,7 +3,7 @@
 use mathlib.Core.Path.{◌≡◌, sym, ◌∙◌}
 use mathlib.Core.Logic.{⊎_elim}
 use mathlib.Core.Bool.{true, false}
-use mathlib.Core.Option.{none, some}
+use Rattle.std.specs.Prelude.{None, Some}
 use mathlib.Core.List.{List, [], ◌∷◌}
 use Prim.Native.Nat.{ℕ, ◌≤◌}
 use native.Mathlib.Omega.{arith}
@@ -22,10 +22,10 @@ use Rattle.record_steps.proofs.MeaningLeft.{Leaves, joins-leaves, attempts-leave
 use Rattle.record_steps.proofs.MeaningBooks.{joined_to, join-book, attempt-book, collect-book}
 
 -- the view of a seat that has one
-pub seated-view : (s : Seat) (v : View) → seated s ≡ some v → v ≡ s.view
+pub seated-view : (s : Seat) (v : View) → seated s ≡ Some v → v ≡ s.view
 seated-view s v e =
-    ⊎_elim (λ (t : s.there ≡ true). let k : some s.view ≡ some v = rw t at e in cc)
-    (λ (t : s.there ≡ false). let k : none ≡ some v = rw t at e in let z : ◌≡◌ {A = ℕ} 0 1 = cc in absurd (omega arith))
+    ⊎_elim (λ (t : s.there ≡ true). let k : Some s.view ≡ Some v = rw t at e in cc)
+    (λ (t : s.there ≡ false). let k : None ≡ Some v = rw t at e in let z : ◌≡◌ {A = ℕ} 0 1 = cc in absurd (omega arith))
     (known s.there)
 
 -- ---- the rule's book

@@ -1,7 +1,7 @@
 -- The verdict of each step on the book that a record is, with any queues: of the queues it asks no more than their lengths.
 use mathlib.Core.Path.{◌≡◌, refl}
 use mathlib.Core.Bool.{Bool, true, false}
-use mathlib.Core.Option.{Option, none, some}
+use Rattle.std.specs.Prelude.{Option, None, Some}
 use mathlib.Core.List.{List, [], ◌∷◌}
 use Prim.Native.Nat.{ℕ}
 use native.Mathlib.Omega.{arith}
@@ -27,8 +27,8 @@ need-same false true r x y e h = let z : ◌≡◌ {A = ℕ} 0 1 = cc in absurd 
 view-same : {A : Type 0} (o : Option View) (r : Refusal) (f g : View → Result A) → ((v : View) → verdict_of (f v) ≡ verdict_of (g v))
     → verdict_of (with_view o r f) ≡ verdict_of (with_view o r g)
 unfolding with_view
-view-same none r f g h = refl
-view-same (some v) r f g h = h v
+view-same None r f g h = refl
+view-same (Some v) r f g h = h v
 
 -- lists of one length have a first or have none
 first-same : {A B : Type 0} (k l : List B) (r : Refusal) (f g : B → List B → Result A) → length k ≡ length l

@@ -1,12 +1,11 @@
 -- The member's steps on its small record: the verdict is that of the rules on the book it is, and what an accepted step
 -- changes of it.
-use Rattle.std.specs.Prelude.{Bool, true, false, cond, List, [], ℕ, ◌-◌, ltb, replicate}
+use Rattle.std.specs.Prelude.{Bool, true, false, cond, List, [], ℕ, ◌-◌, ltb, replicate, Result, Ok}
 use Rattle.views.specs.declared.View.{View}
 use Rattle.views.specs.declared.list.Views.{Views}
+use Rattle.views.specs.declared.refusal.Refusal.{Refusal}
 use Rattle.views.specs.declared.refusal.Refusal.TheVariants.{NotInSet, NotAboveCarrier}
-use Rattle.views.specs.declared.refusal.Verdict.{Verdict}
-use Rattle.views.specs.declared.refusal.Verdict.TheVariants.{Accepted, Refused}
-use Rattle.views.specs.Refusals.{require}
+use Rattle.views.specs.Refusals.{Verdict, require, and_then}
 use Rattle.views.specs.Sets.{has, one}
 use Rattle.views.specs.Lists.{id_of, no_view, list_of, placed, insert_of, above_of}
 use Rattle.rules.specs.Data as R
@@ -17,7 +16,6 @@ use Rattle.book_bytes.specs.declared.Seat.{Seat}
 use Rattle.book_bytes.specs.declared.Record.{Record}
 use Rattle.book_bytes.specs.declared.Current.{Current}
 use Rattle.book_bytes.specs.Records.{seated, meaning}
-use Rattle.record_steps.specs.declared.Stepped.{Stepped}
 use Rattle.events.specs.Replies.{verdict_of}
 
 -- queues of a length: the rules' verdicts ask of the queues no more than that
@@ -31,11 +29,6 @@ items_of n = replicate n (item 0 0)
 abbrev pub book_of : Record → ℕ → ℕ → R.Book
 book_of h out own = meaning h (entries_of out) (items_of own) []
 
--- the new record if accepted, else the old
-unfoldable pub stepped : Verdict → Record → Record → Stepped
-stepped Accepted new old = record { verdict = Accepted; book = new }
-stepped (Refused r) new old = record { verdict = Refused r; book = old }
-
 -- ---- join
 
 abbrev pub seat : View → Seat
@@ -44,7 +37,7 @@ seat v = record { there = true; view = v }
 -- the verdict: of the book, it asks the carrier view alone
 unfoldable pub join_verdict : ℕ → View → Seat → Verdict
 join_verdict p v at =
-    require (has v.set p) NotInSet (require (is_above (id_of v) (seated at)) NotAboveCarrier Accepted)
+    require (has v.set p) NotInSet (require (is_above (id_of v) (seated at)) NotAboveCarrier (Ok tt))
 
 -- ---- attempt
 
@@ -69,8 +62,8 @@ attempted_at v h = record {
   side = 1 - h.side;
 }
 
-unfoldable pub attempt_turn : ℕ → Record → Stepped
-attempt_turn n h = stepped (verdict_of (attempts one n 0 (book_of h 0 0))) (attempted_at h.carrier.view h) h
+unfoldable pub attempt_turn : ℕ → Record → Result Record Refusal
+attempt_turn n h = and_then (verdict_of (attempts one n 0 (book_of h 0 0))) (Ok (attempted_at h.carrier.view h))
 
 -- ---- register, send, hand, tell, safe: no rule in the client view asks what is held
 
@@ -134,5 +127,5 @@ settled_as v h = record {
   side = h.side;
 }
 
-unfoldable pub collect_turn : ℕ → Record → Stepped
-collect_turn n h = stepped (verdict_of (collects n (book_of h 0 0))) (settled_as h.carrier.view h) h
+unfoldable pub collect_turn : ℕ → Record → Result Record Refusal
+collect_turn n h = and_then (verdict_of (collects n (book_of h 0 0))) (Ok (settled_as h.carrier.view h))

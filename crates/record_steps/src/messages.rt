@@ -18,8 +18,5 @@ pub fn with_member(members: u8, q: Member) -> u8
 pub fn later(x: View, own: View) -> View
     ensures { result ≡ settled_by x (record { settled = own; opens = [] }) }
 {
-    if own.id.0 < x.id.0 {
-        return x;
-    }
-    own
+    if own.id < x.id { x } else { own }
 }

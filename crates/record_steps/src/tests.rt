@@ -8,16 +8,13 @@ ghost use Rattle.book_bytes.specs.Records.{seated};
 
 use book_bytes::Seat;
 use views::list::Views;
-use views::{Member, Position, View, ViewId, limits, list};
+use views::{Member, Position, View, ViewId, list};
 
 // The identifier is above the seat's view, if it has one.
 pub fn above(id: ViewId, seat: Seat) -> bool
     ensures { result ≡ is_above id.0 (seated seat) }
 {
-    if seat.there {
-        return seat.view.id.0 < id.0;
-    }
-    true
+    !seat.there || seat.view.id < id
 }
 
 // Two seats have views with one identifier, or both have none.
@@ -25,73 +22,37 @@ pub fn same_view(a: Seat, b: Seat) -> bool
     ensures { result ≡ eqb (rank (seated a)) (rank (seated b)) }
 {
     if a.there {
-        if b.there {
-            return a.view.id.0 == b.view.id.0;
-        }
-        return false;
+        b.there && a.view.id == b.view.id
+    } else {
+        !b.there
     }
-    !b.there
 }
 
 // Every one of n members that is in the set is noted.
 pub fn all_noted(n: u8, members: u8, noted: u8) -> bool
     ensures { result ≡ every n (λ q. not (has members q) || has noted q) }
 {
-    let mut q = 0;
-    while q < n {
-        if sets::contains(members, Member(q)) {
-            if !sets::contains(noted, Member(q)) {
-                return false;
-            }
-        }
-        q += 1;
-    }
-    true
+    (0..n).all(|q| !sets::contains(members, Member(q)) || sets::contains(noted, Member(q)))
 }
 
 // The told count of a member, 0 beyond the last.
 pub fn told_by(tolds: [u8; 8], member: Member) -> u8
     ensures { result ≡ get_or tolds member.0 0 }
 {
-    let q = member.0;
-    if q < limits::MEMBERS {
-        let i = q as usize;
-        return tolds[i];
-    }
-    0
+    tolds.get(usize::from(member.0)).copied().unwrap_or(0)
 }
 
 // Every one of n members that is in the set told of more than a count.
 pub fn all_told(n: u8, members: u8, tolds: [u8; 8], count: Position) -> bool
     ensures { result ≡ every n (λ q. not (has members q) || ltb count.0 (get_or tolds q 0)) }
 {
-    let mut q = 0;
-    while q < n {
-        if sets::contains(members, Member(q)) {
-            if told_by(tolds, Member(q)) <= count.0 {
-                return false;
-            }
-        }
-        q += 1;
-    }
-    true
+    (0..n).all(|q| !sets::contains(members, Member(q)) || count.0 < told_by(tolds, Member(q)))
 }
 
 // The view passes the test against the settled view and every open one.
 pub fn passes_all(v: View, settled: View, opens: Views) -> bool
     ensures { result ≡ all (passes one v) (settled ∷ list_of opens) }
 {
-    if !sets::majority(v.set, settled.set) {
-        return false;
-    }
     let n = list::used(opens.count);
-    let mut i = 0;
-    while i < n {
-        let w = opens.at[i];
-        if !sets::majority(v.set, w.set) {
-            return false;
-        }
-        i += 1;
-    }
-    true
+    sets::majority(v.set, settled.set) && opens.at[..n].iter().all(|w| sets::majority(v.set, w.set))
 }

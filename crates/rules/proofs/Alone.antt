@@ -8,7 +8,7 @@ pub mod Written
 pub mod Peculiar
 use mathlib.Core.Path.{◌≡◌, refl}
 use mathlib.Core.Bool.{Bool, true}
-use mathlib.Core.Option.{Option, none, some}
+use Rattle.std.specs.Prelude.{Option, None, Some}
 use Prim.Native.Nat.{ℕ, ◌≤◌}
 use native.Mathlib.Omega.{arith}
 use borrow.Author.Tests.{leb-true, le-leb}
@@ -31,13 +31,13 @@ by_itself n = record { members = n; known = Fits n; limit = λ o. limit_if o max
 
 -- ---- views and entries
 
-fits_in : (n : ℕ) (o : Option View) → set_fits_if n o ≡ true → (v : View) → o ≡ some v → Fits n v
-fits_in n none h v e = let z : ◌≡◌ {A = ℕ} 0 1 = cc in absurd (omega arith)
-fits_in n (some w) h v e = let k : w ≡ v = cc in rw (← k) h
+fits_in : (n : ℕ) (o : Option View) → set_fits_if n o ≡ true → (v : View) → o ≡ Some v → Fits n v
+fits_in n None h v e = let z : ◌≡◌ {A = ℕ} 0 1 = cc in absurd (omega arith)
+fits_in n (Some w) h v e = let k : w ≡ v = cc in rw (← k) h
 
-fits-from : (n : ℕ) (o : Option View) → ((v : View) → o ≡ some v → Fits n v) → set_fits_if n o ≡ true
-fits-from n none h = refl
-fits-from n (some w) h = h w refl
+fits-from : (n : ℕ) (o : Option View) → ((v : View) → o ≡ Some v → Fits n v) → set_fits_if n o ≡ true
+fits-from n None h = refl
+fits-from n (Some w) h = h w refl
 
 module _ {M : Type 0} where
   carried-fit : (n : ℕ) (e : EntryOf M) → sets_fit n e ≡ true → (w : View) → In w (views_in e) → Fits n w

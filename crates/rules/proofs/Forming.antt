@@ -14,14 +14,13 @@ pub mod Stages
 use mathlib.Core.Path.{◌≡◌, refl, ◌∙◌, subst, ap}
 use mathlib.Core.Logic.{⊎_elim}
 use mathlib.Core.Bool.{true, not}
-use mathlib.Core.Option.{Option, none, some}
+use Rattle.std.specs.Prelude.{Option, None, Some}
 use mathlib.Core.List.{List}
 use Prim.Native.Nat.{ℕ, suc, ◌≤◌, ◌<◌}
 use native.Mathlib.Omega.{arith}
 use lib.Dec.{T, eqb, leb}
 use borrow.Author.Tests.{leb-true, eqb-false, not-true}
 use Rattle.views.specs.declared.View.{View}
-use Rattle.views.specs.declared.list.Lookup.TheVariants.{Found}
 use Rattle.views.specs.Sets.{has}
 use Rattle.views.specs.Lists.{id_of, find_of}
 use Rattle.views.proofs.SetLaws.{both_true, has-below}
@@ -48,7 +47,7 @@ use Rattle.rules.proofs.Forming.Goes.{goes_last, goes-accepts, goes-events}
 use Rattle.rules.proofs.Forming.Stages.{none_in, Ready, Ends, from-ready}
 
 -- what the driver asked, of a group that steps lead to
-module _ (weight : Member → ℕ) (S : ℕ) (s : Group) (k : Kept s) (low : LowGroup S s) (v : View) (found : find_of (id_of v) s.views ≡ Found v)
+module _ (weight : Member → ℕ) (S : ℕ) (s : Group) (k : Kept s) (low : LowGroup S s) (v : View) (found : find_of (id_of v) s.views ≡ Some v)
     (newest : is_newest (id_of v) s.views ≡ true) (unjoined : none_joined s (id_of v) ≡ true) (passing : passes_held weight s v ≡ true) where
   made : In v s.views
   made = (find-in (id_of v) s.views v found).0
@@ -59,8 +58,8 @@ module _ (weight : Member → ℕ) (S : ℕ) (s : Group) (k : Kept s) (low : Low
   behind p i = go (s.books p).carrier.view refl
     where
       go : (o : Option View) → (s.books p).carrier.view ≡ o → rank o ≤ id_of v
-      go none e = omega arith
-      go (some u) e =
+      go None e = omega arith
+      go (Some u) e =
           let below : id_of u ≤ id_of v = leb-true _ _ (all-at (λ w. leb (id_of w) (id_of v)) s.views newest u ((k.sound.book p i).carrier-known u e)) in
           let apart : carrier_of s p ≡ suc (id_of v) → ⊥ = eqb-false _ _ (not-true _ (every-at s.members (λ p. not (eqb (carrier_of s p) (suc (id_of v)))) unjoined p i)) in
           let off : id_of u ≡ id_of v → ⊥ = λ f. apart (ap rank e ∙ ap suc f) in
@@ -118,10 +117,10 @@ form-says weight S s g k low =
     listed-holds (find_of g s.views) _ (λ v e. need-holds _ _ _ (λ a. need-holds _ _ _ (λ t.
     gives (whole v (find-in g s.views v e).1 e (both_true _ _ a) t))))
   where
-    whole : (v : View) → id_of v ≡ g → find_of g s.views ≡ Found v → (is_newest g s.views ≡ true) × (none_joined s g ≡ true) → passes_held weight s v ≡ true
+    whole : (v : View) → id_of v ≡ g → find_of g s.views ≡ Some v → (is_newest g s.views ≡ true) × (none_joined s g ≡ true) → passes_held weight s v ≡ true
         → Forms weight s g (form_steps v)
     whole v i e a t =
-        subst (λ (h : Identifier). find_of h s.views ≡ Found v → (is_newest h s.views ≡ true) × (none_joined s h ≡ true) → Forms weight s h (form_steps v)) i
+        subst (λ (h : Identifier). find_of h s.views ≡ Some v → (is_newest h s.views ≡ true) × (none_joined s h ≡ true) → Forms weight s h (form_steps v)) i
         (λ e a. forms weight S s k low v e a.0 a.1 t) e a
 
 pub driver-forms : DriverForms

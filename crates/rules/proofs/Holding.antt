@@ -1,12 +1,10 @@
 -- What holds of whatever a rule gives, refused or not: one law for each combinator that the refusal table is written in.
 use mathlib.Core.Path.{◌≡◌, refl}
 use mathlib.Core.Bool.{Bool, true, false}
-use mathlib.Core.Option.{Option, none, some}
+use Rattle.std.specs.Prelude.{Option, None, Some}
 use mathlib.Core.List.{List, [], ◌∷◌}
 use Prim.Native.Nat.{ℕ, zero, suc}
 use Rattle.views.specs.declared.View.{View}
-use Rattle.views.specs.declared.list.Lookup.{Lookup}
-use Rattle.views.specs.declared.list.Lookup.TheVariants.{Found, Missing}
 use Rattle.views.specs.declared.refusal.Refusal.{Refusal}
 use Rattle.rules.specs.Data.{Result, refused, accepted, need, with_view, with_first, after}
 use Rattle.rules.specs.Group.{with_listed, pick}
@@ -34,10 +32,10 @@ need-holds true r x h = h refl
 need-holds false r x h = refuses
 
 pub view-holds : {A : Type 0} {P : A → Type 0} (o : Option View) (r : Refusal) (f : View → Result A)
-    → ((v : View) → o ≡ some v → Holds P (f v)) → Holds P (with_view o r f)
+    → ((v : View) → o ≡ Some v → Holds P (f v)) → Holds P (with_view o r f)
 unfolding with_view
-view-holds none r f h = refuses
-view-holds (some v) r f h = h v refl
+view-holds None r f h = refuses
+view-holds (Some v) r f h = h v refl
 
 pub first_holds : {A B : Type 0} {P : A → Type 0} (l : List B) (r : Refusal) (f : B → List B → Result A)
     → ((x : B) (rest : List B) → l ≡ x ∷ rest → Holds P (f x rest)) → Holds P (with_first l r f)
@@ -54,11 +52,11 @@ after_holds Q (accepted x) f q h = h x (given q)
 pub then-holds : {A B : Type 0} {P : B → Type 0} (r : Result A) (f : A → Result B) → Holds (λ x. Holds P (f x)) r → Holds P (after r f)
 then-holds {P = P} r f h = after_holds (λ x. Holds P (f x)) r f h (λ x k. k)
 
-pub listed-holds : {A : Type 0} {P : A → Type 0} (o : Lookup) (f : View → Result A)
-    → ((v : View) → o ≡ Found v → Holds P (f v)) → Holds P (with_listed o f)
+pub listed-holds : {A : Type 0} {P : A → Type 0} (o : Option View) (f : View → Result A)
+    → ((v : View) → o ≡ Some v → Holds P (f v)) → Holds P (with_listed o f)
 unfolding with_listed
-listed-holds (Found v) f h = h v refl
-listed-holds Missing f h = refuses
+listed-holds (Some v) f h = h v refl
+listed-holds None f h = refuses
 
 pub pick-holds : {A : Type 0} {P : A → Type 0} (k : ℕ) (l : List (Result A)) → HoldsEach P l → Holds P (pick k l)
 unfolding pick

@@ -2,7 +2,7 @@
 use mathlib.Core.Path.{◌≡◌, refl, sym, ap, ap₂}
 use mathlib.Core.Logic.{⊎_elim}
 use mathlib.Core.Bool.{Bool, true, false, true≢false}
-use mathlib.Core.Option.{Option, none, some}
+use Rattle.std.specs.Prelude.{Option, None, Some}
 use mathlib.Core.List.{List, [], ◌∷◌}
 use Prim.Native.Nat.{ℕ, zero, suc, ◌≤◌, ◌<◌}
 use native.Mathlib.Omega.{arith}
@@ -108,10 +108,10 @@ listed-from (w ∷ l) v i =
     ⊎_elim (λ (e : is_same_view v w ≡ true). rw e) (λ (e : is_same_view v w ≡ false). rw e (listed-from l v j)) (known (is_same_view v w)))
     (in-cons i)
 
-pub optional-in : (l : List View) (o : Option View) → listed_if l o ≡ true → (v : View) → o ≡ some v → In v l
-optional-in l none h v e = let z : ◌≡◌ {A = ℕ} 0 1 = cc in absurd (omega arith)
-optional-in l (some w) h v e = let k : w ≡ v = cc in rw (← k) (listed_in l w h)
+pub optional-in : (l : List View) (o : Option View) → listed_if l o ≡ true → (v : View) → o ≡ Some v → In v l
+optional-in l None h v e = let z : ◌≡◌ {A = ℕ} 0 1 = cc in absurd (omega arith)
+optional-in l (Some w) h v e = let k : w ≡ v = cc in rw (← k) (listed_in l w h)
 
-pub optional-from : (l : List View) (o : Option View) → ((v : View) → o ≡ some v → In v l) → listed_if l o ≡ true
-optional-from l none h = refl
-optional-from l (some w) h = listed-from l w (h w refl)
+pub optional-from : (l : List View) (o : Option View) → ((v : View) → o ≡ Some v → In v l) → listed_if l o ≡ true
+optional-from l None h = refl
+optional-from l (Some w) h = listed-from l w (h w refl)

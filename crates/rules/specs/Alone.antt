@@ -1,7 +1,7 @@
 -- The member by itself: its part called with the same rules, on its own book. n is the number of members, p its own
 -- number.
-use Rattle.std.specs.Prelude.{Bool, true, List, [], ◌∷◌, ℕ, ◌+◌, eqb, ltb, leb, length}
-use Rattle.std.proofs.Math.Option.{Option, none, some}
+use Rattle.std.specs.Prelude.{Bool, true, List, [], ◌∷◌, ℕ, ◌+◌, eqb, ltb, leb, length, Ok, Err, Option, None, Some}
+use Rattle.std.specs.Prelude.{Result as Given}
 use Rattle.views.specs.declared.View.{View}
 use Rattle.views.specs.declared.refusal.Refusal.{Refusal}
 use Rattle.views.specs.declared.refusal.Refusal.TheVariants.{MembersOutOfRange, FirstSetUnfit, RecordsUnsound}
@@ -9,8 +9,7 @@ use Rattle.views.specs.declared.refusal.Refusal.TheVariants.{NoSuchMember, SetUn
 use Rattle.views.specs.declared.refusal.Refusal.TheVariants.{EndsEarly, UnknownKind, SectionCount, EmptySet}
 use Rattle.views.specs.declared.refusal.Refusal.TheVariants.{NotRising, ToldOutOfRange}
 use Rattle.views.specs.declared.refusal.Refusal.TheVariants.{BufferTooShort, AnotherView, SenderNotInView, TooManyOpen}
-use Rattle.views.specs.declared.refusal.Verdict.{Verdict}
-use Rattle.views.specs.declared.refusal.Verdict.TheVariants.{Accepted, Refused}
+use Rattle.views.specs.Refusals.{Verdict}
 use Rattle.views.specs.Limits.{max_members, max_open, max_outgoing, max_ordered}
 use Rattle.views.specs.Sets.{has, fits}
 use Rattle.views.specs.Lists.{id_of, rises_above, list_of, no_view}
@@ -64,13 +63,14 @@ message_of Info l = info_of l
 message_of Registered l = registered
 message_of (Told k) l = told k
 
--- what the reader gave
-abbrev pub sent_by : Verdict → Frame → Result Sent
-sent_by Accepted f = accepted (record { view = f.view.0; message = message_of f.message (list_of f.views) })
-sent_by (Refused r) f = refused r
+-- what a frame that was read says
+abbrev pub sent_in : Frame → Sent
+sent_in f = record { view = f.view.0; message = message_of f.message (list_of f.views) }
 
-abbrev pub sent_of : Reading → Result Sent
-sent_of r = sent_by r.verdict r.frame
+-- what the reader gave
+abbrev pub sent_of : Given Reading Refusal → Result Sent
+sent_of (Ok r) = accepted (sent_in r.frame)
+sent_of (Err r) = refused r
 
 -- ---- 4 covers its own book, with over 31 open in place of what concerns the list; then 6
 
@@ -80,15 +80,15 @@ book_views b = b.held.settled ∷ b.held.opens
 
 -- the order is not there: 16 is given after 128 taken
 abbrev pub limit_if : Option View → ℕ → ℕ
-limit_if none k = 0
-limit_if (some v) k = k
+limit_if None k = 0
+limit_if (Some v) k = k
 
 abbrev pub sets_fit : {M : Type 0} → ℕ → EntryOf M → Bool
 sets_fit n (entry q m) = all (set_fits n) (views_of m)
 
 abbrev pub set_fits_if : ℕ → Option View → Bool
-set_fits_if n none = true
-set_fits_if n (some v) = set_fits n v
+set_fits_if n None = true
+set_fits_if n (Some v) = set_fits n v
 
 unfoldable pub book_sound : {M : Type 0} → ℕ → BookOf M → Bool
 book_sound n b = conditions (
@@ -162,7 +162,7 @@ Delivery = DeliveryOf ℕ
 -- a message that is refused stops it and changes nothing; behind one that is delivered come the others, with the book
 -- that it leaves
 abbrev pub onward : {M : Type 0} → BookOf M → (BookOf M → DeliveryOf M) → Result (DoneOf M) → DeliveryOf M
-onward b others (refused r) = record { count = 0; stopped = Refused r; book = b }
+onward b others (refused r) = record { count = 0; stopped = Err r; book = b }
 onward b others (accepted d) =
     let x = others d.book in
     record { count = x.count + 1; stopped = x.stopped; book = x.book }
@@ -170,7 +170,7 @@ onward b others (accepted d) =
 -- one by one, up to the first refusal
 unfoldable pub deliveries_one_by_one : {M : Type 0} → ℕ → Member → List (Result (SentOf M))
     → Member → BookOf M → DeliveryOf M
-deliveries_one_by_one n p [] q b = record { count = 0; stopped = Accepted; book = b }
+deliveries_one_by_one n p [] q b = record { count = 0; stopped = Ok tt; book = b }
 deliveries_one_by_one n p (read ∷ l) q b = onward b (λ c. deliveries_one_by_one n p l q c) (deliver_alone n p read q b)
 
 -- 4 refuses the packet; every other refusal is that of a message

@@ -2,16 +2,17 @@
 -- definitions give and what is due, and the words above it are the specification's.
 use Rattle.std.specs.Prelude.{◌≡◌, Bool, true, false, List, [], ◌∷◌, ◌++◌, map, ℕ, zero, suc, ◌+◌, ◌*◌, ◌^◌, length}
 use Rattle.views.specs.declared.View.{View}
-use Rattle.views.specs.declared.refusal.Refusal.TheVariants.{EndsEarly, BytesLeftOver}
-use Rattle.views.specs.declared.refusal.Verdict.TheVariants.{Accepted}
-use Rattle.views.specs.Refusals.{number_of, code_of}
+use Rattle.std.specs.Prelude.{Ok, Err}
+use Rattle.std.specs.Prelude.{Result as Given}
+use Rattle.views.specs.declared.refusal.Refusal.{Refusal}
+use Rattle.views.specs.Refusals.{number_of}
 use Rattle.views.specs.Sets.{in_common, one, size}
 use Rattle.views.specs.Lists.{view_of, placed}
 use Rattle.wire.specs.declared.Message.{Message}
 use Rattle.wire.specs.declared.Message.TheVariants.{Info, Registered}
+use Rattle.wire.specs.declared.Frame.{Frame}
 use Rattle.wire.specs.declared.Reading.{Reading}
 use Rattle.wire.specs.Single.{read_one}
-use Rattle.wire.specs.Reader as Reader
 use Rattle.rules.specs.Data.{Identifier, Member, Group, Step, Event, attempt, Answer, ok, event, refusal}
 use Rattle.rules.specs.Data.{Result, refused, accepted}
 use Rattle.rules.specs.Member.{passes}
@@ -25,7 +26,7 @@ pub data Outcome : Type 0 where
   succeeds : Outcome  -- ok
   shows : Event ℕ → Outcome
   refuses : ℕ → Outcome  -- a refusal's number
-  reads : ℕ → Reading → Outcome  -- 0 or a refusal's number, and what was read
+  reads : ℕ → Frame → Outcome  -- how many bytes were taken, and what was read
 
 pub record Row : Type 0 where
   pub is : Outcome
@@ -42,17 +43,18 @@ against l held =
     tests (2 * size (in_common (set_of l) (set_of held))) (size (set_of held))
     (passes one (view_of 1 (set_of l)) (view_of 0 (set_of held)))
 
+-- what the reader gave
+unfoldable pub was_read : Given Reading Refusal → Outcome
+was_read (Ok r) = reads r.taken r.frame
+was_read (Err r) = refuses (number_of r)
+
 -- bytes as one message
 unfoldable pub reading : List ℕ → Outcome
-reading b = reads (code_of (read_one b).verdict) (read_one b)
+reading b = was_read (read_one b)
 
 -- a message of n bytes, sent in the view g, with an info's views
 abbrev pub message : ℕ → Identifier → Message → List View → Outcome
-message n g m l = reads 0 (record {
-  verdict = Accepted;
-  taken = n;
-  frame = record { view = record { 0 = g }; message = m; views = placed l };
-})
+message n g m l = reads n (record { view = record { 0 = g }; message = m; views = placed l })
 
 -- ---- steps put to a group
 
@@ -163,11 +165,11 @@ table =
     -- The same cut by one byte: 32; with one more: 38
     ∷ record {
       is = reading (2 ∷ 0 ∷ 0 ∷ 0 ∷ 1 ∷ 1 ∷ 0 ∷ 0 ∷ 0 ∷ 0 ∷ 7 ∷ []);
-      due = reads 32 (Reader.refused EndsEarly);
+      due = refuses 32;
     }
     ∷ record {
       is = reading (2 ∷ 0 ∷ 0 ∷ 0 ∷ 1 ∷ 1 ∷ 0 ∷ 0 ∷ 0 ∷ 0 ∷ 7 ∷ 0 ∷ 0 ∷ []);
-      due = reads 38 (Reader.refused BytesLeftOver);
+      due = refuses 38;
     }
     ∷ []
 

@@ -2,7 +2,7 @@
 -- picks, newest first, and of the newest attempted view before an identifier; and what is promised of them. M is what a
 -- client sends.
 use Rattle.std.specs.Prelude.{◌≡◌, Bool, true, not, cond, List, [], ◌∷◌, ◌++◌, ℕ, ◌≤◌, ◌<◌, eqb, ltb}
-use Rattle.std.proofs.Math.Option.{Option, none, some}
+use Rattle.std.specs.Prelude.{Option, None, Some}
 use Rattle.views.specs.declared.View.{View}
 use Rattle.views.specs.Members.{In}
 use Rattle.views.specs.Points.{at}
@@ -55,8 +55,8 @@ abbrev pub holds : (Member → ℕ) → ℕ → View → Bool
 holds weight T v = passes weight (view_of 0 T) v
 
 abbrev pub first_of : List View → Option View
-first_of [] = none
-first_of (v ∷ l) = some v
+first_of [] = None
+first_of (v ∷ l) = Some v
 
 unfoldable pub newest_before : List View → Marks → Identifier → Option View
 newest_before views m g = first_of (picked views m (λ v. ltb (id_of v) g))
@@ -83,8 +83,8 @@ MarksTold =
 
 -- the newest attempted view before g, or none if no attempted view is before it
 abbrev pub NewestBefore : {M : Type 0} → ℕ → List (Event M) → ℕ → Option View → Type 0
-NewestBefore S l g none = (v : View) → Attempted S l v → id_of v < g → ⊥
-NewestBefore S l g (some v) =
+NewestBefore S l g None = (v : View) → Attempted S l v → id_of v < g → ⊥
+NewestBefore S l g (Some v) =
     Attempted S l v × (id_of v < g) × ((w : View) → Attempted S l w → id_of w < g → id_of w ≤ id_of v)
 
 abbrev pub NewestTold : Type 0

@@ -1,8 +1,7 @@
 -- What the rules speak of: messages, a member's book, the group, steps, events and answers. M is what a client sends:
 -- the rules pass it on and never look at it. In a group of the specification it is an entry number, and there the
 -- words go without 'Of'.
-use Rattle.std.specs.Prelude.{Bool, true, false, List, [], ◌∷◌, ℕ, suc}
-use Rattle.std.proofs.Math.Option.{Option, none, some}
+use Rattle.std.specs.Prelude.{Bool, true, false, List, [], ◌∷◌, ℕ, suc, Option, None, Some}
 use Rattle.views.specs.declared.View.{View}
 use Rattle.views.specs.declared.refusal.Refusal.{Refusal}
 use Rattle.views.specs.Lists.{id_of}
@@ -123,8 +122,8 @@ need false r x = refused r
 
 -- the refusal if there is no view, else what follows of it
 unfoldable pub with_view : {A : Type 0} → Option View → Refusal → (View → Result A) → Result A
-with_view none r f = refused r
-with_view (some v) r f = f v
+with_view None r f = refused r
+with_view (Some v) r f = f v
 
 -- the refusal if the list is empty, else what follows of its first and the rest
 unfoldable pub with_first : {A B : Type 0} → List B → Refusal → (B → List B → Result A) → Result A
@@ -140,5 +139,5 @@ after (accepted x) f = f x
 
 -- 0 for none, else one more than the identifier: none is below every identifier
 abbrev pub rank : Option View → ℕ
-rank none = 0
-rank (some v) = suc (id_of v)
+rank None = 0
+rank (Some v) = suc (id_of v)

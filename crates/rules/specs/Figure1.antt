@@ -1,5 +1,5 @@
 -- Figure 1 written out: the outward machine, over any type M of messages. It keeps no limits.
-use Rattle.std.specs.Prelude.{◌≡◌, ◌≢◌, ◌⊎◌, Bool, true, cond, List, [], ◌∷◌, ◌++◌, ℕ, suc, ◌+◌, ◌≤◌, ◌<◌, T, eqb, drop}
+use Rattle.std.specs.Prelude.{◌≡◌, ◌≢◌, ◌⊎◌, Bool, true, cond, List, [], ◌∷◌, ◌++◌, ℕ, suc, ◌≤◌, ◌<◌, T, eqb, drop}
 use Rattle.views.specs.declared.View.{View}
 use Rattle.views.specs.Members.{In}
 use Rattle.views.specs.Sets.{both, has}

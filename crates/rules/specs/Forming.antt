@@ -1,8 +1,7 @@
 -- The driver: which steps take the newest view from made to settled, when it takes them, and what is promised of it.
-use Rattle.std.specs.Prelude.{◌≡◌, Bool, true, false, cond, not, List, [], ◌∷◌, ◌++◌, map}
+use Rattle.std.specs.Prelude.{◌≡◌, Bool, true, false, cond, not, List, [], ◌∷◌, ◌++◌, map, Some}
 use Rattle.std.specs.Prelude.{ℕ, zero, suc, ◌+◌, ◌*◌, T, eqb, leb, length, replicate}
 use Rattle.views.specs.declared.View.{View}
-use Rattle.views.specs.declared.list.Lookup.TheVariants.{Found}
 use Rattle.views.specs.declared.refusal.Refusal.TheVariants.{ViewNotFresh, FormTestFailed}
 use Rattle.views.specs.Limits.{max_members}
 use Rattle.views.specs.Sets.{both, has, size}
@@ -82,7 +81,7 @@ form_count k = 2 * (k * k) + 8 * k
 -- the steps l, put to the group s, form the view of the identifier g: it is settled and nothing is open at its servers
 pub record Forms (weight : Member → ℕ) (s : Group) (g : Identifier) (l : List Step) : Type 0 where
   pub view : View
-  pub listed : find_of g s.views ≡ Found view
+  pub listed : find_of g s.views ≡ Some view
   pub accepts : all_accepted (answers_of weight s l) ≡ true
   pub count : length l ≡ form_count (size view.set)
   pub events : events_of (answers_of weight s l) ≡ form_events view

@@ -1,9 +1,8 @@
 -- The group: start, the carrier's steps, the joint steps, and one step by its kind's number.
-use Rattle.std.specs.Prelude.{false, cond, List, [], ◌∷◌, ◌++◌, ℕ, zero, suc, ◌+◌, ltb, leb, length, drop}
-use Rattle.std.proofs.Math.Option.{none, some}
+use Rattle.std.specs.Prelude.{false, cond, List, [], ◌∷◌, ◌++◌, ℕ, zero, suc, ltb, leb, length, drop, Option}
+use Rattle.std.specs.Prelude.{None, Some}
 use Rattle.views.specs.declared.View.{View}
-use Rattle.views.specs.declared.list.Lookup.{Lookup}
-use Rattle.views.specs.declared.list.Lookup.TheVariants.{Found, Missing}
+use Rattle.std.specs.Prelude.{Some, None}
 use Rattle.views.specs.declared.refusal.Refusal.TheVariants.{MembersOutOfRange, FirstSetUnfit, ListLength}
 use Rattle.views.specs.declared.refusal.Refusal.TheVariants.{RecordsUnsound, UnknownStep, NoSuchMember, SetUnfit}
 use Rattle.views.specs.declared.refusal.Refusal.TheVariants.{IdentifierNotAbove, ListFull, NoSuchView, WaitingFull}
@@ -29,9 +28,9 @@ abbrev pub Next : Type 0
 Next = NextOf ℕ
 
 -- the view of an identifier among those made, or 10
-unfoldable pub with_listed : {A : Type 0} → Lookup → (View → Result A) → Result A
-with_listed (Found v) f = f v
-with_listed Missing f = refused NoSuchView
+unfoldable pub with_listed : {A : Type 0} → Option View → (View → Result A) → Result A
+with_listed (Some v) f = f v
+with_listed None f = refused NoSuchView
 
 -- the first view, identifier 0
 abbrev pub first_view : ℕ → View
@@ -60,7 +59,7 @@ module _ {M : Type 0} where
   fresh S p = record {
     held = record { settled = first_view S; opens = [] };
     carrier = record {
-      view = cond (has S p) (some (first_view S)) none;
+      view = cond (has S p) (Some (first_view S)) None;
       infos = λ q. false;
       registrations = λ q. false;
       tolds = λ q. 0;
@@ -68,7 +67,7 @@ module _ {M : Type 0} where
       inward = [];
     };
     client = record {
-      view = cond (has S p) (some (first_view S)) none;
+      view = cond (has S p) (Some (first_view S)) None;
       registered = has S p;
       inward = [];
       handed = 0;

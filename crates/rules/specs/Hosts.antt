@@ -10,8 +10,7 @@
 -- Nothing else: views and messages are as many as there come, views come in any order of identifiers, members of a view
 -- need not take equally much, and nothing has to arrive. What the members' calls refuse is refused. M is what a client
 -- sends.
-use Rattle.std.specs.Prelude.{◌≡◌, ◌≢◌, true, List, [], ◌∷◌, ◌++◌, ℕ, suc, ◌^◌, ◌<◌, T, ltb, leb, length}
-use Rattle.std.proofs.Math.Option.{some}
+use Rattle.std.specs.Prelude.{◌≡◌, ◌≢◌, true, List, [], ◌∷◌, ◌++◌, ℕ, suc, ◌^◌, ◌<◌, T, ltb, leb, length, Some}
 use Rattle.views.specs.declared.View.{View}
 use Rattle.views.specs.declared.refusal.Refusal.TheVariants.{OrderFull, TooManyOpen}
 use Rattle.views.specs.Limits.{max_members, max_open, max_ordered}
@@ -78,7 +77,7 @@ module _ {M : Type 0} where
   -- what is read as a message of its carrier view is the next that it has to take of it
   abbrev pub InOrder : World M → Member → Result (SentOf M) → Member → Type 0
   InOrder w p read q =
-      (v : View) (m : MessageOf M) → (w.books p).carrier.view ≡ some v
+      (v : View) (m : MessageOf M) → (w.books p).carrier.view ≡ Some v
       → read ≡ accepted (record { view = id_of v; message = m }) → Next w p v q m
 
   -- each with its result
@@ -158,7 +157,7 @@ MovedOnHosts M =
 abbrev pub TakesNext : Type 0 → Type 0
 TakesNext M =
     (weight : Member → ℕ) (n S : ℕ) (w : World M) (l : List (Event M)) → History weight n S w l
-    → (p : Member) → p < n → (v : View) (q : Member) (m : MessageOf M) → (w.books p).carrier.view ≡ some v
+    → (p : Member) → p < n → (v : View) (q : Member) (m : MessageOf M) → (w.books p).carrier.view ≡ Some v
     → Next w p v q m
     → deliver_alone n p (accepted (record { view = id_of v; message = m })) q (w.books p)
     ≡ need (ltb (w.books p).carrier.taken max_ordered) OrderFull (

@@ -1,12 +1,9 @@
 -- The member's rules, over its book b: p is its own number, n the number of members. The group's steps and the member
 -- by itself use these. M is what a client sends. Each rule is its row of the refusal table from left to right, then
 -- what the step does.
-use Rattle.std.specs.Prelude.{Bool, true, false, cond, not, ◌||◌, List, [], ◌∷◌, ◌++◌, ℕ}
+use Rattle.std.specs.Prelude.{Bool, true, false, cond, not, ◌||◌, List, [], ◌∷◌, ◌++◌, ℕ, Option, Some, None}
 use Rattle.std.specs.Prelude.{zero, suc, ◌+◌, ◌*◌, eqb, ltb, leb, length, take, drop}
-use Rattle.std.proofs.Math.Option.{Option, some}
 use Rattle.views.specs.declared.View.{View}
-use Rattle.views.specs.declared.list.Lookup.{Lookup}
-use Rattle.views.specs.declared.list.Lookup.TheVariants.{Found, Missing}
 use Rattle.views.specs.declared.refusal.Refusal.TheVariants.{NotInSet, NotAboveCarrier, NoCarrierView, NoneOutgoing}
 use Rattle.views.specs.declared.refusal.Refusal.TheVariants.{NotAboveClient, InfoMissing, TestFailed, NoClientView}
 use Rattle.views.specs.declared.refusal.Refusal.TheVariants.{AlreadyRegistered, OutgoingFull, NoneToHand}
@@ -68,9 +65,9 @@ passes weight v held =
 -- ---- what is held, after an info was taken and after an attempt
 
 -- of two views with one identifier its own is kept
-abbrev pub own_or : View → Lookup → View
-own_or x (Found v) = v
-own_or x Missing = x
+abbrev pub own_or : View → Option View → View
+own_or x (Some v) = v
+own_or x None = x
 
 -- a settled view with a higher identifier replaces its own; an open view that is settled so keeps the set it had open
 unfoldable pub settled_by : View → Held → View
@@ -116,7 +113,7 @@ module _ {M : Type 0} where
   joined p v b = record {
     held = b.held;
     carrier = record {
-      view = some v;
+      view = Some v;
       infos = λ q. false;
       registrations = λ q. false;
       tolds = λ q. 0;
@@ -207,7 +204,7 @@ module _ {M : Type 0} where
       taken = c.taken;
       inward = [];
     };
-    client = record { view = some v; registered = false; inward = c.inward; handed = 0; told = 0; reported = 0 };
+    client = record { view = Some v; registered = false; inward = c.inward; handed = 0; told = 0; reported = 0 };
     outgoing = b.outgoing;
   }
 

@@ -2,7 +2,7 @@
 -- bytes can hold (a count beyond its places, an entry of unknown kind, a range not of its length) is the layout's part
 -- of it.
 use Rattle.std.specs.Prelude.{Bool, true, false, cond, List, [], ◌∷◌, ℕ, ◌+◌, eqb, ltb, leb, length}
-use Rattle.std.proofs.Math.Option.{Option, none, some}
+use Rattle.std.specs.Prelude.{Option, None, Some}
 use Rattle.views.specs.declared.View.{View}
 use Rattle.views.specs.Limits.{max_members, max_views, max_open, max_outgoing, max_waiting, max_ordered}
 use Rattle.views.specs.Sets.{both, fits}
@@ -23,8 +23,8 @@ conditions (c ∷ l) = both c (conditions l)
 
 -- a position's limit where there is no view is 0
 abbrev pub limit_at : {A : Type 0} → Option View → List A → ℕ
-limit_at none l = 0
-limit_at (some v) l = length l
+limit_at None l = 0
+limit_at (Some v) l = length l
 
 -- the view's set is not empty and not beyond n members
 abbrev pub set_fits : ℕ → View → Bool
@@ -39,8 +39,8 @@ listed [] v = false
 listed (w ∷ l) v = cond (is_same_view v w) true (listed l v)
 
 abbrev pub listed_if : List View → Option View → Bool
-listed_if l none = true
-listed_if l (some v) = listed l v
+listed_if l None = true
+listed_if l (Some v) = listed l v
 
 module _ {M : Type 0} where
   -- ---- where the records' parts are
@@ -68,8 +68,8 @@ module _ {M : Type 0} where
   count_fits (entry q (told k)) = within 1 k max_ordered
 
   abbrev pub order_at : GroupOf M → Option View → List (EntryOf M)
-  order_at s none = []
-  order_at s (some v) = s.order (id_of v)
+  order_at s None = []
+  order_at s (Some v) = s.order (id_of v)
 
   -- the inward list of the carrier view
   abbrev pub carrier_inward : BookOf M → List (Item M)

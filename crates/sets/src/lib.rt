@@ -10,11 +10,7 @@ use views::{Member, limits};
 pub fn contains(set: u8, member: Member) -> bool
     ensures { result ≡ has set member.0 }
 {
-    let p = member.0;
-    if limits::MEMBERS <= p {
-        return false;
-    }
-    (set >> p) % 2 == 1
+    member.0 < limits::MEMBERS && (set >> member.0) % 2 == 1
 }
 
 // The set has no member.
@@ -32,20 +28,14 @@ const BITS: u8 = 32;
 pub fn beyond(set: u8, members: u8) -> bool
     ensures { result ≡ is_beyond set members }
 {
-    if BITS <= members {
-        return false;
-    }
-    0 < set as u32 >> members
+    members < BITS && 0 < set as u32 >> members
 }
 
 // The set is not empty and within n members.
 pub fn fits(n: u8, set: u8) -> bool
     ensures { result ≡ fits n set }
 {
-    if empty(set) {
-        return false;
-    }
-    !beyond(set, n)
+    !empty(set) && !beyond(set, n)
 }
 
 // The members that both sets have.

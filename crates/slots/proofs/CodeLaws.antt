@@ -1,20 +1,18 @@
--- What the code works in steps, put together: bytes that go one at a time, an info stored part by part, a frame loaded part by part.
+-- What the code works in steps, put together: bytes that go one at a time, an info stored part by part.
 use mathlib.Core.Path.{◌≡◌, sym, ap, ◌∙◌}
 use mathlib.Core.Logic.{◌⊎◌, inl, ⊎_elim}
 use mathlib.Core.List.{List, [], ◌∷◌}
-use Prim.Native.Nat.{ℕ, suc, ◌+◌, ◌*◌, ◌%◌, ◌<◌, ◌≤◌}
+use Prim.Native.Nat.{ℕ, suc, ◌+◌, ◌*◌, ◌<◌, ◌≤◌}
 use native.Mathlib.Numerals.{add-one}
 use native.Mathlib.Omega.{arith}
-use borrow.Author.Tests.{eq-eqb, ne_eqb}
 use lib.ListN.{length, get_or, set, drop, length-drop, take-append-drop}
 use lib.Seq.{paste-suc, get_or-drop}
 use Rattle.views.specs.declared.View.{View}
 use Rattle.views.specs.Limits.{max_open}
 use Rattle.wire.specs.Format.{views_bytes}
 use Rattle.wire.specs.Reader.{view_in, views_in}
-use Rattle.slots.specs.Slots.{slot_size, kind_in, count_in}
+use Rattle.slots.specs.Slots.{slot_size}
 use Rattle.slots.specs.Changes.{moved, store_info}
-use Rattle.slots.specs.FrameParts.{framed}
 use Rattle.wire.specs.Writer.{store_view, store_views}
 use Rattle.wire.proofs.ReaderLaws.{length-views_in}
 use Rattle.wire.proofs.TripViews.{AreBytes}
@@ -54,21 +52,21 @@ unfolding views_in
 view-moved b from to y h k =
     views-moved b from to 1 y h ∙ store_views-cons b to (view_in b from) [] k ∙ no-views (store_view b to (view_in b from)) (to + 5)
 
--- a view and n more behind it, copied behind sender, kind and the byte of their count
+-- a view and n more behind it, copied behind sender, kind and their count
 module _ (b : List ℕ) (at q settled opens n : ℕ) (bytes : AreBytes b) (sender : q < 256) (size : at + slot_size ≤ length b) (below : settled + 5 ≤ at) (under : opens + 5 * n ≤ at) (few : n ≤ max_open) where
   abbrev head : List ℕ
-  head = set (set (set b at q) (at + 1) 2) (at + 10) ((n + 1) % 256)
+  head = set (set (set b at q) (at + 1) 2) (at + 10) (n + 1)
 
   head_bytes : AreBytes head
   head_bytes =
-      set-bytes (set (set b at q) (at + 1) 2) (at + 10) ((n + 1) % 256)
+      set-bytes (set (set b at q) (at + 1) 2) (at + 10) (n + 1)
       (set-bytes (set b at q) (at + 1) 2 (set-bytes b at q bytes sender) (omega arith)) (omega arith)
 
   head-changed : Changed b head at slot_size
   head-changed =
       changed_then (changed-within at slot_size (omega arith) (omega arith) (set-changed b at q))
       (changed_then (changed-within at slot_size (omega arith) (omega arith) (set-changed (set b at q) (at + 1) 2))
-      (changed-within at slot_size (omega arith) (omega arith) (set-changed (set (set b at q) (at + 1) 2) (at + 10) ((n + 1) % 256))))
+      (changed-within at slot_size (omega arith) (omega arith) (set-changed (set (set b at q) (at + 1) 2) (at + 10) (n + 1))))
 
   abbrev v : View
   v = view_in b settled
@@ -95,17 +93,8 @@ module _ (b : List ℕ) (at q settled opens n : ℕ) (bytes : AreBytes b) (sende
   whole : store_views first (at + 11 + 5) (views_in b opens n) ≡ store_info b at q (v ∷ views_in b opens n)
   unfolding store_info
   whole =
-      let m : (n + 1) % 256 ≡ suc (length (views_in b opens n)) = omega (arith, length-views_in b opens n) in
+      let m : n + 1 ≡ suc (length (views_in b opens n)) = omega (arith, length-views_in b opens n) in
       sym (store_views-cons head (at + 11) v (views_in b opens n) (omega (arith, head-changed.long, length-views_in b opens n))) ∙ rw m
 
   pub info-copied : (c d : List ℕ) → c ≡ moved head settled (at + 11) 5 → d ≡ moved c opens (at + 11 + 5) (5 * n) → d ≡ store_info b at q (v ∷ views_in b opens n)
   info-copied c d e f = f ∙ ap (λ (x : List ℕ). moved x opens (at + 11 + 5) (5 * n)) (e ∙ first-moved) ∙ rest-moved ∙ whole
-
--- ---- a frame loaded
-
--- an info uses its count of views, any other message none
-pub framed-info : (b : List ℕ) (at n : ℕ) → kind_in b at ≡ 2 → n ≡ count_in b at → n ≡ framed b at
-framed-info b at n k e = rw (eq-eqb _ _ k) e
-
-pub framed-other : (b : List ℕ) (at n : ℕ) → (kind_in b at ≡ 2 → ⊥) → n ≡ 0 → n ≡ framed b at
-framed-other b at n k e = rw (ne_eqb _ _ k) e

@@ -16,7 +16,6 @@ use Rattle.wire.specs.Reader.{views_in, message_of}
 use Rattle.wire.specs.Writer.{frame_bytes, LiesAt}
 use Rattle.wire.proofs.ReaderLaws.{list-views_in, length-views_in}
 use Rattle.wire.proofs.TripMessages.{both_first, both-second, Kind, kind-of-known, number-lies}
-use Rattle.rules.specs.Data.{client, info, registered, told}
 use Rattle.rules.specs.Sound.{within}
 use Rattle.rules.specs.Alone.{views_of, carried_of, message_bytes, info_of}
 use Rattle.rules.proofs.TestLaws.{within-says}

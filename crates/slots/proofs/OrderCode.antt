@@ -1,17 +1,15 @@
 -- What the code of an order works in steps, put together: the entry of a slot above the order is stored in the order's columns, by its kind.
 use mathlib.Core.Path.{◌≡◌, refl, sym, ap, ap₂, ◌∙◌}
-use mathlib.Core.Bool.{Bool, true, false, cond}
+use mathlib.Core.Bool.{true, cond}
 use mathlib.Core.Logic.{inr}
 use mathlib.Core.List.{List, [], ◌∷◌}
 use Prim.Native.Nat.{ℕ, ◌+◌, ◌-◌, ◌*◌, ◌%◌, ◌<◌, ◌≤◌, min}
 use native.Mathlib.Omega.{arith}
-use borrow.Author.Tests.{eq-eqb, ne_eqb}
 use lib.Dec.{eqb}
 use lib.ListN.{length, get_or, set}
 use Rattle.numbers.specs.Number.{get, put}
 use Rattle.views.specs.declared.View.{View}
 use Rattle.views.specs.Limits.{max_views, max_ordered}
-use Rattle.wire.specs.declared.Message.{Message}
 use Rattle.wire.specs.declared.Message.TheVariants.{Told}
 use Rattle.wire.specs.Reader.{views_in, message_of as carried_of}
 use Rattle.wire.specs.Writer.{store_views}
@@ -24,7 +22,7 @@ use Rattle.rules.specs.Alone.{info_of}
 use Rattle.slots.specs.Slots.{slot_size, kind_in, number_in, count_in, info_in, message_in, slot_fits}
 use Rattle.slots.specs.Columns.{order_sender, order_kind, order_count, order_number, order_views, order_size}
 use Rattle.slots.specs.Changes.{moved, store_head, store_ordered}
-use Rattle.slots.specs.FrameParts.{order_framed, order_carried}
+use Rattle.slots.specs.FrameParts.{order_carried}
 use Rattle.slots.proofs.Outside.{Changed, changed-within, changed_then, get-apart, views-apart, set-changed}
 use Rattle.slots.proofs.CodeLaws.{views-moved}
 use Rattle.slots.proofs.BytesKept.{set-bytes}
@@ -136,16 +134,3 @@ module _ (b : List ℕ) (c k : ℕ) where
 
   pub told-loaded : get_or b (order_kind c k) 0 ≡ 4 → get_or b (order_count c k) 0 < 256 → Told (get_or b (order_count c k) 0) ≡ order_carried b c k
   told-loaded e h = told-carried kind count (get b (order_number c k) 8) e h
-
-  pub other-loaded : (x : ℕ) (m : Message) → (get_or b (order_kind c k) 0 ≡ 4 → ⊥) → x ≡ get b (order_number c k) 8
-      → m ≡ carried_of (get_or b (order_kind c k) 0) x → m ≡ order_carried b c k
-  other-loaded x m n e s =
-      let t : eqb kind 4 ≡ false = ne_eqb _ _ n in
-      s ∙ ap (carried_of kind) (e ∙ sym (ap (λ (z : Bool). cond z count (get b (order_number c k) 8)) t))
-
-  -- how many views it carries
-  pub info-loaded : get_or b (order_kind c k) 0 ≡ 2 → get_or b (order_count c k) 0 ≡ order_framed b c k
-  info-loaded e = sym (ap (λ (z : Bool). cond z count 0) (eq-eqb _ _ e))
-
-  pub none-loaded : (get_or b (order_kind c k) 0 ≡ 2 → ⊥) → 0 ≡ order_framed b c k
-  none-loaded n = sym (ap (λ (z : Bool). cond z count 0) (ne_eqb _ _ n))

@@ -20,7 +20,7 @@ pub fn gain(b: &mut [u8], c: usize, q: Member, x: u64)
     ensures { b.new ≡ gained b.old c q.0 x }
 {
     let n = b[c];
-    let k = n as usize;
+    let k = usize::from(n);
     b[c + SENDERS + k] = q.0;
     numbers::put_number(b, c + NUMBERS + sizes::NUMBER * k, sizes::NUMBER, x);
     b[c] = n + 1;

@@ -14,7 +14,7 @@ ghost use Rattle.slots.specs.Slots.{slot_size, slot_fits};
 ghost use Rattle.slots.specs.FrameParts.{framed, carried_at};
 
 use views::{Member, limits, sizes};
-use wire::Message;
+use wire::{Message, format};
 
 // Where the parts of an entry stand in its slot, behind the sender: its kind, its number, the count of its views, and
 // the views.
@@ -34,11 +34,9 @@ pub fn move_bytes(b: &mut [u8], from: usize, to: usize, n: usize)
     requires { ((to ≤ from) ⊎ (from + n ≤ to)) × (from + n ≤ length b.old) × (to + n ≤ length b.old) }
     ensures { b.new ≡ moved b.old from to n }
 {
-    let mut i = 0;
-    while i < n {
-        let x = b[from + i];
-        b[to + i] = x;
-        i += 1;
+    // copy_within does the same and is slower here, since it asks first which way the bytes go.
+    for i in 0..n {
+        b[to + i] = b[from + i];
     }
 }
 
@@ -61,8 +59,8 @@ pub fn copy_info(b: &mut [u8], at: usize, q: Member, settled: usize, opens: usiz
         (view_in b.old settled ∷ views_in b.old opens n) }
 {
     b[at] = q.0;
-    b[at + KIND] = wire::format::INFO;
-    b[at + COUNT] = ((n + 1) % 256) as u8;
+    b[at + KIND] = format::INFO;
+    b[at + COUNT] = (n + 1) as u8;
     move_bytes(b, settled, at + VIEWS, sizes::VIEW);
     move_bytes(b, opens, at + VIEWS + sizes::VIEW, sizes::VIEW * n);
 }
@@ -72,9 +70,9 @@ pub fn pop(b: &mut [u8], c: usize, s: usize)
     requires { (c < s) × (0 < get_or b.old c 0) × (s + slot_size * get_or b.old c 0 ≤ length b.old) }
     ensures { b.new ≡ popped b.old c s }
 {
-    let n = b[c] as usize;
-    move_bytes(b, s + SLOT, s, SLOT * (n - 1));
-    b[c] = ((n - 1) % 256) as u8;
+    let left = b[c] - 1;
+    move_bytes(b, s + SLOT, s, SLOT * usize::from(left));
+    b[c] = left;
 }
 
 // The slot has an entry of known kind, with its views in their places.
@@ -83,13 +81,8 @@ pub fn slot_fits(b: &[u8], at: usize) -> bool
     ensures { result ≡ slot_fits b.now at }
 {
     let kind = b[at + KIND];
-    if !wire::format::known(kind) {
-        return false;
-    }
-    if kind == wire::format::INFO {
-        return wire::format::views_allowed(kind, b[at + COUNT] as usize);
-    }
-    true
+    format::known(kind)
+        && (kind != format::INFO || format::views_allowed(kind, usize::from(b[at + COUNT])))
 }
 
 // The message in the slot at a place, without its views.
@@ -97,9 +90,8 @@ pub fn load_message(b: &[u8], at: usize) -> Message
     requires { at + slot_size ≤ length b.now }
     ensures { result ≡ carried_at b.now at }
 {
-    let kind = b[at + KIND];
     let x = numbers::get_number(b, at + NUMBER, sizes::NUMBER);
-    wire::format::message(kind, x)
+    format::message(b[at + KIND], x)
 }
 
 // How many views it carries: none where it is no info.
@@ -107,8 +99,9 @@ pub fn carried(b: &[u8], at: usize) -> usize
     requires { at + slot_size ≤ length b.now }
     ensures { result ≡ framed b.now at }
 {
-    if b[at + KIND] == wire::format::INFO {
-        return b[at + COUNT] as usize;
+    if b[at + KIND] == format::INFO {
+        usize::from(b[at + COUNT])
+    } else {
+        0
     }
-    0
 }

@@ -38,28 +38,25 @@ fn store(q: &mut [u8], c: usize, k: usize, at: usize)
     let kind = q[at + crate::KIND];
     q[c + SENDERS + k] = q[at];
     q[c + KINDS + k] = kind;
-    if kind == format::CLIENT {
-        crate::move_bytes(
+    match kind {
+        format::CLIENT => crate::move_bytes(
             q,
             at + crate::NUMBER,
             c + NUMBERS + sizes::NUMBER * k,
             sizes::NUMBER,
-        );
-        return;
-    }
-    if kind == format::TOLD {
-        q[c + COUNTS + k] = q[at + crate::NUMBER + sizes::NUMBER - 1];
-        return;
-    }
-    if kind == format::INFO {
-        let n = q[at + crate::COUNT];
-        q[c + COUNTS + k] = n;
-        crate::move_bytes(
-            q,
-            at + crate::VIEWS,
-            c + VIEWS + CARRIED * k,
-            sizes::VIEW * (n as usize),
-        );
+        ),
+        format::TOLD => q[c + COUNTS + k] = q[at + crate::NUMBER + sizes::NUMBER - 1],
+        format::INFO => {
+            let n = q[at + crate::COUNT];
+            q[c + COUNTS + k] = n;
+            crate::move_bytes(
+                q,
+                at + crate::VIEWS,
+                c + VIEWS + CARRIED * k,
+                sizes::VIEW * usize::from(n),
+            );
+        }
+        _ => {}
     }
 }
 
@@ -71,7 +68,7 @@ pub fn append(q: &mut [u8], c: usize, at: usize)
         (message_in q.old at) }
 {
     let n = q[c];
-    store(q, c, n as usize, at);
+    store(q, c, usize::from(n), at);
     q[c] = n + 1;
 }
 
@@ -82,10 +79,11 @@ pub fn load_message(q: &[u8], c: usize, k: usize) -> Message
 {
     let kind = q[c + KINDS + k];
     if kind == format::TOLD {
-        return Message::Told(q[c + COUNTS + k]);
+        Message::Told(q[c + COUNTS + k])
+    } else {
+        let x = numbers::get_number(q, c + NUMBERS + sizes::NUMBER * k, sizes::NUMBER);
+        format::message(kind, x)
     }
-    let x = numbers::get_number(q, c + NUMBERS + sizes::NUMBER * k, sizes::NUMBER);
-    format::message(kind, x)
 }
 
 // How many views it carries: none where it is no info.
@@ -94,7 +92,8 @@ pub fn carried(q: &[u8], c: usize, k: usize) -> usize
     ensures { result ≡ order_framed q.now c k }
 {
     if q[c + KINDS + k] == format::INFO {
-        return q[c + COUNTS + k] as usize;
+        usize::from(q[c + COUNTS + k])
+    } else {
+        0
     }
-    0
 }

@@ -30,17 +30,15 @@ pub fn fresh() -> Desk
 pub fn room(d: Desk) -> usize
     ensures { (result ≤ 33) × (result ≡ min d.lent longest) }
 {
-    if d.lent < LONGEST { d.lent } else { LONGEST }
+    d.lent.min(LONGEST)
 }
 
 pub fn lend(d: Desk, line: &[u8]) -> Desk
     ensures { result ≡ with_lent d line.now }
 {
-    let list = d.list;
-    Desk {
-        list,
-        lent: test_script::operand::upto(line, 1, LONGEST),
-    }
+    let mut next = d;
+    next.lent = test_script::operand::upto(line, 1, LONGEST);
+    next
 }
 
 // The same with another list.
@@ -79,12 +77,8 @@ pub fn found(rt: &impl Print, v: View) -> io::Result<()> {
 // The records that are lent.
 pub fn show(rt: &impl Print, d: Desk) -> io::Result<()> {
     rt.write_all(b"list")?;
-    let n = room(d);
-    let mut i: usize = 0;
-    while i < n {
-        let v = d.list[i];
-        record(rt, v)?;
-        i += 1;
+    for v in &d.list[..room(d)] {
+        record(rt, *v)?;
     }
     test_script::show::end(rt)
 }

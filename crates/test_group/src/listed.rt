@@ -8,7 +8,6 @@ ghost use Rattle.views.specs.Limits.{max_views};
 ghost use Rattle.group_listed.specs.Creates.{made_in, Created};
 
 use events::Reply;
-use views::list::Lookup;
 use views::refusal::Verdict;
 use views::{View, ViewId, limits};
 
@@ -87,7 +86,7 @@ pub fn create(
 }
 
 // A lookup in the list by itself, among so many made.
-pub fn lookup(list: [View; LONGEST], room: usize, made: usize, id: ViewId) -> Lookup
+pub fn lookup(list: [View; LONGEST], room: usize, made: usize, id: ViewId) -> Option<View>
     requires { room ≤ 33 }
     ensures { result ≡ find_of id.0 (take max_views (made_in made (take room list))) }
 {

@@ -10,7 +10,6 @@ mod word;
 use crate::desk::Desk;
 use crate::word::Word;
 use std::io;
-use views::list::Lookup;
 use views::{ViewId, limits};
 
 // How many bytes of standard input are read.
@@ -48,11 +47,14 @@ fn read(
 // One answer to each line.
 fn lines(rt: &impl Print, s: &[u8], books: &mut [u8], queues: &mut [u8]) -> io::Result<()> {
     let mut d = crate::desk::fresh();
-    let mut at: usize = 0;
-    while at < s.len() {
-        let end = test_script::parse::line_end(s, at);
-        d = answer(rt, &s[at..end], books, queues, d)?;
-        at = test_script::parse::line_after(s, end);
+    for line in s.split_inclusive(|c| *c == b'\n') {
+        d = answer(
+            rt,
+            line.strip_suffix(b"\n").unwrap_or(line),
+            books,
+            queues,
+            d,
+        )?;
     }
     Ok(())
 }
@@ -162,8 +164,8 @@ fn lookup(rt: &impl Print, line: &[u8], d: Desk) -> io::Result<()> {
     let list = d.list;
     let l = crate::listed::lookup(list, crate::desk::room(d), made, id);
     match l {
-        Lookup::Found(v) => crate::desk::found(rt, v)?,
-        Lookup::Missing => {
+        Some(v) => crate::desk::found(rt, v)?,
+        None => {
             rt.write_all(b"missing")?;
         }
     }

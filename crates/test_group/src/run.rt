@@ -140,7 +140,7 @@ fn then(
     queues: &mut [u8],
     steps: &[u8],
 ) -> io::Result<()> {
-    if steps.len() == 0 {
+    if steps.is_empty() {
         return Ok(());
     }
     rt.write_all(b" then ")?;
@@ -164,8 +164,8 @@ fn more_steps(
 // A word and the answers' records in hexadecimal, or the refusal.
 fn show(rt: &impl Print, v: Verdict, word: &[u8], answers: &[u8]) -> io::Result<()> {
     match v {
-        Verdict::Refused(x) => test_script::show::refused(rt, x),
-        Verdict::Accepted => {
+        Err(x) => test_script::show::refused(rt, x),
+        Ok(()) => {
             rt.write_all(word)?;
             test_script::show::hex(rt, answers)
         }

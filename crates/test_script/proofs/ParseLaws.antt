@@ -1,17 +1,20 @@
 -- Laws of lines taken apart, a byte at a time: each says what a loop's turn, or its end, does to what is still to be found.
 use mathlib.Core.Path.{◌≡◌, refl, sym, ap, ◌∙◌}
 use mathlib.Core.Logic.{⊎_elim}
-use mathlib.Core.Bool.{true, false}
+use mathlib.Core.Bool.{true, false, true≢false}
 use mathlib.Core.List.{List, [], ◌∷◌, ◌++◌, append_assoc, append-nil}
-use Prim.Native.Nat.{ℕ, zero, suc, ◌+◌, ◌-◌, ◌*◌, ◌^◌, ◌<◌, ◌≤◌, max}
+use Prim.Native.Nat.{ℕ, zero, suc, ◌+◌, ◌-◌, ◌*◌, ◌^◌, ◌<◌, ◌≤◌}
 use native.Mathlib.Numerals.{add-one}
 use native.Mathlib.Omega.{arith}
-use lib.Dec.{eqb}
-use lib.ListN.{length, get_or, set, take, drop, length-set, length-drop, take-append-drop}
-use lib.Seq.{drop-cons, drop-drop, drop-set-lt, take-suc-set, length-take-le}
-use borrow.Author.Tests.{eq-eqb, ne_eqb, lt-ltb, le-ltb, le-leb, lt-leb}
+use lib.Dec.{eqb, ltb}
+use lib.ListN.{length, get_or, set, take, drop, length-set, take-append-drop}
+use lib.Seq.{drop-cons, drop-drop, drop-set-lt, take-suc-set, take_all, length-take-le}
+use Rattle.std.specs.Char.{is_ascii_digit}
+use Rattle.std.specs.Option.{SomeIff, unwrap_or}
+use Rattle.std.proofs.Common.{Option, Some, None}
+use borrow.Author.Tests.{ltb-false, eq-eqb, ne_eqb, lt-ltb, le-ltb, le-leb}
 use Rattle.views.proofs.SetLaws.{known}
-use Rattle.test_script.specs.ParseParts.{bytes_before, line_end, word_start, pushed, number_from, nibble_of, unhexed, Fronted, IsPrefixLen}
+use Rattle.test_script.specs.ParseParts.{word_start, pushed, number_from, nibble_of, unhexed, Fronted, IsPrefixLen}
 
 pub prefix_len_of_le : (n : ℕ) (xs : List ℕ) → n ≤ length xs → IsPrefixLen n xs
 prefix_len_of_le n xs h = (h, sym (length-take-le n xs h))
@@ -21,54 +24,6 @@ drop-none [] zero h = refl
 drop-none [] (suc i) h = refl
 drop-none (c ∷ s) zero h = absurd (omega arith)
 drop-none (c ∷ s) (suc i) h = drop-none s i (omega arith)
-
--- ---- the end of a line
-
-before-hit : (c d : ℕ) (s : List ℕ) → eqb d c ≡ true → bytes_before c (d ∷ s) ≡ 0
-unfolding bytes_before
-before-hit c d s e = rw e
-
-before-miss : (c d : ℕ) (s : List ℕ) → eqb d c ≡ false → bytes_before c (d ∷ s) ≡ suc (bytes_before c s)
-unfolding bytes_before
-before-miss c d s e = rw e
-
-before-le : (c : ℕ) (s : List ℕ) → bytes_before c s ≤ length s
-unfolding bytes_before
-before-le c [] = omega arith
-before-le c (d ∷ s) =
-    ⊎_elim (λ (e : eqb d c ≡ true). rw e (omega arith))
-    (λ (e : eqb d c ≡ false). rw e (omega (arith, before-le c s)))
-    (known (eqb d c))
-
-before-empty : (c : ℕ) → bytes_before c [] ≡ 0
-unfolding bytes_before
-before-empty c = refl
-
-pub end-hit : (s : List ℕ) (i : ℕ) → i < length s → get_or s i 0 ≡ 10 → line_end s i ≡ i
-unfolding line_end
-end-hit s i h e =
-    let z : bytes_before 10 (drop i s) ≡ 0 = rw (drop-cons s i 0 h) (before-hit 10 (get_or s i 0) (drop (suc i) s) (eq-eqb _ _ e)) in
-    omega arith
-
-pub end-miss : (s : List ℕ) (i : ℕ) → i < length s → (get_or s i 0 ≡ 10 → ⊥) → line_end s i ≡ line_end s (i + 1)
-unfolding line_end
-end-miss s i h e =
-    let z : bytes_before 10 (drop i s) ≡ suc (bytes_before 10 (drop (suc i) s)) =
-    rw (drop-cons s i 0 h) (before-miss 10 (get_or s i 0) (drop (suc i) s) (ne_eqb _ _ e))
-    in
-    rw (z, add-one i) (omega arith)
-
-pub end_none : (s : List ℕ) (i : ℕ) → length s ≤ i → line_end s i ≡ i
-unfolding line_end
-end_none s i h = rw (drop-none s i h) (omega (arith, before-empty 10))
-
-pub end-from : (s : List ℕ) (i : ℕ) → i ≤ line_end s i
-unfolding line_end
-end-from s i = omega arith
-
-pub end-le : (s : List ℕ) (i : ℕ) → line_end s i ≤ max i (length s)
-unfolding line_end
-end-le s i = omega (arith, before-le 10 (drop i s), length-drop i s)
 
 -- ---- words
 
@@ -117,13 +72,17 @@ word-le (suc n) (c ∷ s) =
 
 -- ---- decimal numbers
 
-pub push-below : (x c : ℕ) → c < 48 → x ≡ pushed x c
+pub push-other : (x c : ℕ) → is_ascii_digit c ≡ false → x ≡ pushed x c
 unfolding pushed
-push-below x c h = rw (lt-ltb c 48 h)
-
-pub push-above : (x c : ℕ) → 48 ≤ c → 57 < c → x ≡ pushed x c
-unfolding pushed
-push-above x c h k = rw (le-ltb c 48 h, lt-ltb 57 c k)
+push-other x c e =
+    ⊎_elim (λ (h : ltb c 48 ≡ true). rw h)
+    (λ (h : ltb c 48 ≡ false).
+    ⊎_elim (λ (k : ltb 57 c ≡ true). rw (h, k))
+    (λ (k : ltb 57 c ≡ false).
+    let z : true ≡ false = rw (le-leb 48 c (ltb-false c 48 h), le-leb c 57 (ltb-false 57 c k)) at e in
+    absurd (true≢false z))
+    (known (ltb 57 c)))
+    (known (ltb c 48))
 
 pub push-digit : (x c : ℕ) → 48 ≤ c → c ≤ 57 → x * 10 + (c - 48) < 2 ^ 64 → x * 10 + (c - 48) ≡ pushed x c
 unfolding pushed
@@ -132,6 +91,10 @@ push-digit x c h k l = rw (le-ltb c 48 h, le-ltb 57 c k, lt-ltb (x * 10 + (c - 4
 pub push-unfit : (x c : ℕ) → 48 ≤ c → c ≤ 57 → 2 ^ 64 ≤ x * 10 + (c - 48) → x ≡ pushed x c
 unfolding pushed
 push-unfit x c h k l = rw (le-ltb c 48 h, le-ltb 57 c k, le-ltb (x * 10 + (c - 48)) (2 ^ 64) l)
+
+pub push-sum : (x c y d : ℕ) (o : Option ℕ) → 48 ≤ c → c ≤ 57 → y ≡ x * 10 → d ≡ c - 48 → SomeIff o (y + d < 2 ^ 64) (y + d) → unwrap_or o x ≡ pushed x c
+push-sum x c y d None h k p q w = push-unfit x c h k (omega (arith, w))
+push-sum x c y d (Some z) h k p q w = let e : z ≡ x * 10 + (c - 48) = omega arith in e ∙ push-digit x c h k (omega arith)
 
 number-stop : (x c : ℕ) (s : List ℕ) → eqb c 32 ≡ true → number_from x (c ∷ s) ≡ x
 unfolding number_from
@@ -158,86 +121,63 @@ number-none x s i h = rw (drop-none s i h) (number-empty x)
 
 -- ---- hexadecimal
 
-pub nibble-below : (c : ℕ) → c < 48 → 0 ≡ nibble_of c
-unfolding nibble_of
-nibble-below c h = rw (lt-ltb c 48 h)
-
-pub nibble-digit : (c : ℕ) → 48 ≤ c → c ≤ 57 → c - 48 ≡ nibble_of c
-unfolding nibble_of
-nibble-digit c h k = rw (le-ltb c 48 h, le-leb c 57 k)
-
-pub nibble-between : (c : ℕ) → 57 < c → c < 97 → 0 ≡ nibble_of c
-unfolding nibble_of
-nibble-between c h k = rw (le-ltb c 48 (omega arith), lt-leb c 57 h, lt-ltb c 97 k)
-
-pub nibble-letter : (c : ℕ) → 97 ≤ c → c ≤ 102 → c - 97 + 10 ≡ nibble_of c
-unfolding nibble_of
-nibble-letter c h k = rw (le-ltb c 48 (omega arith), lt-leb c 57 (omega arith), le-ltb c 97 h, le-leb c 102 k)
-
-pub nibble-above : (c : ℕ) → 102 < c → 0 ≡ nibble_of c
-unfolding nibble_of
-nibble-above c h = rw (le-ltb c 48 (omega arith), lt-leb c 57 (omega arith), le-ltb c 97 (omega arith), lt-leb c 102 h)
-
 unhexed-pair : (k a b : ℕ) (s : List ℕ) → unhexed (suc k) (a ∷ b ∷ s) ≡ (nibble_of a * 16 + nibble_of b) ∷ unhexed k s
 unfolding unhexed
 unhexed-pair k a b s = refl
 
-unhexed-short : (k : ℕ) (s : List ℕ) → length s < 2 → unhexed k s ≡ []
+pub unhexed-short : (k : ℕ) (s : List ℕ) → length s < 2 → unhexed k s ≡ []
 unfolding unhexed
 unhexed-short zero s h = refl
 unhexed-short (suc k) [] h = refl
 unhexed-short (suc k) (a ∷ []) h = refl
 unhexed-short (suc k) (a ∷ b ∷ s) h = absurd (omega arith)
 
--- n bytes stand at the front, and the others are those of the digits from a place on
-pub record Halfway (s : List ℕ) (line entry : List ℕ) (bytes : List ℕ) (n i : ℕ) : Type 0 where
-  pub room : n ≤ length bytes
+-- n bytes stand at the front, and the others are those of the digits that are left
+pub record Halfway (s entry : List ℕ) (bytes : List ℕ) (n : ℕ) (left : List ℕ) : Type 0 where
   pub size : length bytes ≡ length entry
-  pub front : s ≡ take n bytes ++ unhexed (length entry - n) (drop i line)
+  pub front : s ≡ take n bytes ++ unhexed (length entry - n) left
   pub rest : drop n bytes ≡ drop n entry
 
-pub half-start : (line entry : List ℕ) (from : ℕ) → Halfway (unhexed (length entry) (drop from line)) line entry entry 0 from
-half-start line entry from =
-    record { room = omega arith; size = refl; front = ap (λ (k : ℕ). unhexed k (drop from line)) (omega arith); rest = refl }
+pub half-start : (s entry : List ℕ) → Halfway (unhexed (length entry) s) entry entry 0 s
+half-start s entry = record { size = refl; front = ap (λ (k : ℕ). unhexed k s) (omega arith); rest = refl }
 
-pub half-turn : (s line entry bytes : List ℕ) (n i x y : ℕ) → Halfway s line entry bytes n i → n < length bytes → i + 2 ≤ length line
-    → x ≡ nibble_of (get_or line i 0) → y ≡ nibble_of (get_or line (i + 1) 0) → Halfway s line entry (set bytes n (x * 16 + y)) (n + 1) (i + 2)
-half-turn s line entry bytes n i x y w h k p q =
+pub half-turn : (s entry bytes left more : List ℕ) (n a b x y : ℕ) → Halfway s entry bytes n left → n < length bytes → left ≡ a ∷ b ∷ more
+    → x ≡ nibble_of a → y ≡ nibble_of b → Halfway s entry (set bytes n (x * 16 + y)) (n + 1) more
+half-turn s entry bytes left more n a b x y w h two p q =
     let v = x * 16 + y in
     let z = w.size in
     let m : length entry - n ≡ suc (length entry - (n + 1)) = omega arith in
-    let j : i + 1 ≡ suc i = add-one i in
-    let jj : i + 2 ≡ suc (suc i) = omega arith in
-    let two : drop i line ≡ get_or line i 0 ∷ get_or line (i + 1) 0 ∷ drop (i + 2) line =
-    drop-cons line i 0 (omega arith) ∙ ap (λ (t : List ℕ). get_or line i 0 ∷ t) (rw (j, jj) (drop-cons line (suc i) 0 (omega arith)))
-    in
-    let e : unhexed (length entry - n) (drop i line) ≡ v ∷ unhexed (length entry - (n + 1)) (drop (i + 2) line) =
-    rw (m, two, p, q) (unhexed-pair (length entry - (n + 1)) (get_or line i 0) (get_or line (i + 1) 0) (drop (i + 2) line))
+    let e : unhexed (length entry - n) left ≡ v ∷ unhexed (length entry - (n + 1)) more =
+    rw (m, two, p, q) (unhexed-pair (length entry - (n + 1)) a b more)
     in
     let t : take (n + 1) (set bytes n v) ≡ take n bytes ++ (v ∷ []) = rw (add-one n) (take-suc-set bytes n v h) in
     record {
-      room = rw (length-set bytes n v) (omega arith);
       size = length-set bytes n v ∙ z;
-      front = w.front ∙ ap (λ (r : List ℕ). take n bytes ++ r) e ∙ sym (ap (λ (r : List ℕ). r ++ unhexed (length entry - (n + 1)) (drop (i + 2) line)) t ∙ append_assoc (take n bytes) (v ∷ []) (unhexed (length entry - (n + 1)) (drop (i + 2) line)));
+      front = w.front ∙ ap (λ (r : List ℕ). take n bytes ++ r) e ∙ sym (ap (λ (r : List ℕ). r ++ unhexed (length entry - (n + 1)) more) t ∙ append_assoc (take n bytes) (v ∷ []) (unhexed (length entry - (n + 1)) more));
       rest = drop-set-lt (n + 1) bytes n v (omega arith) ∙ sym (drop-drop 1 n bytes) ∙ ap (λ (r : List ℕ). drop 1 r) w.rest ∙ drop-drop 1 n entry;
     }
 
+-- the digits of a pair, and what is left behind them
+pub pair-first : (s : List ℕ) → 2 ≤ length s → s ≡ get_or s 0 0 ∷ get_or s 1 0 ∷ take (length s - 2) (drop 2 s)
+pair-first [] h = absurd (omega arith)
+pair-first (a ∷ []) h = absurd (omega arith)
+pair-first (a ∷ b ∷ s) h =
+    let e : suc (suc (length s)) - 2 ≡ length s = omega arith in
+    rw e (ap (λ (t : List ℕ). a ∷ b ∷ t) (sym (take_all (length s) s (omega arith))))
+
 -- no pair of digits is left, or no room
-pub half-end : (s line entry bytes : List ℕ) (n i : ℕ) → Halfway s line entry bytes n i → unhexed (length entry - n) (drop i line) ≡ [] → Fronted s entry bytes n
-half-end s line entry bytes n i w e =
+pub half-end : (s entry bytes left : List ℕ) (n : ℕ) → n ≤ length bytes → Halfway s entry bytes n left → unhexed (length entry - n) left ≡ [] → Fronted s entry bytes n
+half-end s entry bytes left n h w e =
     let t : s ≡ take n bytes = w.front ∙ rw e (append-nil (take n bytes)) in
-    let k : n ≡ length s = sym (ap length t ∙ length-take-le n bytes w.room) in
+    let k : n ≡ length s = sym (ap length t ∙ length-take-le n bytes h) in
     record {
       count = k;
       bytes = sym (take-append-drop n bytes) ∙ rw (← k, ← t, w.rest);
     }
 
-pub no-digits : (line : List ℕ) (k i : ℕ) → length line ≤ i → unhexed k (drop i line) ≡ []
-no-digits line k i h = unhexed-short k (drop i line) (omega (arith, length-drop i line))
-
-pub one-digit : (line : List ℕ) (k i : ℕ) → length line - i < 2 → unhexed k (drop i line) ≡ []
-one-digit line k i h = unhexed-short k (drop i line) (omega (arith, length-drop i line))
-
-pub no_room : (s : List ℕ) (k : ℕ) → k ≡ 0 → unhexed k s ≡ []
+no_room : (s : List ℕ) (k : ℕ) → k ≡ 0 → unhexed k s ≡ []
 unfolding unhexed
 no_room s k e = rw e
+
+pub half-full : (s entry bytes left : List ℕ) (n m : ℕ) → n ≡ m → m ≡ length entry → n ≤ length bytes → Halfway s entry bytes n left → Fronted s entry bytes m
+half-full s entry bytes left n m e f h w = rw (← e) (half-end s entry bytes left n h w (no_room left _ (omega arith)))

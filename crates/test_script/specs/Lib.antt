@@ -1,3 +1,2 @@
 pub mod ParseParts
 pub mod OperandParts
-pub mod ShowParts

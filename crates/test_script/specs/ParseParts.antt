@@ -6,16 +6,7 @@ use Rattle.std.specs.Prelude.{◌+◌, ◌-◌, ◌*◌, ◌^◌, ◌≤◌, eqb
 abbrev pub IsPrefixLen : ℕ → List ℕ → Type 0
 IsPrefixLen n xs = (n ≤ length xs) × (n ≡ length (take n xs))
 
--- ---- lines and words
-
--- how many bytes stand before the first byte c
-unfoldable pub bytes_before : ℕ → List ℕ → ℕ
-bytes_before c [] = 0
-bytes_before c (d ∷ s) = cond (eqb d c) 0 (suc (bytes_before c s))
-
--- where the line from a place ends: at the byte 10, or where the bytes end
-unfoldable pub line_end : List ℕ → ℕ → ℕ
-line_end s at = at + bytes_before 10 (drop at s)
+-- ---- words
 
 -- where the word of a number starts: behind so many spaces, or where the bytes end
 unfoldable pub word_start : ℕ → List ℕ → ℕ

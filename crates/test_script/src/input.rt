@@ -11,10 +11,11 @@ pub fn read_full(rt: &impl Input, bytes: &mut [u8]) -> io::Result<usize>
 {
     let mut reader = rt.reader();
     let mut done: usize = 0;
+    // Each turn goes on by what the read gave.
     while done < bytes.len() {
         let n = reader.read(&mut bytes[done..])?;
         if n == 0 {
-            return Ok(done);
+            break;
         }
         done += n;
     }

@@ -1,4 +1,4 @@
-// The operands of a line, each cut to what there is room for.
+// The operands of a line, each cut to what there is room for: a cast may lose nothing, so a remainder comes first.
 ghost use Rattle.std.specs.Prelude.{◌≡◌, min};
 ghost use Rattle.test_script.specs.ParseParts.{word_number};
 ghost use Rattle.test_script.specs.OperandParts.{byte_word, identifier_word};
@@ -21,6 +21,5 @@ pub fn identifier(line: &[u8], n: usize) -> u32
 pub fn upto(line: &[u8], n: usize, most: usize) -> usize
     ensures { result ≡ min (word_number line.now n) most }
 {
-    let x = crate::parse::number(line, n);
-    if x < most as u64 { x as usize } else { most }
+    crate::parse::number(line, n).min(most as u64) as usize
 }

@@ -1,8 +1,8 @@
 // Answers of calls: ok, the event, the refusal; and a comment, which is answered by itself.
 use crate::show::{also, end, refused};
-use events::{Event, Reply, kinds};
+use events::{Event, Item, Reply};
 use std::io;
-use views::refusal::Verdict;
+use views::{Member, View, ViewId};
 
 // A comment is answered by itself.
 pub fn same(rt: &impl Print, line: &[u8]) -> io::Result<()> {
@@ -17,62 +17,49 @@ pub fn ok(rt: &impl Print) -> io::Result<()> {
 
 // What a call gave.
 pub fn reply(rt: &impl Print, r: Reply) -> io::Result<()> {
-    let v = r.verdict;
-    match v {
-        Verdict::Refused(x) => {
+    match r {
+        Ok(Some(e)) => event(rt, e),
+        Ok(None) => ok(rt),
+        Err(x) => {
             refused(rt, x)?;
             end(rt)
         }
-        Verdict::Accepted => {
-            let e = r.event;
-            event(rt, e)
-        }
     }
 }
 
-// The event by its step's kind, 0 for none.
 fn event(rt: &impl Print, e: Event) -> io::Result<()> {
-    let kind = e.kind;
-    match kind {
-        kinds::ATTEMPT => attempt(rt, e),
-        kinds::REGISTER => register(rt, e),
-        kinds::SEND => send(rt, e),
-        kinds::HAND => item(rt, b"hand", e),
-        kinds::SAFE => item(rt, b"safe", e),
-        _ => ok(rt),
+    match e {
+        Event::Attempt(p, v) => attempt(rt, p, v),
+        Event::Register(p, g) => {
+            whose(rt, b"register", p, g)?;
+            end(rt)
+        }
+        Event::Send(p, g, x) => {
+            whose(rt, b"send", p, g)?;
+            also(rt, x)?;
+            end(rt)
+        }
+        Event::Hand(p, g, x) => item(rt, b"hand", p, g, x),
+        Event::Safe(p, g, x) => item(rt, b"safe", p, g, x),
     }
 }
 
-// Whose event it is, and of which view.
-fn whose(rt: &impl Print, e: Event) -> io::Result<()> {
-    also(rt, e.member.0 as u64)?;
-    also(rt, e.view.id.0 as u64)
-}
-
-fn attempt(rt: &impl Print, e: Event) -> io::Result<()> {
-    rt.write_all(b"attempt")?;
-    whose(rt, e)?;
-    also(rt, e.view.set as u64)?;
-    end(rt)
-}
-
-fn register(rt: &impl Print, e: Event) -> io::Result<()> {
-    rt.write_all(b"register")?;
-    whose(rt, e)?;
-    end(rt)
-}
-
-fn send(rt: &impl Print, e: Event) -> io::Result<()> {
-    rt.write_all(b"send")?;
-    whose(rt, e)?;
-    also(rt, e.entry)?;
-    end(rt)
-}
-
-fn item(rt: &impl Print, name: &[u8], e: Event) -> io::Result<()> {
+// The event's name, whose event it is, and of which view.
+fn whose(rt: &impl Print, name: &[u8], p: Member, g: ViewId) -> io::Result<()> {
     rt.write_all(name)?;
-    whose(rt, e)?;
-    also(rt, e.sender.0 as u64)?;
-    also(rt, e.entry)?;
+    also(rt, p.0 as u64)?;
+    also(rt, g.0 as u64)
+}
+
+fn attempt(rt: &impl Print, p: Member, v: View) -> io::Result<()> {
+    whose(rt, b"attempt", p, v.id)?;
+    also(rt, v.set as u64)?;
+    end(rt)
+}
+
+fn item(rt: &impl Print, name: &[u8], p: Member, g: ViewId, x: Item) -> io::Result<()> {
+    whose(rt, name, p, g)?;
+    also(rt, x.sender.0 as u64)?;
+    also(rt, x.entry)?;
     end(rt)
 }

@@ -1,7 +1,4 @@
 // Answers to standard output: numbers, bytes in hexadecimal, refusals.
-ghost use Rattle.std.specs.Prelude.{◌<◌, ◌/◌, ◌%◌, ◌≡◌};
-ghost use Rattle.test_script.specs.ShowParts.{hex_digit_ascii};
-
 use std::io;
 use views::refusal::Refusal;
 
@@ -11,13 +8,12 @@ pub fn number(rt: &impl Print, x: u64) -> io::Result<()> {
 
 // One number more on the line.
 pub fn also(rt: &impl Print, x: u64) -> io::Result<()> {
-    rt.write_all(b" ")?;
-    number(rt, x)
+    print!(rt; " {x}")
 }
 
 pub fn refused(rt: &impl Print, r: Refusal) -> io::Result<()> {
     rt.write_all(b"refused")?;
-    also(rt, views::refusal::number(r) as u64)
+    also(rt, r.number() as u64)
 }
 
 // No word of the program's.
@@ -31,33 +27,10 @@ pub fn end(rt: &impl Print) -> io::Result<()> {
     rt.write_all(b"\n")
 }
 
-fn digit(x: u8) -> u8
-    requires { x < 16 }
-    ensures { result ≡ hex_digit_ascii x }
-{
-    if x < 10 { b'0' + x } else { b'a' + (x - 10) }
-}
-
-fn high(c: u8) -> u8
-    ensures { result ≡ hex_digit_ascii (c / 16) }
-{
-    digit(c / 16)
-}
-
-fn low(c: u8) -> u8
-    ensures { result ≡ hex_digit_ascii (c % 16) }
-{
-    digit(c % 16)
-}
-
 // Bytes in hexadecimal.
 pub fn hex(rt: &impl Print, b: &[u8]) -> io::Result<()> {
-    let mut i: usize = 0;
-    while i < b.len() {
-        let c = b[i];
-        let pair = [high(c), low(c)];
-        rt.write_all(&pair)?;
-        i += 1;
+    for c in b {
+        print!(rt; "{c:02x}")?;
     }
     Ok(())
 }

@@ -6,12 +6,13 @@ use borrow.Author.Tests.{ne_eqb}
 use lib.ListN.{length, take, drop}
 use lib.Seq.{take_at}
 use Rattle.views.specs.declared.View.{View}
+use Rattle.std.specs.Prelude.{Result}
+use Rattle.views.specs.declared.refusal.Refusal.{Refusal}
 use Rattle.views.specs.Refusals.{left}
-use Rattle.events.specs.declared.Reply.{Reply}
-use Rattle.events.specs.Replies.{verdict_of}
+use Rattle.events.specs.Replies.{Reply, verdict_of}
 use Rattle.book_bytes.specs.Starts.{start_bytes}
 use Rattle.book_steps.specs.Acts.{join_bytes, send_bytes, collect_bytes}
-use Rattle.member.specs.declared.Delivered.{Delivered}
+use Rattle.events.specs.declared.Delivered.{Delivered}
 use Rattle.member.specs.Calls.{Gave, GaveEach, start_call, start_reply, join_call, send_call, deliver_call, deliver_bytes, collect_call, packet_call, packet_bytes}
 use Rattle.test_script.specs.ParseParts.{word_start, word_number, unhexed, Fronted}
 use Rattle.test_script.specs.OperandParts.{byte_word}
@@ -64,7 +65,7 @@ pub deliver-said : (line entry bytes b exit : List ℕ) (r : Reply) (at n q : �
 deliver-said line entry bytes b exit r at n q p e l f h =
     let t : take n bytes ≡ brought line = brought-taken line entry bytes at n p l f in rw (← e, ← t) h
 
-pub packet-said : (line entry bytes b exit : List ℕ) (r : Delivered) (at n q : ℕ) → at ≡ word_start 3 line → q ≡ byte_word line 2
+pub packet-said : (line entry bytes b exit : List ℕ) (r : Result Delivered Refusal) (at n q : ℕ) → at ≡ word_start 3 line → q ≡ byte_word line 2
     → length entry ≡ packet_room → Fronted (unhexed (length entry) (drop at line)) entry bytes n
     → GaveEach (packet_call (take n bytes) q b) (packet_bytes (take n bytes) q b) b exit r
     → GaveEach (packet_call (brought line) (byte_word line 2) b) (packet_bytes (brought line) (byte_word line 2) b) b exit r

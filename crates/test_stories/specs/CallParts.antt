@@ -5,8 +5,7 @@ use Rattle.views.specs.Lists.{view_of}
 use Rattle.views.specs.Refusals.{left}
 use Rattle.rules.specs.Data.{Result}
 use Rattle.rules.specs.Member.{Done}
-use Rattle.events.specs.declared.Reply.{Reply}
-use Rattle.events.specs.Replies.{verdict_of}
+use Rattle.events.specs.Replies.{Reply, verdict_of}
 use Rattle.events.specs.Kinds.{join_kind, deliver_kind, attempt_kind, register_kind, send_kind, hand_kind, tell_kind}
 use Rattle.events.specs.Kinds.{safe_kind}
 use Rattle.book_bytes.specs.Starts.{start_bytes}

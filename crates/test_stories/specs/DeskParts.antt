@@ -1,7 +1,7 @@
 -- What is remembered about each book.
-use Rattle.std.specs.Prelude.{List, ℕ, set, replicate}
-use Rattle.views.specs.declared.refusal.Verdict.{Verdict}
-use Rattle.views.specs.declared.refusal.Verdict.TheVariants.{Accepted, Refused}
+use Rattle.std.specs.Prelude.{List, ℕ, set, replicate, Result, Ok, Err}
+use Rattle.views.specs.declared.refusal.Refusal.{Refusal}
+use Rattle.events.specs.Replies.{Reply}
 use Rattle.book_bytes.specs.Places.{book_size}
 use Rattle.test_stories.specs.declared.desk.Desk.{Desk}
 use Rattle.test_script.specs.OperandParts.{byte_word}
@@ -30,10 +30,10 @@ abbrev pub with_slip : Desk → ℕ → ℕ → Desk
 with_slip d k x = record { lent = d.lent; own = d.own; slip = set d.slip k x }
 
 -- after a start, and after a pass of so many bytes: a refused one changes nothing
-unfoldable pub after_start : Verdict → Desk → ℕ → List ℕ → Desk
-after_start (Refused r) d k line = d
-after_start Accepted d k line = with_own d k (byte_word line 4)
+unfoldable pub after_start : Reply → Desk → ℕ → List ℕ → Desk
+after_start (Err r) d k line = d
+after_start (Ok e) d k line = with_own d k (byte_word line 4)
 
-unfoldable pub after_pass : Verdict → Desk → ℕ → ℕ → Desk
-after_pass (Refused r) d k n = d
-after_pass Accepted d k n = with_slip d k n
+unfoldable pub after_pass : Result ℕ Refusal → Desk → ℕ → Desk
+after_pass (Err r) d k = d
+after_pass (Ok n) d k = with_slip d k n

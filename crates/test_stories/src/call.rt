@@ -4,8 +4,8 @@ ghost use Rattle.member.specs.Calls.{Gave, GaveEach, deliver_call, deliver_bytes
 ghost use Rattle.test_script.specs.OperandParts.{byte_word};
 ghost use Rattle.test_stories.specs.CallParts.{Started, joined, brought, step_call, step_bytes};
 
-use events::{Reply, kinds};
-use member::Delivered;
+use events::{Delivered, Reply, kinds};
+use views::refusal::Refusal;
 use views::{Member, View, ViewId};
 
 pub fn start(b: &mut [u8], line: &[u8]) -> Reply
@@ -61,7 +61,7 @@ fn deliver(b: &mut [u8], line: &[u8]) -> Reply
 }
 
 // The same bytes as a packet.
-pub fn packet(b: &mut [u8], line: &[u8]) -> Delivered
+pub fn packet(b: &mut [u8], line: &[u8]) -> Result<Delivered, Refusal>
     ensures { GaveEach
         (packet_call (brought line.now) (byte_word line.now 2) b.old)
         (packet_bytes (brought line.now) (byte_word line.now 2) b.old)

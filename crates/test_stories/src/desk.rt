@@ -5,8 +5,7 @@ ghost use Rattle.test_script.specs.ParseParts.{word_number};
 ghost use Rattle.test_stories.specs.DeskParts.{room, slip_room, fresh_desk, with_lent, after_start, after_pass};
 
 use events::Reply;
-use member::Passed;
-use views::refusal::Verdict;
+use views::refusal::Refusal;
 
 // How many books there are.
 pub const BOOKS: usize = 4;
@@ -37,17 +36,11 @@ pub fn fresh() -> Desk
     }
 }
 
-fn least(x: usize, most: usize) -> usize
-    ensures { result ≡ min x most }
-{
-    if x < most { x } else { most }
-}
-
 pub fn lent(d: Desk, k: usize) -> usize
     requires { k < 4 }
     ensures { result ≡ min (get_or d.lent k 0) room }
 {
-    least(d.lent[k], ROOM)
+    d.lent[k].min(ROOM)
 }
 
 pub fn own(d: Desk, k: usize) -> u8
@@ -61,7 +54,7 @@ pub fn slip(d: Desk, k: usize) -> usize
     requires { k < 4 }
     ensures { result ≡ min (get_or d.slip k 0) slip_room }
 {
-    least(d.slip[k], SLIP)
+    d.slip[k].min(SLIP)
 }
 
 pub fn lend(d: Desk, k: usize, line: &[u8]) -> Desk
@@ -76,12 +69,11 @@ pub fn lend(d: Desk, k: usize, line: &[u8]) -> Desk
 // After a start: its own number counts if it was accepted.
 pub fn started(d: Desk, k: usize, line: &[u8], r: Reply) -> Desk
     requires { k < 4 }
-    ensures { result ≡ after_start r.verdict d k line.now }
+    ensures { result ≡ after_start r d k line.now }
 {
-    let v = r.verdict;
-    match v {
-        Verdict::Refused(_) => d,
-        Verdict::Accepted => {
+    match r {
+        Err(_) => d,
+        Ok(_) => {
             let mut next = d;
             next.own[k] = test_script::operand::byte(line, 4);
             next
@@ -90,16 +82,15 @@ pub fn started(d: Desk, k: usize, line: &[u8], r: Reply) -> Desk
 }
 
 // After a pass: its bytes stay on the slip if it was accepted.
-pub fn passed(d: Desk, k: usize, p: Passed) -> Desk
+pub fn passed(d: Desk, k: usize, p: Result<usize, Refusal>) -> Desk
     requires { k < 4 }
-    ensures { result ≡ after_pass p.verdict d k p.length }
+    ensures { result ≡ after_pass p d k }
 {
-    let v = p.verdict;
-    match v {
-        Verdict::Refused(_) => d,
-        Verdict::Accepted => {
+    match p {
+        Err(_) => d,
+        Ok(length) => {
             let mut next = d;
-            next.slip[k] = p.length;
+            next.slip[k] = length;
             next
         }
     }

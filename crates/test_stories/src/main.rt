@@ -56,11 +56,14 @@ fn lines(rt: &impl Print, s: &[u8], books: &mut [u8], slips: &mut [u8]) -> io::R
     requires slips_len { length slips.old ≡ 800 }
 {
     let mut d = crate::desk::fresh();
-    let mut at = 0;
-    while at < s.len() {
-        let end = test_script::parse::line_end(s, at);
-        d = answer(rt, &s[at..end], books, slips, d)?;
-        at = test_script::parse::line_after(s, end);
+    for line in s.split_inclusive(|c| *c == b'\n') {
+        d = answer(
+            rt,
+            line.strip_suffix(b"\n").unwrap_or(line),
+            books,
+            slips,
+            d,
+        )?;
     }
     Ok(())
 }

@@ -1,18 +1,17 @@
 // What a pass or a packet gave.
-use member::{Delivered, Passed};
+use events::Delivered;
 use std::io;
 use test_script::show::{also, end, refused};
-use views::refusal::Verdict;
+use views::refusal::{Refusal, Verdict};
 
 // The message stands at the front of the slip.
-pub fn passed(rt: &impl Print, p: Passed, slip: &[u8]) -> io::Result<()> {
-    let v = p.verdict;
-    match v {
-        Verdict::Refused(x) => {
+pub fn passed(rt: &impl Print, p: Result<usize, Refusal>, slip: &[u8]) -> io::Result<()> {
+    match p {
+        Err(x) => {
             refused(rt, x)?;
         }
-        Verdict::Accepted => {
-            let n = test_script::parse::front(p.length as u64, slip);
+        Ok(length) => {
+            let n = test_script::parse::front(length as u64, slip);
             rt.write_all(b"pass ")?;
             test_script::show::hex(rt, &slip[..n])?;
         }
@@ -21,17 +20,15 @@ pub fn passed(rt: &impl Print, p: Passed, slip: &[u8]) -> io::Result<()> {
 }
 
 // How many messages were taken, and the refusal of the next if there was one.
-pub fn delivered(rt: &impl Print, d: Delivered) -> io::Result<()> {
-    let v = d.verdict;
-    match v {
-        Verdict::Refused(x) => {
+pub fn delivered(rt: &impl Print, d: Result<Delivered, Refusal>) -> io::Result<()> {
+    match d {
+        Err(x) => {
             refused(rt, x)?;
         }
-        Verdict::Accepted => {
+        Ok(d) => {
             rt.write_all(b"took")?;
             also(rt, d.count as u64)?;
-            let s = d.stopped;
-            stopped(rt, s)?;
+            stopped(rt, d.stopped)?;
         }
     }
     end(rt)
@@ -39,10 +36,10 @@ pub fn delivered(rt: &impl Print, d: Delivered) -> io::Result<()> {
 
 fn stopped(rt: &impl Print, s: Verdict) -> io::Result<()> {
     match s {
-        Verdict::Refused(x) => {
+        Err(x) => {
             rt.write_all(b" ")?;
             refused(rt, x)
         }
-        Verdict::Accepted => Ok(()),
+        Ok(()) => Ok(()),
     }
 }

@@ -6,7 +6,12 @@ use native.Mathlib.Numerals.{add-one}
 use native.Mathlib.Omega.{arith}
 use lib.ListN.{length, get_or, set, drop, replicate}
 use lib.Seq.{drop-cons}
-use borrow.Author.Tests.{eq-eqb, ne_eqb}
+use mathlib.Core.Logic.{⊎_elim}
+use mathlib.Core.Bool.{true, false}
+use Prim.Native.Nat.{min}
+use lib.Dec.{leb}
+use Rattle.views.proofs.SetLaws.{known}
+use borrow.Author.Tests.{eq-eqb, ne_eqb, leb-true, leb-false}
 use Rattle.views.specs.declared.View.{View}
 use Rattle.views.specs.declared.list.Views.{Views}
 use Rattle.views.specs.Limits.{max_views}
@@ -20,18 +25,6 @@ use Rattle.test_vectors.specs.LineParts.{ends_at, numbers_from, count_from, Numb
 use Rattle.test_vectors.specs.LineParts.{as_identifier, as_byte, view_at, views_from, frame_of}
 
 -- ---- the numbers
-
-pub ends-space : (c : ℕ) → c ≡ 32 → 1 ≡ ends_at c
-unfolding ends_at
-ends-space c e = rw (eq-eqb c 32 e)
-
-pub ends-colon : (c : ℕ) → (c ≡ 32 → ⊥) → c ≡ 58 → 1 ≡ ends_at c
-unfolding ends_at
-ends-colon c h e = rw (ne_eqb c 32 h, eq-eqb c 58 e)
-
-pub ends-none : (c : ℕ) → (c ≡ 32 → ⊥) → (c ≡ 58 → ⊥) → 0 ≡ ends_at c
-unfolding ends_at
-ends-none c h k = rw (ne_eqb c 32 h, ne_eqb c 58 k)
 
 -- the numbers of all bytes are those of the bytes from a place on, put behind what is read so far
 pub record Halfway (s line entry xs : List ℕ) (n i : ℕ) : Type 0 where
@@ -132,19 +125,26 @@ filled whole [] at k h f =
     ap (λ (m : ℕ). record { count = m; at = at }) e ∙ filling-end whole at k f
 filled whole (v ∷ rest) at k h f = filled whole rest at (k + 1) (omega arith) (filling-full whole rest at k v f h)
 
-pub views-full : (xs : List ℕ) (n i : ℕ) (at : List View) → i ≡ max_views → Filling (views_from xs 4 n) (views_from xs (4 + 2 * i) (n - i)) at i
+views-full : (xs : List ℕ) (n i : ℕ) (at : List View) → i ≡ max_views → Filling (views_from xs 4 n) (views_from xs (4 + 2 * i) (n - i)) at i
     → record { count = n; at = at } ≡ placed (views_from xs 4 n)
 views-full xs n i at e f =
     ap (λ (k : ℕ). record { count = k; at = at }) (sym (length-views xs 4 n))
     ∙ filled (views_from xs 4 n) (views_from xs (4 + 2 * i) (n - i)) at i (omega arith) f
 
-pub views-end : (xs : List ℕ) (n i : ℕ) (at : List View) → i ≡ n → Filling (views_from xs 4 n) (views_from xs (4 + 2 * i) (n - i)) at i
+views-end : (xs : List ℕ) (n i : ℕ) (at : List View) → i ≡ n → Filling (views_from xs 4 n) (views_from xs (4 + 2 * i) (n - i)) at i
     → record { count = n; at = at } ≡ placed (views_from xs 4 n)
 views-end xs n i at e f =
     let z : n - i ≡ 0 = omega arith in
     let none : views_from xs (4 + 2 * i) (n - i) ≡ [] = rw z (views-none xs (4 + 2 * i)) in
     ap (λ (k : ℕ). record { count = k; at = at }) (sym e)
     ∙ filling-end (views_from xs 4 n) at i (filling_skip (views_from xs 4 n) (views_from xs (4 + 2 * i) (n - i)) [] at i none f)
+
+pub views-all : (xs : List ℕ) (n i : ℕ) (at : List View) → i ≡ min n max_views → Filling (views_from xs 4 n) (views_from xs (4 + 2 * i) (n - i)) at i
+    → record { count = n; at = at } ≡ placed (views_from xs 4 n)
+views-all xs n i at e f =
+    ⊎_elim (λ (h : leb n max_views ≡ true). views-end xs n i at (omega (arith, leb-true n max_views h)) f)
+    (λ (h : leb n max_views ≡ false). views-full xs n i at (omega (arith, leb-false n max_views h)) f)
+    (known (leb n max_views))
 
 pub frame_made : (xs : List ℕ) (n k : ℕ) (m : Message) (l : Views) → k ≡ (n - 4) / 2 → m ≡ message_of (as_byte (get_or xs 1 0)) (get_or xs 3 0) → l ≡ placed (views_from xs 4 k)
     → record { view = record { 0 = as_identifier (get_or xs 2 0) }; message = m; views = l } ≡ frame_of xs n

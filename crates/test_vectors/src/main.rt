@@ -25,26 +25,19 @@ fn main(rt: HostRuntime) -> io::Result<()> {
 
 // One answer to each line.
 fn run(rt: &impl Print, s: &[u8]) -> io::Result<()> {
-    let mut at = 0;
-    while at < s.len() {
-        let end = test_script::parse::line_end(s, at);
-        answer(rt, &s[at..end])?;
-        at = test_script::parse::line_after(s, end);
+    for line in s.split_inclusive(|c| *c == b'\n') {
+        answer(rt, line.strip_suffix(b"\n").unwrap_or(line))?;
     }
     Ok(())
 }
 
 // The first letter tells the word.
 fn answer(rt: &impl Print, line: &[u8]) -> io::Result<()> {
-    let letter = test_script::parse::byte(line, 0);
-    if letter == b'r' {
-        read_line(rt, line)
-    } else if letter == b'f' {
-        front_line(rt, line)
-    } else if letter == b'w' {
-        write_line(rt, line)
-    } else {
-        test_script::show::unreadable(rt)
+    match test_script::parse::byte(line, 0) {
+        b'r' => read_line(rt, line),
+        b'f' => front_line(rt, line),
+        b'w' => write_line(rt, line),
+        _ => test_script::show::unreadable(rt),
     }
 }
 

@@ -8,16 +8,11 @@ use views::{View, ViewId};
 use wire::Frame;
 
 // How many numbers end at a byte: a space or a colon ends one.
+#[tactic(auto, unfolding(crate::specs::LineParts::ends_at))]
 fn ends(c: u8) -> usize
     ensures { (result ≤ 1) × (result ≡ ends_at c) }
 {
-    if c == b' ' {
-        return 1;
-    }
-    if c == b':' {
-        return 1;
-    }
-    0
+    usize::from(c == b' ' || c == b':')
 }
 
 // The numbers from `from` on, and how many they are.
@@ -25,16 +20,13 @@ pub fn numbers(line: &[u8], from: usize, xs: &mut [u64; 640]) -> usize
     ensures { Numbered (drop from line.now) xs.old xs.new result }
 {
     let mut n: usize = 0;
-    let mut i = from;
-    while i < line.len() {
+    for i in from..line.len() {
         if n == 639 {
             return n;
         }
         let c = line[i];
-        let x = xs[n];
-        xs[n] = test_script::parse::push(x, c);
+        xs[n] = test_script::parse::push(xs[n], c);
         n += ends(c);
-        i += 1;
     }
     n + 1
 }
@@ -59,14 +51,8 @@ fn views(xs: &[u64; 640], n: usize) -> Views
         set: 0,
     };
     let mut at = [none; 32];
-    let mut i: usize = 0;
-    while i < n {
-        if i == 32 {
-            return Views { count: n, at };
-        }
-        let v = view(xs, 4 + 2 * i);
-        at[i] = v;
-        i += 1;
+    for i in 0..n.min(32) {
+        at[i] = view(xs, 4 + 2 * i);
     }
     Views { count: n, at }
 }

@@ -1,10 +1,10 @@
-// Answers: the verdict, or the message in words and decimal numbers.
+// Answers: the refusal, or the message in words and decimal numbers.
 use std::io;
 use test_script::show::{also, number, refused};
 use views::View;
 use views::list::Views;
-use views::refusal::Verdict;
-use wire::{Frame, Message, Reading, Written};
+use views::refusal::Refusal;
+use wire::{Frame, Message, Reading};
 
 fn view(rt: &impl Print, v: View) -> io::Result<()> {
     also(rt, v.id.0 as u64)?;
@@ -14,11 +14,8 @@ fn view(rt: &impl Print, v: View) -> io::Result<()> {
 
 fn all(rt: &impl Print, list: Views) -> io::Result<()> {
     let n = views::list::used(list.count);
-    let mut i = 0;
-    while i < n {
-        let v = list.at[i];
-        view(rt, v)?;
-        i += 1;
+    for v in &list.at[..n] {
+        view(rt, *v)?;
     }
     Ok(())
 }
@@ -51,15 +48,13 @@ fn frame(rt: &impl Print, f: Frame) -> io::Result<()> {
 }
 
 // What reading gave.
-pub fn reading(rt: &impl Print, r: Reading) -> io::Result<()> {
-    let verdict = r.verdict;
-    match verdict {
-        Verdict::Refused(x) => {
+pub fn reading(rt: &impl Print, r: Result<Reading, Refusal>) -> io::Result<()> {
+    match r {
+        Err(x) => {
             refused(rt, x)?;
         }
-        Verdict::Accepted => {
-            let f = r.frame;
-            frame(rt, f)?;
+        Ok(r) => {
+            frame(rt, r.frame)?;
             rt.write_all(b" taken")?;
             also(rt, r.taken as u64)?;
         }
@@ -68,15 +63,14 @@ pub fn reading(rt: &impl Print, r: Reading) -> io::Result<()> {
 }
 
 // What writing gave, before the buffer.
-pub fn written(rt: &impl Print, w: Written) -> io::Result<()> {
-    let verdict = w.verdict;
-    match verdict {
-        Verdict::Refused(x) => {
+pub fn written(rt: &impl Print, w: Result<usize, Refusal>) -> io::Result<()> {
+    match w {
+        Err(x) => {
             refused(rt, x)?;
         }
-        Verdict::Accepted => {
+        Ok(n) => {
             rt.write_all(b"wrote")?;
-            also(rt, w.length as u64)?;
+            also(rt, n as u64)?;
         }
     }
     rt.write_all(b" ")

@@ -4,6 +4,7 @@ pub mod VerdictLaws
 pub mod CountLaws
 pub mod Members
 pub mod ListLaws
+pub mod OrderLaws
 pub mod PlaceLaws
 pub mod WalkLaws
 pub mod Numbers

@@ -9,8 +9,7 @@ use lib.Dec.{eqb, ltb}
 use lib.ListN.{length}
 use borrow.Author.Tests.{lt-ltb, le-ltb, ltb-true, ltb-false, eqb-true, eqb-false, eq-eqb, ne_eqb}
 use Rattle.views.specs.declared.View.{View}
-use Rattle.views.specs.declared.list.Lookup.{Lookup}
-use Rattle.views.specs.declared.list.Lookup.TheVariants.{Found, Missing}
+use Rattle.std.specs.Prelude.{Option, Some, None}
 use Rattle.views.specs.Lists.{id_of, rises_above, is_rising, find_of, insert_of, among, union_of, above_of}
 use Rattle.views.proofs.SetLaws.{known, both_true}
 use Rattle.views.proofs.Members.{In, top, pop, in-nil, in-cons, in_top}
@@ -59,23 +58,23 @@ rising-unique (x ∷ l) h v w i j e =
 
 -- ---- find
 
-pub find-in : (g : ℕ) (l : List View) (v : View) → find_of g l ≡ Found v → In v l × (id_of v ≡ g)
+pub find-in : (g : ℕ) (l : List View) (v : View) → find_of g l ≡ Some v → In v l × (id_of v ≡ g)
 unfolding find_of
 find-in g [] v h = let z : ◌≡◌ {A = ℕ} 0 1 = cc in absurd (omega arith)
 find-in g (x ∷ l) v h =
     ⊎_elim
-    (λ (e : eqb (id_of x) g ≡ true). let f : ◌≡◌ {A = Lookup} (Found x) (Found v) = rw e at h in let k : v ≡ x = cc in (in_top k, ap id_of k ∙ eqb-true (id_of x) g e))
-    (λ (e : eqb (id_of x) g ≡ false). let f : find_of g l ≡ Found v = rw e at h in let r = find-in g l v f in (pop r.0, r.1))
+    (λ (e : eqb (id_of x) g ≡ true). let f : ◌≡◌ {A = (Option View)} (Some x) (Some v) = rw e at h in let k : v ≡ x = cc in (in_top k, ap id_of k ∙ eqb-true (id_of x) g e))
+    (λ (e : eqb (id_of x) g ≡ false). let f : find_of g l ≡ Some v = rw e at h in let r = find-in g l v f in (pop r.0, r.1))
     (known (eqb (id_of x) g))
 
-pub find-missing : (g : ℕ) (l : List View) → find_of g l ≡ Missing → (v : View) → In v l → id_of v ≡ g → ⊥
+pub find-missing : (g : ℕ) (l : List View) → find_of g l ≡ None → (v : View) → In v l → id_of v ≡ g → ⊥
 unfolding find_of
 find-missing g [] h v i e = in-nil i
 find-missing g (x ∷ l) h v i e =
     ⊎_elim
-    (λ (t : eqb (id_of x) g ≡ true). let f : ◌≡◌ {A = Lookup} (Found x) Missing = rw t at h in let z : ◌≡◌ {A = ℕ} 0 1 = cc in omega arith)
+    (λ (t : eqb (id_of x) g ≡ true). let f : ◌≡◌ {A = (Option View)} (Some x) None = rw t at h in let z : ◌≡◌ {A = ℕ} 0 1 = cc in omega arith)
     (λ (t : eqb (id_of x) g ≡ false).
-    let f : find_of g l ≡ Missing = rw t at h in
+    let f : find_of g l ≡ None = rw t at h in
     ⊎_elim (λ (p : v ≡ x). eqb-false (id_of x) g t (sym (ap id_of p) ∙ e)) (λ (j : In v l). find-missing g l f v j e) (in-cons i))
     (known (eqb (id_of x) g))
 

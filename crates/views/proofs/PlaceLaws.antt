@@ -6,6 +6,7 @@ use native.Mathlib.Numerals.{add-one}
 use native.Mathlib.Omega.{arith}
 use lib.ListN.{length, get_or, take, drop, set, replicate, length-append, length-replicate, length-take}
 use lib.Seq.{drop-cons, get_or-take, take-append-add, take-append-le, take-append_seam, set_at, append_snoc}
+use Rattle.std.proofs.lemmas.List.{take_min}
 use Rattle.views.specs.declared.View.{View}
 use Rattle.views.specs.Limits.{max_views}
 use Rattle.views.specs.Lists.{no_view, list_of, places, placed}
@@ -107,6 +108,10 @@ filling-end whole at k f =
 -- the views that a record's count uses are as many as there are places for
 pub length-used : (count : ℕ) (at : List View) → length at ≡ max_views → length (take count at) ≡ min count max_views
 length-used count at h = length-take count at ∙ ap (λ (n : ℕ). min count n) h
+
+-- those views, by the number of places in use
+pub take-used : (count : ℕ) (at : List View) → length at ≡ max_views → take (min count max_views) at ≡ take count at
+take-used count at h = rw (← h) (take_min count at)
 
 -- what is left of a list at a place: the view there, and what is left behind it
 pub drop_here : (l : List View) (i : ℕ) → i < length l → drop i l ≡ get_or l i no_view ∷ drop (i + 1) l

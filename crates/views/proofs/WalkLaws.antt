@@ -1,22 +1,26 @@
--- What a walk over a record's places does at each: find, prune, insert, rising; and one over two lists, where each turn is a choice.
-use mathlib.Core.Path.{◌≡◌, refl, ap, ◌∙◌}
+-- What insert and prune do at each place of a list, what rising and find answer of a list, and a walk over two lists, where each turn is a choice.
+use mathlib.Core.Path.{◌≡◌, refl, sym, ap, ◌∙◌}
 use mathlib.Core.Logic.{⊎_elim}
-use mathlib.Core.Bool.{true, false}
+use mathlib.Core.Bool.{Bool, true, false}
 use mathlib.Core.List.{List, [], ◌∷◌}
-use Prim.Native.Nat.{ℕ, ◌+◌, ◌-◌, ◌<◌, ◌≤◌}
+use Prim.Native.Nat.{ℕ, zero, suc, ◌+◌, ◌<◌, ◌≤◌}
 use native.Mathlib.Nat.{add-zero}
 use native.Mathlib.Omega.{arith}
 use lib.Dec.{eqb, ltb}
-use lib.ListN.{length, get_or, take, drop, length-drop, drop_of_length-le}
+use lib.ListN.{length, get_or, drop, drop_of_length-le}
 use borrow.Author.Tests.{lt-ltb, le-ltb, ltb-true, ltb-false, eq-eqb, ne_eqb}
+use Rattle.std.proofs.Common.{Option, Some, None}
+use Rattle.std.specs.List.{find, slice_get, IsAllAdjacentAnswer}
+use Rattle.std.specs.Option.{MatchOption}
+use Rattle.std.proofs.lemmas.Option.{slice_get-get_or, slice_get_past}
 use Rattle.views.specs.declared.View.{View}
-use Rattle.views.specs.declared.list.Lookup.TheVariants.{Found}
 use Rattle.views.specs.declared.list.Choice.{Choice}
 use Rattle.views.specs.Lists.{id_of, rises_above, is_rising, find_of, insert_of, union_of, above_of, no_view}
 use Rattle.views.specs.ChoiceParts.{choice, choice_of}
+use Rattle.views.specs.Sets.{both}
 use Rattle.views.proofs.SetLaws.{known}
 use Rattle.views.proofs.ListLaws.{union-nil, union-front}
-use Rattle.views.proofs.PlaceLaws.{drop-used}
+use Rattle.views.proofs.PlaceLaws.{drop_here}
 
 -- ---- one list, which stands at i
 
@@ -29,20 +33,13 @@ pub above-skip : (g : ℕ) (v : View) (l : List View) → id_of v ≤ g → abov
 unfolding above_of
 above-skip g v l h = rw (le-ltb g (id_of v) h)
 
-module _ (count : ℕ) (at : List View) (i : ℕ) (h : i < length (take count at)) (g : ℕ) where
-  pub find-here : id_of (get_or at i no_view) ≡ g → find_of g (drop i (take count at)) ≡ Found (get_or at i no_view)
-  unfolding find_of
-  find-here e = rw (drop-used count at i h, eq-eqb _ _ e)
+-- the view at i of a list is kept above g, or left out
+module _ (l : List View) (i : ℕ) (h : i < length l) (g : ℕ) where
+  pub above-here : g < id_of (get_or l i no_view) → above_of g (drop i l) ≡ get_or l i no_view ∷ above_of g (drop (i + 1) l)
+  above-here e = ap (above_of g) (drop_here l i h) ∙ above-cons g (get_or l i no_view) (drop (i + 1) l) e
 
-  pub find-on : (id_of (get_or at i no_view) ≡ g → ⊥) → find_of g (drop i (take count at)) ≡ find_of g (drop (i + 1) (take count at))
-  unfolding find_of
-  find-on e = rw (drop-used count at i h, ne_eqb _ _ e)
-
-  pub above-here : g < id_of (get_or at i no_view) → above_of g (drop i (take count at)) ≡ get_or at i no_view ∷ above_of g (drop (i + 1) (take count at))
-  above-here e = ap (above_of g) (drop-used count at i h) ∙ above-cons g (get_or at i no_view) (drop (i + 1) (take count at)) e
-
-  pub above_on : id_of (get_or at i no_view) ≤ g → above_of g (drop i (take count at)) ≡ above_of g (drop (i + 1) (take count at))
-  above_on e = ap (above_of g) (drop-used count at i h) ∙ above-skip g (get_or at i no_view) (drop (i + 1) (take count at)) e
+  pub above_on : id_of (get_or l i no_view) ≤ g → above_of g (drop i l) ≡ above_of g (drop (i + 1) l)
+  above_on e = ap (above_of g) (drop_here l i h) ∙ above-skip g (get_or l i no_view) (drop (i + 1) l) e
 
 -- a view met on the way of x to its place: below it, with its identifier, above it
 module _ (x y : View) (l : List View) where
@@ -58,31 +55,36 @@ module _ (x y : View) (l : List View) where
   unfolding insert_of
   insert-here h = rw (le-ltb (id_of y) (id_of x) (omega arith), ne_eqb (id_of x) (id_of y) (λ e. omega arith))
 
-module _ (count : ℕ) (at : List View) (i : ℕ) (b : 1 ≤ i) where
-  -- the view before i, the view at i and the others
-  two : i < length (take count at) → drop (i - 1) (take count at) ≡ get_or at (i - 1) no_view ∷ get_or at i no_view ∷ drop (i + 1) (take count at)
-  two h =
-      let e : i - 1 + 1 ≡ i = omega arith in
-      rw (drop-used count at (i - 1) (omega arith), e, drop-used count at i h)
+-- ---- one list, by its neighbours or by the first that a test picks
 
-  pub rising-stop : i < length (take count at) → id_of (get_or at i no_view) ≤ id_of (get_or at (i - 1) no_view) → is_rising (drop (i - 1) (take count at)) ≡ false
-  unfolding is_rising rises_above
-  rising-stop h e = rw (two h, le-ltb _ _ e)
+none-after : (a b : Bool) → false ≡ b → false ≡ both a b
+none-after true b h = h
+none-after false b h = refl
 
-  pub rising-on : i < length (take count at) → id_of (get_or at (i - 1) no_view) < id_of (get_or at i no_view) → is_rising (drop (i - 1) (take count at)) ≡ is_rising (drop (i + 1 - 1) (take count at))
-  unfolding is_rising rises_above
-  rising-on h e =
-      let n : i + 1 - 1 ≡ i = omega arith in
-      rw (n, two h, drop-used count at i h, lt-ltb _ _ e)
-
-short-rises : (l : List View) → length l ≤ 1 → is_rising l ≡ true
+-- the answer whether each view is below the next
+pub adjacent-rising : (l : List View) (r : Bool) → IsAllAdjacentAnswer (λ v w b. b ≡ ltb (id_of v) (id_of w)) l r → r ≡ is_rising l
 unfolding is_rising rises_above
-short-rises [] h = refl
-short-rises (v ∷ []) h = refl
-short-rises (v ∷ w ∷ l) h = absurd (omega arith)
+adjacent-rising [] true h = refl
+adjacent-rising [] false h = absurd (omega (arith, h.1))
+adjacent-rising (v ∷ []) true h = refl
+adjacent-rising (v ∷ []) false h = absurd (omega (arith, h.1))
+adjacent-rising (v ∷ w ∷ l) true h =
+    let next : (k : ℕ) → suc k + 1 ≡ suc (k + 1) = λ k. omega arith in
+    rw (sym (h 0 v (omega arith))) (adjacent-rising (w ∷ l) true (λ k d m. rw next at (h (suc k) d (omega arith))))
+adjacent-rising (v ∷ w ∷ l) false (zero, m, f) = rw (sym (f v)) refl
+adjacent-rising (v ∷ w ∷ l) false (suc k, m, f) =
+    let next : suc k + 1 ≡ suc (k + 1) = omega arith in
+    none-after _ _ (adjacent-rising (w ∷ l) false (k, omega arith, λ d. rw next at (f d)))
 
-pub rising-end : (l : List View) (i : ℕ) → length l ≤ i → is_rising (drop (i - 1) l) ≡ true
-rising-end l i h = short-rises (drop (i - 1) l) (omega (arith, length-drop (i - 1) l))
+-- the first view with the identifier is the one that `find` gives
+pub find-looked : (g : ℕ) (l : List View) → find_of g l ≡ find (λ v. eqb (id_of v) g) l
+unfolding find_of
+find-looked g [] = refl
+find-looked g (v ∷ l) =
+    ⊎_elim
+    (λ (t : eqb (id_of v) g ≡ true). rw t refl)
+    (λ (t : eqb (id_of v) g ≡ false). rw t (find-looked g l))
+    (known (eqb (id_of v) g))
 
 -- ---- two lists, which stand at i and j
 
@@ -116,18 +118,41 @@ module _ (k l : List View) (i j : ℕ) (x y : View)
     higher : ltb (id_of y) (id_of x) ≡ false → eqb (id_of x) (id_of y) ≡ false → Chosen k l i j (choice x 1 0)
     higher t u = (omega arith, omega arith, omega arith, rw (add-zero j, at_x p, at_y q, union-front, t, u))
 
-    either : Chosen k l i j (choice_of true x true y)
+    either : MatchOption (choice_of (Some x) (Some y)) ((length k ≤ i) × (length l ≤ j)) (Chosen k l i j)
     either =
         ⊎_elim (λ (t : ltb (id_of y) (id_of x) ≡ true). rw t (lower t))
         (λ (t : ltb (id_of y) (id_of x) ≡ false).
-        ⊎_elim (λ (u : eqb (id_of x) (id_of y) ≡ true). rw (t, u) (same t u)) (λ (u : eqb (id_of x) (id_of y) ≡ false). rw (t, u) (higher t u)) (known (eqb (id_of x) (id_of y))))
+        ⊎_elim (λ (u : eqb (id_of x) (id_of y) ≡ true). rw (t, u) (same t u))
+        (λ (u : eqb (id_of x) (id_of y) ≡ false). rw (t, u) (higher t u)) (known (eqb (id_of x) (id_of y))))
         (known (ltb (id_of y) (id_of x)))
 
-  pub chosen : (n m : ℕ) → length k ≡ n → length l ≡ m → i ≤ n → j ≤ m → i + j < n + m → Chosen k l i j (choice_of (ltb i n) x (ltb j m) y)
-  chosen n m e f hi hj h =
-      ⊎_elim
-      (λ (t : ltb i n ≡ true).
-      let p : i < length k = omega (arith, ltb-true i n t) in
-      ⊎_elim (λ (u : ltb j m ≡ true). rw (t, u) (either p (omega (arith, ltb-true j m u)))) (λ (u : ltb j m ≡ false). rw (t, u) (only_x p (omega (arith, ltb-false j m u)) (omega arith))) (known (ltb j m)))
-      (λ (t : ltb i n ≡ false). let p : n ≤ i = ltb-false i n t in rw t (only-y (omega arith) (omega arith) (omega arith)))
-      (known (ltb i n))
+-- a list with a view where it stands, and one at its end
+here : (l : List View) (i : ℕ) → ltb i (length l) ≡ true → slice_get l i ≡ Some (get_or l i no_view)
+here l i t = slice_get-get_or l i no_view (ltb-true i (length l) t)
+
+past : (l : List View) (i : ℕ) → ltb i (length l) ≡ false → slice_get l i ≡ None
+past l i t = slice_get_past l i (ltb-false i (length l) t)
+
+-- the choice of what stands at i and j, none where both lists are at their ends
+pub chosen : (k l : List View) (i j : ℕ) (r : Option Choice) → r ≡ choice_of (slice_get k i) (slice_get l j) → i ≤ length k → j ≤ length l
+    → MatchOption r ((length k ≤ i) × (length l ≤ j)) (Chosen k l i j)
+chosen k l i j r e hi hj =
+    let x = get_or k i no_view in
+    let y = get_or l j no_view in
+    let at_x = drop_here k i in
+    let at_y = drop_here l j in
+    rw e
+    (⊎_elim
+    (λ (t : ltb i (length k) ≡ true).
+    let p : i < length k = ltb-true i (length k) t in
+    ⊎_elim
+    (λ (u : ltb j (length l) ≡ true). rw (here k i t, here l j u) (either k l i j x y at_x at_y p (ltb-true j (length l) u)))
+    (λ (u : ltb j (length l) ≡ false). rw (here k i t, past l j u) (only_x k l i j x y at_x at_y p (ltb-false j (length l) u) hj))
+    (known (ltb j (length l))))
+    (λ (t : ltb i (length k) ≡ false).
+    let p : length k ≤ i = ltb-false i (length k) t in
+    ⊎_elim
+    (λ (u : ltb j (length l) ≡ true). rw (past k i t, here l j u) (only-y k l i j x y at_x at_y p hi (ltb-true j (length l) u)))
+    (λ (u : ltb j (length l) ≡ false). rw (past k i t, past l j u) (p, ltb-false j (length l) u))
+    (known (ltb j (length l))))
+    (known (ltb i (length k))))

@@ -1,5 +1,5 @@
 -- One step of a union: which of two views comes next, and how many of each list it takes.
-use Rattle.std.specs.Prelude.{Bool, true, false, cond, ℕ, eqb, ltb}
+use Rattle.std.specs.Prelude.{cond, ℕ, eqb, ltb, Option, Some, None}
 use Rattle.views.specs.declared.View.{View}
 use Rattle.views.specs.declared.list.Choice.{Choice}
 use Rattle.views.specs.Lists.{id_of}
@@ -7,9 +7,10 @@ use Rattle.views.specs.Lists.{id_of}
 abbrev pub choice : View → ℕ → ℕ → Choice
 choice v l r = record { view = v; left = l; right = r }
 
--- the first list's view x, if it has one, and the second's y: the lower, and of one identifier x for both
-abbrev pub choice_of : Bool → View → Bool → View → Choice
-choice_of false x hy y = choice y 0 1
-choice_of true x false y = choice x 1 0
-choice_of true x true y =
-    cond (ltb (id_of y) (id_of x)) (choice y 0 1) (cond (eqb (id_of x) (id_of y)) (choice x 1 1) (choice x 1 0))
+-- the first list's view, if it has one, and the second's: the lower, and of one identifier the first list's for both
+abbrev pub choice_of : Option View → Option View → Option Choice
+choice_of None None = None
+choice_of None (Some y) = Some (choice y 0 1)
+choice_of (Some x) None = Some (choice x 1 0)
+choice_of (Some x) (Some y) =
+    Some (cond (ltb (id_of y) (id_of x)) (choice y 0 1) (cond (eqb (id_of x) (id_of y)) (choice x 1 1) (choice x 1 0)))

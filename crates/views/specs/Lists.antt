@@ -1,9 +1,8 @@
 -- Lists of views, rising by identifier: the definitions on plain lists, and how a list lies in the places of a record.
-use Rattle.std.specs.Prelude.{Bool, true, cond, List, [], ◌∷◌, ◌++◌, ℕ, eqb, ltb, length, take, replicate}
+use Rattle.std.specs.Prelude.{Bool, true, cond, List, [], ◌∷◌, ◌++◌, ℕ, eqb, ltb, length, take, replicate, Option}
 use Rattle.views.specs.declared.View.{View}
 use Rattle.views.specs.declared.list.Views.{Views}
-use Rattle.views.specs.declared.list.Lookup.{Lookup}
-use Rattle.views.specs.declared.list.Lookup.TheVariants.{Found, Missing}
+use Rattle.std.specs.Prelude.{Some, None}
 use Rattle.views.specs.Limits.{max_views}
 use Rattle.views.specs.Sets.{both}
 
@@ -26,9 +25,9 @@ is_rising [] = true
 is_rising (v ∷ l) = rises_above (id_of v) l
 
 -- the first view with the identifier g
-unfoldable pub find_of : ℕ → List View → Lookup
-find_of g [] = Missing
-find_of g (v ∷ l) = cond (eqb (id_of v) g) (Found v) (find_of g l)
+unfoldable pub find_of : ℕ → List View → Option View
+find_of g [] = None
+find_of g (v ∷ l) = cond (eqb (id_of v) g) (Some v) (find_of g l)
 
 -- x put before the first view that is not below it, unless that one has its identifier
 unfoldable pub insert_of : View → List View → List View

@@ -1,5 +1,5 @@
 -- The number of each refusal, as the table 'Where each refusal is checked' has it.
-use Rattle.std.specs.Prelude.{Bool, true, false, ℕ}
+use Rattle.std.specs.Prelude.{Bool, true, false, ℕ, Result, Ok, Err}
 use Rattle.views.specs.declared.refusal.Refusal.{Refusal}
 use Rattle.views.specs.declared.refusal.Refusal.TheVariants.{MembersOutOfRange, FirstSetUnfit, ListLength}
 use Rattle.views.specs.declared.refusal.Refusal.TheVariants.{RecordsUnsound, UnknownStep, NoSuchMember, SetUnfit}
@@ -15,8 +15,6 @@ use Rattle.views.specs.declared.refusal.Refusal.TheVariants.{SectionCount, Empty
 use Rattle.views.specs.declared.refusal.Refusal.TheVariants.{BytesLeftOver, BufferTooShort, LineUnreadable}
 use Rattle.views.specs.declared.refusal.Refusal.TheVariants.{AnotherView, SenderNotInView, TooManyOpen}
 use Rattle.views.specs.declared.refusal.Refusal.TheVariants.{ViewNotFresh, FormTestFailed, TooFewPlaces}
-use Rattle.views.specs.declared.refusal.Verdict.{Verdict}
-use Rattle.views.specs.declared.refusal.Verdict.TheVariants.{Accepted, Refused}
 
 abbrev pub number_of : Refusal → ℕ
 number_of MembersOutOfRange = 1
@@ -66,22 +64,37 @@ number_of ViewNotFresh = 44
 number_of FormTestFailed = 45
 number_of TooFewPlaces = 46
 
--- 0 for accepted, or the refusal's number
-abbrev pub code_of : Verdict → ℕ
-code_of Accepted = 0
-code_of (Refused r) = number_of r
+-- what every call answers: accepted, or one refusal
+abbrev pub Verdict : Type 0
+Verdict = Result (Unit {0}) Refusal
 
--- what follows if the condition is met, else the refusal
-unfoldable pub require : Bool → Refusal → Verdict → Verdict
-require true r rest = rest
-require false r rest = Refused r
+module _ {A : Type 0} where
+  -- 0 for accepted, or the refusal's number
+  abbrev pub code_of : Result A Refusal → ℕ
+  code_of (Ok x) = 0
+  code_of (Err r) = number_of r
 
--- one verdict, and if it is accepted another
-unfoldable pub and_then : Verdict → Verdict → Verdict
-and_then Accepted rest = rest
-and_then (Refused r) rest = Refused r
+  -- what follows if the condition is met, else the refusal
+  unfoldable pub require : Bool → Refusal → Result A Refusal → Result A Refusal
+  require true r rest = rest
+  require false r rest = Err r
+
+-- the verdict of a result: whether it is accepted, whatever it gives
+abbrev pub verdict_given : {A : Type 0} → Result A Refusal → Verdict
+verdict_given (Ok x) = Ok tt
+verdict_given (Err r) = Err r
+
+-- what is made of what is given
+unfoldable pub after : {A B : Type 0} → Result A Refusal → (A → Result B Refusal) → Result B Refusal
+after (Ok x) f = f x
+after (Err r) f = Err r
+
+-- one result, and if it is accepted another
+unfoldable pub and_then : {A B : Type 0} → Result A Refusal → Result B Refusal → Result B Refusal
+and_then (Ok x) rest = rest
+and_then (Err r) rest = Err r
 
 -- the new ones where a step was accepted, else those that were there
-unfoldable pub left : {A : Type 0} → Verdict → A → A → A
-left Accepted new old = new
-left (Refused r) new old = old
+unfoldable pub left : {A B : Type 0} → Result B Refusal → A → A → A
+left (Ok x) new old = new
+left (Err r) new old = old

@@ -13,12 +13,6 @@ pub struct Views {
     pub at: [View; limits::VIEWS],
 }
 
-#[derive(Clone, Copy)]
-pub enum Lookup {
-    Found(View),
-    Missing,
-}
-
 // The next view of two lists, and how many of each list it takes.
 #[derive(Clone, Copy)]
 pub struct Choice {
@@ -27,10 +21,17 @@ pub struct Choice {
     pub right: usize,
 }
 
+// What an unused place holds.
+const NONE: View = View {
+    id: ViewId(0),
+    set: 0,
+};
+
 // How many places a count makes use of.
 pub fn used(count: usize) -> usize
     ensures { result ≡ min count max_views }
 {
+    // min is slower here: the loops over the used places then lose what the compiler knows of their bound.
     if count < limits::VIEWS {
         count
     } else {
@@ -42,103 +43,53 @@ pub fn used(count: usize) -> usize
 pub fn rising(list: Views) -> bool
     ensures { result ≡ is_rising (list_of list) }
 {
-    let n = used(list.count);
-    let mut i = 1;
-    while i < n {
-        let before = list.at[i - 1];
-        let v = list.at[i];
-        if v.id.0 <= before.id.0 {
-            return false;
-        }
-        i += 1;
-    }
-    true
+    list.at[..used(list.count)].is_sorted_by(|v, w| v.id < w.id)
 }
 
 // The view with the identifier.
-pub fn find(list: Views, id: ViewId) -> Lookup
+pub fn find(list: Views, id: ViewId) -> Option<View>
     ensures { result ≡ find_of id.0 (list_of list) }
 {
-    let n = used(list.count);
-    let mut i = 0;
-    while i < n {
-        let v = list.at[i];
-        if v.id.0 == id.0 {
-            return Lookup::Found(v);
-        }
-        i += 1;
-    }
-    Lookup::Missing
+    list.at[..used(list.count)]
+        .iter()
+        .find(|v| v.id == id)
+        .copied()
 }
 
-// The next view of two lists that stand at x and y, as far as either has one.
-pub fn choose(has_x: bool, x: View, has_y: bool, y: View) -> Choice
-    ensures { result ≡ choice_of has_x x has_y y }
+// The next view of two lists that stand at x and y, none where neither list has one.
+pub fn choose(x: Option<View>, y: Option<View>) -> Option<Choice>
+    ensures { result ≡ choice_of x y }
 {
-    if !has_x {
-        return Choice {
-            view: y,
-            left: 0,
-            right: 1,
-        };
-    }
-    if !has_y {
-        return Choice {
-            view: x,
-            left: 1,
-            right: 0,
-        };
-    }
-    if y.id.0 < x.id.0 {
-        return Choice {
-            view: y,
-            left: 0,
-            right: 1,
-        };
-    }
-    if x.id.0 == y.id.0 {
-        return Choice {
-            view: x,
-            left: 1,
-            right: 1,
-        };
-    }
-    Choice {
-        view: x,
-        left: 1,
-        right: 0,
-    }
+    let (view, left, right) = match (x, y) {
+        (None, None) => return None,
+        (None, Some(y)) => (y, 0, 1),
+        (Some(x), None) => (x, 1, 0),
+        (Some(x), Some(y)) if y.id < x.id => (y, 0, 1),
+        (Some(x), Some(y)) if x.id == y.id => (x, 1, 1),
+        (Some(x), Some(_)) => (x, 1, 0),
+    };
+    Some(Choice { view, left, right })
 }
 
 // The list with a view in its place, unless its identifier is there already.
 pub fn insert(list: Views, v: View) -> Views
     ensures { result ≡ placed (insert_of v (list_of list)) }
 {
-    let n = used(list.count);
-    let none = View {
-        id: ViewId(0),
-        set: 0,
-    };
-    let mut at = [none; limits::VIEWS];
+    let mut at = [NONE; limits::VIEWS];
     let mut k = 0;
     let mut ahead = true;
-    let mut i = 0;
-    while i < n {
-        let w = list.at[i];
-        if ahead {
-            if v.id.0 <= w.id.0 {
-                ahead = false;
-                if v.id.0 < w.id.0 {
-                    at[k] = v;
-                    k += 1;
-                }
+    for w in &list.at[..used(list.count)] {
+        if ahead && v.id <= w.id {
+            ahead = false;
+            if v.id < w.id {
+                at[k] = v;
+                k += 1;
             }
         }
         if k < limits::VIEWS {
-            at[k] = w;
+            at[k] = *w;
         }
         k += 1;
-        i += 1;
     }
     if ahead {
         if k < limits::VIEWS {
@@ -153,21 +104,13 @@ pub fn insert(list: Views, v: View) -> Views
 pub fn prune(list: Views, floor: ViewId) -> Views
     ensures { result ≡ placed (above_of floor.0 (list_of list)) }
 {
-    let n = used(list.count);
-    let none = View {
-        id: ViewId(0),
-        set: 0,
-    };
-    let mut at = [none; limits::VIEWS];
+    let mut at = [NONE; limits::VIEWS];
     let mut k = 0;
-    let mut i = 0;
-    while i < n {
-        let v = list.at[i];
-        if floor.0 < v.id.0 {
-            at[k] = v;
+    for v in &list.at[..used(list.count)] {
+        if floor < v.id {
+            at[k] = *v;
             k += 1;
         }
-        i += 1;
     }
     Views { count: k, at }
 }

@@ -1,143 +1,94 @@
-// The refusals, by name; `number` gives each its number.
+// The refusals, each with its number.
 ghost use Rattle.std.specs.Prelude.{◌≡◌};
 ghost use Rattle.views.specs.Refusals.{number_of, code_of};
 
-#[derive(Clone, Copy)]
+#[derive(Clone, Copy, Debug, PartialEq, Eq)]
 pub enum Refusal {
     // start
-    MembersOutOfRange,
-    FirstSetUnfit,
-    ListLength,
+    MembersOutOfRange = 1,
+    FirstSetUnfit = 2,
+    ListLength = 3,
     // every step
-    RecordsUnsound,
-    UnknownStep,
-    NoSuchMember,
+    RecordsUnsound = 4,
+    UnknownStep = 5,
+    NoSuchMember = 6,
     // create
-    SetUnfit,
-    IdentifierNotAbove,
-    ListFull,
+    SetUnfit = 7,
+    IdentifierNotAbove = 8,
+    ListFull = 9,
     // join
-    NoSuchView,
-    NotInSet,
-    NotAboveCarrier,
+    NoSuchView = 10,
+    NotInSet = 11,
+    NotAboveCarrier = 12,
     // pass
-    NoCarrierView,
-    NoneOutgoing,
-    WaitingFull,
+    NoCarrierView = 13,
+    NoneOutgoing = 14,
+    WaitingFull = 15,
     // order
-    OrderFull,
-    NoneWaiting,
+    OrderFull = 16,
+    NoneWaiting = 17,
     // deliver
-    NoneToDeliver,
+    NoneToDeliver = 18,
     // attempt
-    NotAboveClient,
-    InfoMissing,
-    TestFailed,
+    NotAboveClient = 19,
+    InfoMissing = 20,
+    TestFailed = 21,
     // register
-    NoClientView,
-    AlreadyRegistered,
-    OutgoingFull,
+    NoClientView = 22,
+    AlreadyRegistered = 23,
+    OutgoingFull = 24,
     // hand
-    NoneToHand,
+    NoneToHand = 25,
     // tell
-    ClientNotCarrier,
-    NothingNewToTell,
+    ClientNotCarrier = 26,
+    NothingNewToTell = 27,
     // safe
-    NoneToReport,
-    ToldTooLow,
+    NoneToReport = 28,
+    ToldTooLow = 29,
     // collect
-    NotAboveSettled,
-    RegistrationMissing,
+    NotAboveSettled = 30,
+    RegistrationMissing = 31,
     // reader
-    EndsEarly,
-    UnknownKind,
-    SectionCount,
-    EmptySet,
-    NotRising,
-    ToldOutOfRange,
-    BytesLeftOver,
+    EndsEarly = 32,
+    UnknownKind = 33,
+    SectionCount = 34,
+    EmptySet = 35,
+    NotRising = 36,
+    ToldOutOfRange = 37,
+    BytesLeftOver = 38,
     // writer
-    BufferTooShort,
+    BufferTooShort = 39,
     // bench
-    LineUnreadable,
+    LineUnreadable = 40,
     // member by itself
-    AnotherView,
-    SenderNotInView,
-    TooManyOpen,
+    AnotherView = 41,
+    SenderNotInView = 42,
+    TooManyOpen = 43,
     // driver
-    ViewNotFresh,
-    FormTestFailed,
+    ViewNotFresh = 44,
+    FormTestFailed = 45,
     // the crossing query
-    TooFewPlaces,
+    TooFewPlaces = 46,
 }
 
-// The refusal's number.
-pub fn number(r: Refusal) -> u8
-    ensures { result ≡ number_of r }
-{
-    match r {
-        Refusal::MembersOutOfRange => 1,
-        Refusal::FirstSetUnfit => 2,
-        Refusal::ListLength => 3,
-        Refusal::RecordsUnsound => 4,
-        Refusal::UnknownStep => 5,
-        Refusal::NoSuchMember => 6,
-        Refusal::SetUnfit => 7,
-        Refusal::IdentifierNotAbove => 8,
-        Refusal::ListFull => 9,
-        Refusal::NoSuchView => 10,
-        Refusal::NotInSet => 11,
-        Refusal::NotAboveCarrier => 12,
-        Refusal::NoCarrierView => 13,
-        Refusal::NoneOutgoing => 14,
-        Refusal::WaitingFull => 15,
-        Refusal::OrderFull => 16,
-        Refusal::NoneWaiting => 17,
-        Refusal::NoneToDeliver => 18,
-        Refusal::NotAboveClient => 19,
-        Refusal::InfoMissing => 20,
-        Refusal::TestFailed => 21,
-        Refusal::NoClientView => 22,
-        Refusal::AlreadyRegistered => 23,
-        Refusal::OutgoingFull => 24,
-        Refusal::NoneToHand => 25,
-        Refusal::ClientNotCarrier => 26,
-        Refusal::NothingNewToTell => 27,
-        Refusal::NoneToReport => 28,
-        Refusal::ToldTooLow => 29,
-        Refusal::NotAboveSettled => 30,
-        Refusal::RegistrationMissing => 31,
-        Refusal::EndsEarly => 32,
-        Refusal::UnknownKind => 33,
-        Refusal::SectionCount => 34,
-        Refusal::EmptySet => 35,
-        Refusal::NotRising => 36,
-        Refusal::ToldOutOfRange => 37,
-        Refusal::BytesLeftOver => 38,
-        Refusal::BufferTooShort => 39,
-        Refusal::LineUnreadable => 40,
-        Refusal::AnotherView => 41,
-        Refusal::SenderNotInView => 42,
-        Refusal::TooManyOpen => 43,
-        Refusal::ViewNotFresh => 44,
-        Refusal::FormTestFailed => 45,
-        Refusal::TooFewPlaces => 46,
+impl Refusal {
+    // The refusal's number.
+    pub fn number(self) -> u8
+        ensures { result ≡ number_of self }
+    {
+        self as u8
     }
 }
 
 // What every call answers: the result is given, or one refusal.
-#[derive(Clone, Copy)]
-pub enum Verdict {
-    Accepted,
-    Refused(Refusal),
-}
+pub type Verdict = Result<(), Refusal>;
 
 // 0 for accepted, or the refusal's number.
 pub fn code(v: Verdict) -> u8
     ensures { result ≡ code_of v }
 {
     match v {
-        Verdict::Accepted => 0,
-        Verdict::Refused(r) => number(r),
+        Ok(()) => 0,
+        Err(r) => r.number(),
     }
 }

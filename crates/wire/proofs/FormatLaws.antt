@@ -1,17 +1,14 @@
--- What the format's tests say of counts, and the test for an empty set a view at a time.
-use mathlib.Core.Path.{◌≡◌}
-use mathlib.Core.Bool.{Bool, true, false, cond}
-use mathlib.Core.List.{List}
-use Prim.Native.Nat.{ℕ, ◌+◌, ◌<◌, ◌≤◌}
-use native.Mathlib.Numerals.{add-one}
+-- What the format's tests say of counts, and the test for an empty set as a test of any view.
+use mathlib.Core.Path.{◌≡◌, refl, sym}
+use mathlib.Core.Bool.{Bool, true, false, cond, ◌||◌}
+use mathlib.Core.List.{List, [], ◌∷◌}
+use Prim.Native.Nat.{ℕ, ◌≤◌}
 use native.Mathlib.Omega.{arith}
 use borrow.Author.Tests.{leb-true, eqb-true}
 use lib.Dec.{eqb, leb}
-use lib.ListN.{length, get_or, take, drop}
-use lib.Seq.{drop-cons, get_or-take}
+use Rattle.std.specs.List.{list_any}
 use Rattle.views.specs.declared.View.{View}
 use Rattle.views.specs.Limits.{max_views}
-use Rattle.views.specs.Lists.{no_view}
 use Rattle.views.specs.Sets.{both, is_empty}
 use Rattle.views.proofs.SetLaws.{both_true}
 use Rattle.wire.specs.Format.{views_allowed, numbers_allowed, some_empty}
@@ -34,7 +31,12 @@ pub numbers-few : (kind n : ℕ) → numbers_allowed kind n ≡ true → n ≤ 1
 unfolding numbers_allowed
 numbers-few kind n e = few-numbers (eqb kind 1) (eqb kind 4) n e
 
-pub empty-turn : (n i : ℕ) (l : List View) → i < n → i < length (take n l)
-    → some_empty (drop i (take n l)) ≡ cond (is_empty (get_or l i no_view).set) true (some_empty (drop (i + 1) (take n l)))
+-- the definition's form of a test that is met here or behind
+pub or-cond : (a b : Bool) → cond a true b ≡ (a || b)
+or-cond true b = refl
+or-cond false b = refl
+
+pub empty-any : (l : List View) → list_any (λ (v : View). is_empty v.set) l ≡ some_empty l
 unfolding some_empty
-empty-turn n i l h k = rw (drop-cons (take n l) i no_view k, get_or-take n l i no_view h, add-one i)
+empty-any [] = refl
+empty-any (v ∷ l) = rw (empty-any l) (sym (or-cond (is_empty v.set) (some_empty l)))

@@ -11,37 +11,36 @@ use Rattle.numbers.specs.Number.{get}
 use Rattle.views.specs.declared.View.{View}
 use Rattle.views.specs.declared.refusal.Refusal.{Refusal}
 use Rattle.views.specs.declared.refusal.Refusal.TheVariants.{EmptySet, NotRising, ToldOutOfRange, BytesLeftOver}
-use Rattle.views.specs.declared.refusal.Verdict.TheVariants.{Accepted, Refused}
-use Rattle.views.specs.Refusals.{require}
+use Rattle.std.specs.Prelude.{Ok, Err}
+use Rattle.views.specs.Refusals.{require, verdict_given}
 use Rattle.views.specs.Limits.{max_ordered}
 use Rattle.views.specs.Sets.{both}
 use Rattle.views.specs.Lists.{is_rising}
-use Rattle.wire.specs.declared.Front.{Front}
 use Rattle.wire.specs.declared.Reading.{Reading}
 use Rattle.wire.specs.Format.{some_empty, told_fits, content_of, views_allowed, numbers_allowed}
-use Rattle.wire.specs.Reader.{kind_in, view_count, numbers_place, number_count, end_of, number_in, frame_in, scan_of, whole_of, refused, read_front, front_of}
+use Rattle.wire.specs.Reader.{kind_in, view_count, numbers_place, number_count, end_of, number_in, frame_in, scan_of, whole_of, read_front, front_of}
 use Rattle.wire.specs.Single.{read_one}
-use Rattle.wire.proofs.VerdictLaws.{given-refused, given-twice}
-use Rattle.wire.proofs.ReaderLaws.{a-number, front-refused, front_read, read-refused, read-over, read_all}
-use Rattle.wire.proofs.TripRead.{scanned, front-met}
+use Rattle.views.proofs.VerdictLaws.{after-ok, after-err, after-met, after-refused, given-met}
+use Rattle.wire.proofs.ReaderLaws.{a-number, front-unshaped, front-refused, front_read, read-refused, read-over, read_all}
+use Rattle.wire.proofs.TripRead.{scanned, front-met, front-is}
 use Rattle.wire.proofs.RoundTrip.{read-takes-all}
 
 -- ---- 35 to 37, of a kind with the views l and the number x
 
 module _ (kind : ℕ) (l : List View) (x : ℕ) where
-  pub content-empty : some_empty l ≡ true → content_of kind l x ≡ Refused EmptySet
+  pub content-empty : some_empty l ≡ true → content_of kind l x ≡ Err EmptySet
   unfolding content_of require
   content-empty e = rw e
 
-  pub content-falling : some_empty l ≡ false → is_rising l ≡ false → content_of kind l x ≡ Refused NotRising
+  pub content-falling : some_empty l ≡ false → is_rising l ≡ false → content_of kind l x ≡ Err NotRising
   unfolding content_of require
   content-falling e f = rw (e, f)
 
-  pub content-told : some_empty l ≡ false → is_rising l ≡ true → told_fits kind x ≡ false → content_of kind l x ≡ Refused ToldOutOfRange
+  pub content-told : some_empty l ≡ false → is_rising l ≡ true → told_fits kind x ≡ false → content_of kind l x ≡ Err ToldOutOfRange
   unfolding content_of require
   content-told e f t = rw (e, f, t)
 
-  pub content-fine : some_empty l ≡ false → is_rising l ≡ true → told_fits kind x ≡ true → content_of kind l x ≡ Accepted
+  pub content-fine : some_empty l ≡ false → is_rising l ≡ true → told_fits kind x ≡ true → content_of kind l x ≡ Ok tt
   unfolding content_of require
   content-fine e f t = rw (e, f, t)
 
@@ -56,7 +55,7 @@ other_fits kind x h = rw (ne_eqb kind 4 h)
 
 module _ (b : List ℕ) where
   -- a told carries no views and one number, which stands at 7
-  module _ (scan : scan_of b ≡ Accepted) (told : kind_in b ≡ 4) where
+  module _ (scan : scan_of b ≡ Ok tt) (told : kind_in b ≡ 4) where
     pub no-views : view_count b ≡ 0
     unfolding views_allowed
     no-views = let t = (scanned b scan).views in eqb-true _ _ (rw told at t)
@@ -72,58 +71,46 @@ module _ (b : List ℕ) where
 
   -- ---- the message at the front
 
-  ahead : Reading → Front
-  ahead x = record { verdict = x.verdict; taken = x.taken }
+  pub front-shape : (r : Refusal) → scan_of b ≡ Err r → front_of b ≡ Err r
+  front-shape r s = after-err _ (front-unshaped b r s)
 
-  pub front-shape : (r : Refusal) → scan_of b ≡ Refused r → record { verdict = Refused r; taken = 0 } ≡ front_of b
-  unfolding ahead read_front
-  front-shape r s = ap ahead (sym (given-refused r _ s))
+  pub front-content : scan_of b ≡ Ok tt → (r : Refusal) → whole_of b ≡ Err r → front_of b ≡ Err r
+  front-content s r w = after-err _ (front-refused b r s w)
 
-  pub front-content : scan_of b ≡ Accepted → (r : Refusal) → whole_of b ≡ Refused r → record { verdict = Refused r; taken = 0 } ≡ front_of b
-  unfolding ahead
-  front-content s r w = ap ahead (sym (front-refused b r s w))
+  pub front-whole : scan_of b ≡ Ok tt → whole_of b ≡ Ok tt → front_of b ≡ Ok (end_of b)
+  front-whole s w = after-ok _ (front_read b _ _ _ s w refl refl refl)
 
-  pub front-whole : scan_of b ≡ Accepted → whole_of b ≡ Accepted → record { verdict = Accepted; taken = end_of b } ≡ front_of b
-  unfolding ahead
-  front-whole s w = ap ahead (sym (front_read b _ _ _ s w refl refl refl))
+  -- what was refused at the front
+  module _ (r : Refusal) (e : front_of b ≡ Err r) where
+    pub refused-front : read_front b ≡ Err r
+    refused-front = after-refused (read_front b) _ e
 
-  -- what was refused or accepted at the front, f
-  module _ (f : Front) (e : f ≡ front_of b) where
-    same : f.verdict ≡ (read_front b).verdict
-    same = ap (λ (x : Front). x.verdict) e
+    -- and of the bytes as one message
+    pub says-refused : read_one b ≡ Err r
+    says-refused = read-refused b r refused-front
 
-    took : f.taken ≡ (read_front b).taken
-    took = ap (λ (x : Front). x.taken) e
+  -- what was accepted there, of n bytes
+  module _ (n : ℕ) (e : front_of b ≡ Ok n) where
+    took : (x : Reading) × (read_front b ≡ Ok x) × (x.taken ≡ n)
+    took = let (x, r, t) = after-met (read_front b) _ e in (x, r, cc)
 
-    pub refused-front : (r : Refusal) → f.verdict ≡ Refused r → read_front b ≡ refused r
-    unfolding read_front
-    refused-front r v = given-twice (scan_of b) (whole_of b) _ r (λ _. refl) (sym same ∙ v)
+    pub scan-front : scan_of b ≡ Ok tt
+    scan-front = let (x, r, _) = took in (front-met b r).0
 
-    module _ (v : f.verdict ≡ Accepted) where
-      pub scan-front : scan_of b ≡ Accepted
-      scan-front = (front-met b (sym same ∙ v)).0
+    pub read-from : read_front b ≡ Ok (record { taken = n; frame = frame_in b })
+    read-from =
+        let (x, r, t) = took in
+        let i : x ≡ record { taken = end_of b; frame = frame_in b } = front-is b r in
+        let k : end_of b ≡ n = sym (ap (λ (y : Reading). y.taken) i) ∙ t in
+        r ∙ rw (i, k)
 
-      pub read-from : read_front b ≡ record { verdict = Accepted; taken = f.taken; frame = frame_in b }
-      read-from =
-          let r : read_front b ≡ record { verdict = Accepted; taken = end_of b; frame = frame_in b } = front_read b _ _ _ scan-front (front-met b (sym same ∙ v)).1 refl refl refl in
-          let n : f.taken ≡ end_of b = took ∙ ap (λ (x : Reading). x.taken) r in
-          rw n r
+    -- and of the bytes as one message
+    pub says-over : n < length b → read_one b ≡ Err BytesLeftOver
+    says-over h = read-over b _ read-from h
 
-    -- ---- and of the bytes as one message
-
-    pub says-refused : (r : Refusal) → f.verdict ≡ Refused r → Refused r ≡ (read_one b).verdict
-    says-refused r v = ap (λ (x : Reading). x.verdict) (sym (read-refused b (read_front b) r refl (sym same ∙ v)))
-
-    pub says-over : f.verdict ≡ Accepted → f.taken < length b → Refused BytesLeftOver ≡ (read_one b).verdict
-    says-over v h = ap (λ (x : Reading). x.verdict) (sym (read-over b (read_front b) refl (sym same ∙ v) (rw (← took) h)))
-
-    pub says_all : f.verdict ≡ Accepted → length b ≤ f.taken → Accepted ≡ (read_one b).verdict
-    says_all v h = sym (sym same ∙ v) ∙ ap (λ (x : Reading). x.verdict) (sym (read_all b (read_front b) refl (sym same ∙ v) (rw (← took) h)))
-
-  pub refused-whole : (r : Refusal) → (read_one b).verdict ≡ Refused r → read_one b ≡ refused r
-  unfolding read_one
-  refused-whole r v = given-twice (read_front b).verdict _ (read_front b) r (λ e. e) v
+    pub says_all : length b ≤ n → read_one b ≡ Ok (record { taken = n; frame = frame_in b })
+    says_all h = read_all b _ read-from h
 
   -- bytes that are one message are read as at the front
-  pub at_front : (read_one b).verdict ≡ Accepted → (read_front b).verdict ≡ Accepted
-  at_front v = rw (read-takes-all b v).0 at v
+  pub at_front : verdict_given (read_one b) ≡ Ok tt → (r : Reading) × (read_one b ≡ Ok r) × (read_front b ≡ Ok r)
+  at_front v = let (r, e) = given-met (read_one b) v in (r, e, (read-takes-all b e).0)

@@ -9,7 +9,7 @@ use borrow.Author.Tests.{lt-ltb, le-ltb, lt-leb, le-leb, eq-eqb, ne_eqb}
 use lib.Dec.{leb}
 use lib.ListN.{get_or}
 use Rattle.views.specs.declared.View.{View}
-use Rattle.views.specs.declared.list.Lookup.TheVariants.{Found, Missing}
+use Rattle.std.specs.Prelude.{Some, None}
 use Rattle.views.specs.Limits.{max_ordered}
 use Rattle.views.specs.Lists.{id_of, is_rising, rises_above, find_of}
 use Rattle.views.specs.Sets.{both}
@@ -61,9 +61,9 @@ module _ (b : List ℕ) (at n i : ℕ) (h : i < n) where
     unfolding rises_above
     rises-on g k = rw (rows-turn, ← read, lt-ltb g (id_of v) k)
 
-    pub find-here : (g : ℕ) → id_of v ≡ g → find_of g (views_in b (at + 5 * i) (n - i)) ≡ Found v
+    pub find-here : (g : ℕ) → id_of v ≡ g → find_of g (views_in b (at + 5 * i) (n - i)) ≡ Some v
     unfolding find_of
-    find-here g k = rw (rows-turn, eq-eqb (id_of (view_in b (at + 5 * i))) g (sym read ∙ k)) (ap (λ (w : View). Found w) (sym e))
+    find-here g k = rw (rows-turn, eq-eqb (id_of (view_in b (at + 5 * i))) g (sym read ∙ k)) (ap (λ (w : View). Some w) (sym e))
 
     pub find-on : (g : ℕ) → (id_of v ≡ g → ⊥) → find_of g (views_in b (at + 5 * i) (n - i)) ≡ find_of g (views_in b (at + 5 * (i + 1)) (n - (i + 1)))
     unfolding find_of
@@ -78,7 +78,7 @@ module _ (b : List ℕ) (at n : ℕ) (z : n ≡ 0) where
   unfolding rises_above views_in
   rises-end g = rw z
 
-  pub find-end : (g : ℕ) → find_of g (views_in b at n) ≡ Missing
+  pub find-end : (g : ℕ) → find_of g (views_in b at n) ≡ None
   unfolding find_of views_in
   find-end g = rw z
 
@@ -97,11 +97,3 @@ module _ (x high low : ℕ) (sum : x ≡ high * 4294967296 + low) where
   told-high h =
       let some : 0 < high = omega (arith, h) in
       rw (le-leb 1 x (omega arith), lt-leb x max_ordered (omega arith))
-
-  pub told_none : high ≡ 0 → low < 1 → both (leb 1 x) (leb x max_ordered) ≡ false
-  told_none e h = rw (lt-leb 1 x (omega arith))
-
-  pub told-low : high ≡ 0 → 1 ≤ low → leb low max_ordered ≡ both (leb 1 x) (leb x max_ordered)
-  told-low e h =
-      let same : x ≡ low = omega arith in
-      rw (le-leb 1 x (omega arith), same)

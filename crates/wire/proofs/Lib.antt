@@ -1,4 +1,3 @@
-pub mod VerdictLaws
 pub mod FormatLaws
 pub mod ReaderLaws
 pub mod DifferentLaws

@@ -11,15 +11,14 @@ use Rattle.views.specs.declared.View.{View}
 use Rattle.views.specs.declared.list.Views.{Views}
 use Rattle.views.specs.declared.refusal.Refusal.{Refusal}
 use Rattle.views.specs.declared.refusal.Refusal.TheVariants.{BytesLeftOver}
-use Rattle.views.specs.declared.refusal.Verdict.TheVariants.{Accepted, Refused}
+use Rattle.std.specs.Prelude.{Ok, Err}
 use Rattle.views.specs.Limits.{max_views}
 use Rattle.views.specs.Lists.{no_view, list_of, places, placed}
 use Rattle.wire.specs.declared.Message.{Message}
 use Rattle.wire.specs.declared.Reading.{Reading}
-use Rattle.wire.specs.Reader.{kind_in, view_in, views_in, view_count, numbers_place, number_count, end_of, number_in, message_of, scan_of, whole_of, refused, read_front}
+use Rattle.wire.specs.Reader.{kind_in, view_in, views_in, view_count, numbers_place, number_count, end_of, number_in, message_of, scan_of, whole_of, read_front}
 use Rattle.wire.specs.Single.{read_one}
-use Rattle.views.proofs.VerdictLaws.{need-met, need-unmet, need-accepted}
-use Rattle.wire.proofs.VerdictLaws.{given-accepted, given-refused}
+use Rattle.views.proofs.VerdictLaws.{need-met, need-unmet, need-accepted, then-accepted, then-refused, after-ok, after-err}
 use Rattle.views.proofs.PlaceLaws.{places-snoc, list-placed}
 use Rattle.wire.proofs.FormatLaws.{views-few, numbers-few}
 
@@ -73,7 +72,7 @@ pub record Shaped (b : List ℕ) : Type 0 where
   pub one : number_count b ≤ 1
   pub whole : end_of b ≤ length b
 
-pub shaped : (b : List ℕ) → scan_of b ≡ Accepted → Shaped b
+pub shaped : (b : List ℕ) → scan_of b ≡ Ok tt → Shaped b
 unfolding scan_of
 shaped b e =
     let s1 = (need-accepted _ _ _ e).1 in
@@ -104,26 +103,30 @@ a-number b e = rw e
 
 -- ---- the message at the front
 
-pub front-refused : (b : List ℕ) (r : Refusal) → scan_of b ≡ Accepted → whole_of b ≡ Refused r → read_front b ≡ refused r
+pub front-unshaped : (b : List ℕ) (r : Refusal) → scan_of b ≡ Err r → read_front b ≡ Err r
 unfolding read_front
-front-refused b r s w = given-accepted _ s ∙ given-refused r _ w
+front-unshaped b r s = then-refused r _ s
 
-pub front_read : (b : List ℕ) (g : ℕ) (m : Message) (l : Views) → scan_of b ≡ Accepted → whole_of b ≡ Accepted
-    → g ≡ get b 1 4 → m ≡ message_of (kind_in b) (number_in b) → l ≡ placed (views_in b 6 (view_count b))
-    → read_front b ≡ record { verdict = Accepted; taken = end_of b; frame = record { view = record { 0 = g }; message = m; views = l } }
+pub front-refused : (b : List ℕ) (r : Refusal) → scan_of b ≡ Ok tt → whole_of b ≡ Err r → read_front b ≡ Err r
 unfolding read_front
-front_read b g m l s w p q r = rw (p, q, r) (given-accepted _ s ∙ given-accepted _ w)
+front-refused b r s w = then-accepted _ s ∙ then-refused r _ w
+
+pub front_read : (b : List ℕ) (g : ℕ) (m : Message) (l : Views) → scan_of b ≡ Ok tt → whole_of b ≡ Ok tt
+    → g ≡ get b 1 4 → m ≡ message_of (kind_in b) (number_in b) → l ≡ placed (views_in b 6 (view_count b))
+    → read_front b ≡ Ok (record { taken = end_of b; frame = record { view = record { 0 = g }; message = m; views = l } })
+unfolding read_front
+front_read b g m l s w p q r = rw (p, q, r) (then-accepted _ s ∙ then-accepted _ w)
 
 -- ---- the bytes as one message: x is what stands at the front
 
-pub read-refused : (b : List ℕ) (x : Reading) (r : Refusal) → x ≡ read_front b → x.verdict ≡ Refused r → read_one b ≡ refused r
+pub read-refused : (b : List ℕ) (r : Refusal) → read_front b ≡ Err r → read_one b ≡ Err r
 unfolding read_one
-read-refused b x r e v = rw (← e) (given-refused r _ v)
+read-refused b r v = after-err _ v
 
-pub read-over : (b : List ℕ) (x : Reading) → x ≡ read_front b → x.verdict ≡ Accepted → x.taken < length b → read_one b ≡ refused BytesLeftOver
+pub read-over : (b : List ℕ) (x : Reading) → read_front b ≡ Ok x → x.taken < length b → read_one b ≡ Err BytesLeftOver
 unfolding read_one
-read-over b x e v h = rw (← e) (given-accepted _ v ∙ given-refused _ _ (need-unmet _ _ (lt-leb _ _ h)))
+read-over b x v h = after-ok _ v ∙ need-unmet _ _ (lt-leb _ _ h)
 
-pub read_all : (b : List ℕ) (x : Reading) → x ≡ read_front b → x.verdict ≡ Accepted → length b ≤ x.taken → read_one b ≡ x
+pub read_all : (b : List ℕ) (x : Reading) → read_front b ≡ Ok x → length b ≤ x.taken → read_one b ≡ Ok x
 unfolding read_one
-read_all b x e v h = rw (← e) (given-accepted _ v ∙ given-accepted _ (need-met _ _ (le-leb _ _ h)))
+read_all b x v h = after-ok _ v ∙ need-met _ _ (le-leb _ _ h)

@@ -13,14 +13,14 @@ use Rattle.numbers.specs.Number.{get}
 use Rattle.views.specs.declared.View.{View}
 use Rattle.views.specs.declared.ViewId.{ViewId}
 use Rattle.views.specs.declared.refusal.Refusal.TheVariants.{SectionCount}
-use Rattle.views.specs.declared.refusal.Verdict.TheVariants.{Accepted, Refused}
+use Rattle.views.specs.declared.refusal.Refusal.{Refusal}
+use Rattle.std.specs.Prelude.{Result, Ok, Err}
 use Rattle.views.specs.Limits.{max_views}
 use Rattle.views.specs.Refusals.{require}
 use Rattle.views.specs.Lists.{list_of}
 use Rattle.views.proofs.SetLaws.{known}
 use Rattle.wire.specs.declared.Message.{Message}
 use Rattle.wire.specs.declared.Frame.{Frame}
-use Rattle.wire.specs.declared.Written.{Written}
 use Rattle.wire.specs.Format.{kind_of, is_known, views_allowed, told_fits, content_of}
 use Rattle.wire.specs.Reader.{views_in, message_of}
 use Rattle.wire.specs.Writer.{number_of, frame_bytes, frame_verdict, frame_from, LiesAt, write_verdict, Wrote}
@@ -81,7 +81,8 @@ same-verdict : (f g : Frame) → f.message ≡ g.message → f.views.count ≡ g
 unfolding frame_verdict
 same-verdict f g m n l = rw (l, m, n)
 
-wrote-same : (f g : Frame) (a b : List ℕ) (w : Written) → frame_verdict f ≡ frame_verdict g → frame_bytes f ≡ frame_bytes g → Wrote f a b w → Wrote g a b w
+wrote-same : (f g : Frame) (a b : List ℕ) (w : Result ℕ Refusal) → frame_verdict f ≡ frame_verdict g → frame_bytes f ≡ frame_bytes g
+    → Wrote f a b w → Wrote g a b w
 unfolding write_verdict
 wrote-same f g a b w v y h = record { reply = h.reply ∙ rw (v, y); buffer = h.buffer ∙ rw (v, y) }
 
@@ -97,7 +98,7 @@ module _ (r : List ℕ) (k : is_known (get_or r 0 0) ≡ true) where
 
   -- ---- 34 to 37
 
-  pub record-crowded : views_allowed kind count ≡ false → frame_verdict (frame_of r) ≡ Refused SectionCount
+  pub record-crowded : views_allowed kind count ≡ false → frame_verdict (frame_of r) ≡ Err SectionCount
   unfolding frame_verdict frame_of require
   record-crowded v = rw (kind-back kind (counted kind number) (kind-of-known kind k), one_byte r 13, v)
 
@@ -110,7 +111,7 @@ module _ (r : List ℕ) (k : is_known (get_or r 0 0) ≡ true) where
 
   -- ---- written
 
-  module _ (v : frame_verdict (frame_of r) ≡ Accepted) where
+  module _ (v : frame_verdict (frame_of r) ≡ Ok tt) where
     allowed : views_allowed kind count ≡ true
     unfolding frame_verdict frame_of
     allowed = rw (kind-back kind (counted kind number) (kind-of-known kind k), one_byte r 13) at (need-accepted _ _ _ v).0
@@ -145,10 +146,10 @@ module _ (r : List ℕ) (k : is_known (get_or r 0 0) ≡ true) where
       unfolding frame_of
       same = same-verdict (frame_of r) (frame_from view m r 14 n) carried (one_byte r 13 ∙ sym en ∙ sym (length-views_in r 14 n)) laid
 
-      pub from-accepted : frame_verdict (frame_from view m r 14 n) ≡ Accepted
+      pub from-accepted : frame_verdict (frame_from view m r 14 n) ≡ Ok tt
       from-accepted = sym same ∙ v
 
-      pub from-wrote : (a b : List ℕ) (w : Written) → Wrote (frame_from view m r 14 n) a b w → Wrote (frame_of r) a b w
+      pub from-wrote : (a b : List ℕ) (w : Result ℕ Refusal) → Wrote (frame_from view m r 14 n) a b w → Wrote (frame_of r) a b w
       unfolding frame_of
       from-wrote a b w h =
           wrote-same (frame_from view m r 14 n) (frame_of r) a b w (sym same) (rw (ev, carried, laid)) h

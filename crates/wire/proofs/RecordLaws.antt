@@ -12,7 +12,7 @@ use lib.Seq.{length-take-le, take_at, paste, length-paste, take-paste}
 use Rattle.numbers.specs.Number.{get, put, digits}
 use Rattle.numbers.proofs.NumberLaws.{length_digits}
 use Rattle.views.specs.declared.View.{View}
-use Rattle.views.specs.declared.refusal.Verdict.TheVariants.{Accepted}
+use Rattle.std.specs.Prelude.{Ok}
 use Rattle.views.specs.Limits.{max_views, max_ordered}
 use Rattle.views.specs.Sets.{both}
 use Rattle.views.specs.Lists.{no_view, places}
@@ -20,14 +20,14 @@ use Rattle.views.proofs.SetLaws.{known, both_true}
 use Rattle.views.proofs.PlaceLaws.{places-short}
 use Rattle.wire.specs.declared.Frame.{Frame}
 use Rattle.wire.specs.Format.{kind_of, view_bytes, views_bytes, told_fits}
-use Rattle.wire.specs.Reader.{kind_in, view_count, views_in, number_in, read_front}
+use Rattle.wire.specs.Reader.{kind_in, view_count, views_in, number_in, frame_in, scan_of, whole_of}
 use Rattle.wire.specs.Widths.{AreBytes}
 use Rattle.wire.specs.Writer.{number_of, overwritten}
 use Rattle.wire.specs.Records.{record_size, head_bytes, record_bytes, counted}
 use Rattle.wire.proofs.SeamLaws.{byte-seam, number-seam, length-views_bytes, views_bytes-append}
-use Rattle.wire.proofs.ReaderLaws.{length-views_in, front_read}
+use Rattle.wire.proofs.ReaderLaws.{length-views_in}
 use Rattle.wire.proofs.TripViews.{views-again}
-use Rattle.wire.proofs.TripRead.{front-met, scanned, message-read}
+use Rattle.wire.proofs.TripRead.{scanned, message-read}
 
 -- ---- stored
 
@@ -91,19 +91,18 @@ views-put b from at n k z c d size few h y ek ez ec ed =
     (append_assoc (take 14 b) (views_bytes l) (replicate (5 * (max_views - length l)) 0))
 
 -- the record of the message at the front of the bytes b: c after what stands before the views, d after the views
-pub record-stored : (b : List ℕ) → AreBytes b → (read_front b).verdict ≡ Accepted → (g x : ℕ) (out c d : List ℕ)
+pub record-stored : (b : List ℕ) → AreBytes b → scan_of b ≡ Ok tt → whole_of b ≡ Ok tt → (g x : ℕ) (out c d : List ℕ)
     → g ≡ get b 1 4 → x ≡ number_in b → c ≡ overwritten (head_bytes (kind_in b) g x (view_count b)) out
     → d ≡ take 14 c ++ views_bytes (places (views_in b 6 (view_count b)))
-    → d ≡ record_bytes (read_front b).frame
+    → d ≡ record_bytes (frame_in b)
 unfolding record_bytes
-record-stored b y v g x out c d eg ex ec ed =
-    let (scan, content) = front-met b v in
+record-stored b y scan content g x out c d eg ex ec ed =
     let a = message-read b y (scanned b scan) content in
     let head = head_bytes (kind_in b) g x (view_count b) in
     let front : take 14 c ≡ head =
     ap (take 14) ec ∙ take_at head (drop (length head) out) 14 (length-head (kind_in b) g x (view_count b))
     in
-    ed ∙ rw (front_read b _ _ _ scan content refl refl refl, front, a.kind-again, a.number-again, eg, ex, length-views_in b 6 (view_count b))
+    ed ∙ rw (front, a.kind-again, a.number-again, eg, ex, length-views_in b 6 (view_count b))
 
 -- ---- a told's count
 

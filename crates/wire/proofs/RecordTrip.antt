@@ -1,5 +1,5 @@
 -- Records and frames: the frame of a record's bytes is the frame they were stored from, and the record of a message, written and read again, is that record.
-use mathlib.Core.Path.{◌≡◌, refl, sym, ap, subst, ◌∙◌}
+use mathlib.Core.Path.{◌≡◌, refl, sym, ap, ◌∙◌}
 use mathlib.Core.Bool.{Bool, true, false, cond}
 use mathlib.Core.List.{List, [], ◌∷◌, ◌++◌, append_assoc, append-nil}
 use Prim.Native.Nat.{ℕ, zero, suc, ◌^◌, ◌<◌}
@@ -9,7 +9,8 @@ use lib.ListN.{length, get_or, take, replicate, length-append, length-take}
 use Rattle.numbers.specs.Number.{get, digits}
 use Rattle.numbers.proofs.NumberLaws.{length_digits, get-digits}
 use Rattle.views.specs.declared.View.{View}
-use Rattle.views.specs.declared.refusal.Verdict.TheVariants.{Accepted}
+use Rattle.views.specs.declared.refusal.Refusal.{Refusal}
+use Rattle.std.specs.Prelude.{Result, Ok}
 use Rattle.views.specs.Limits.{max_views}
 use Rattle.views.specs.Lists.{no_view, list_of, places}
 use Rattle.views.proofs.PlaceLaws.{length-places}
@@ -18,15 +19,15 @@ use Rattle.wire.specs.declared.Message.TheVariants.{Client, Info, Registered, To
 use Rattle.wire.specs.declared.Frame.{Frame}
 use Rattle.wire.specs.declared.Reading.{Reading}
 use Rattle.wire.specs.Format.{told_kind, kind_of, views_bytes, told_fits, views_allowed, content_of}
-use Rattle.wire.specs.Reader.{views_in, read_front}
+use Rattle.wire.specs.Reader.{views_in}
 use Rattle.wire.specs.Single.{read_one}
 use Rattle.wire.specs.Writer.{number_of, frame_bytes, frame_verdict}
 use Rattle.views.proofs.VerdictLaws.{need-accepted}
 use Rattle.wire.proofs.TripViews.{ViewFits, EachFits, AreBytes, get-fits, views-fit, views-back}
 use Rattle.wire.proofs.ReaderLaws.{length-views_in}
 use Rattle.wire.proofs.TripMessages.{told-met, number_fits, message-back, client-number, kind-known}
-use Rattle.wire.proofs.RoundTrip.{Fits, canonical, WrittenAs, canonical-same-bytes, written-reads, read-is-written, read-takes-all, read-whole-is-written}
-use Rattle.wire.specs.Records.{record_kind, record_identifier, record_number, record_count, record_views, head_bytes, record_bytes, counted, frame_of}
+use Rattle.wire.proofs.RoundTrip.{Fits, canonical, as_written, canonical-same-bytes, written-reads, read-is-written, read-takes-all, read-whole-is-written}
+use Rattle.wire.specs.Records.{record_kind, record_identifier, record_number, record_count, record_views, head_bytes, record_bytes, reading_bytes, counted, frame_of}
 use Rattle.wire.specs.Promises.{RecordOf}
 use Rattle.wire.proofs.RecordLaws.{length-head, counted-kept}
 
@@ -98,7 +99,7 @@ frame_back f hg hx told hn z each =
 -- ---- written and read
 
 -- the record of a message that can be written, with 0 in the places it does not use, is its frame again
-record-back : (f : Frame) → Fits f → frame_verdict f ≡ Accepted → frame_of (record_bytes (canonical f)) ≡ canonical f
+record-back : (f : Frame) → Fits f → frame_verdict f ≡ Ok tt → frame_of (record_bytes (canonical f)) ≡ canonical f
 unfolding frame_verdict
 record-back f fit v =
     let m = f.message in
@@ -109,12 +110,12 @@ record-back f fit v =
     frame_back (canonical f) fit.view (number_bound m fit.entry told) told few (length-places l) (places-fit l fit.each)
 
 -- and is what reading gives of what writing it gives
-pub written-record-returns : (f : Frame) → Fits f → frame_verdict f ≡ Accepted
-    → record_bytes (read_one (frame_bytes (frame_of (record_bytes (canonical f))))).frame ≡ record_bytes (canonical f)
-written-record-returns f fit v =
-    ap (λ (y : Frame). record_bytes (read_one (frame_bytes y)).frame) (record-back f fit v)
-    ∙ ap (λ (y : List ℕ). record_bytes (read_one y).frame) (canonical-same-bytes f fit)
-    ∙ ap (λ (y : Reading). record_bytes y.frame) (written-reads f fit v)
+pub written-record-returns : (f : Frame) (old : List ℕ) → Fits f → frame_verdict f ≡ Ok tt
+    → reading_bytes (read_one (frame_bytes (frame_of (record_bytes (canonical f))))) old ≡ record_bytes (canonical f)
+written-record-returns f old fit v =
+    ap (λ (y : Frame). reading_bytes (read_one (frame_bytes y)) old) (record-back f fit v)
+    ∙ ap (λ (y : List ℕ). reading_bytes (read_one y) old) (canonical-same-bytes f fit)
+    ∙ ap (λ (y : Result Reading Refusal). reading_bytes y old) (written-reads f fit v)
 
 -- ---- read and written
 
@@ -123,15 +124,15 @@ unfolding record_bytes head_bytes
 kind-in f = refl
 
 -- the record that reading gives is written as the bytes that were read
-pub read-record-is-written : (b : List ℕ) → AreBytes b → (read_one b).verdict ≡ Accepted → RecordOf (record_bytes (read_one b).frame) b
-read-record-is-written b y e =
-    let f = (read_one b).frame in
-    let same = (read-takes-all b e).0 in
-    let was : (read_front b).verdict ≡ Accepted = rw same at e in
-    let written = subst (WrittenAs b) (sym same) (read-is-written b y was) in
-    let bytes : b ≡ frame_bytes f = read-whole-is-written b y e in
+pub read-record-is-written : (b : List ℕ) (r : Reading) → AreBytes b → read_one b ≡ Ok r → RecordOf (record_bytes r.frame) b
+read-record-is-written b r y e =
+    let f = r.frame in
+    let written = read-is-written b r y (read-takes-all b e).0 in
+    let bytes : b ≡ frame_bytes f = read-whole-is-written b r y e in
     -- what was read has the zero view in its unused places
-    let plain : f ≡ canonical f = ap (λ (z : List ℕ). (read_one z).frame) bytes ∙ ap (λ (r : Reading). r.frame) (written-reads f written.fits written.verdict) in
+    let again : Ok r ≡ Ok (as_written f) = sym e ∙ ap read_one bytes ∙ written-reads f written.fits written.verdict in
+    let same : r ≡ as_written f = cc in
+    let plain : f ≡ canonical f = ap (λ (x : Reading). x.frame) same in
     let back : frame_of (record_bytes f) ≡ f = ap (λ (z : Frame). frame_of (record_bytes z)) plain ∙ record-back f written.fits written.verdict ∙ sym plain in
     record {
       kind = rw (kind-in f) (kind-known f.message);
@@ -159,8 +160,5 @@ record-fits m y = record {
 }
 
 -- what was read has its 32 places
-pub read-places : (b : List ℕ) → AreBytes b → (read_one b).verdict ≡ Accepted → length (read_one b).frame.views.at ≡ max_views
-read-places b y e =
-    let same = (read-takes-all b e).0 in
-    let was : (read_front b).verdict ≡ Accepted = rw same at e in
-    rw same (read-is-written b y was).fits.room
+pub read-places : {r : Reading} (b : List ℕ) → AreBytes b → read_one b ≡ Ok r → length r.frame.views.at ≡ max_views
+read-places {r} b y e = (read-is-written b r y (read-takes-all b e).0).fits.room

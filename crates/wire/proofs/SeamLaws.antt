@@ -4,8 +4,8 @@ use mathlib.Core.List.{List, [], ◌∷◌, ◌++◌, append_assoc, append-nil}
 use Prim.Native.Nat.{ℕ, suc, ◌+◌, ◌*◌, ◌<◌, ◌≤◌}
 use native.Mathlib.Numerals.{add-one}
 use native.Mathlib.Omega.{arith}
-use lib.ListN.{length, get_or, set, take, drop, replicate, length-append, length-drop, length-replicate, drop_of_length-le, replicate-append-replicate, take-append-drop}
-use lib.Seq.{append_snoc, drop-cons, drop-drop, drop-append-add, length-take-le, set-append_seam, set_at, take-append_seam, take-suc, paste, paste-suc, get_or-drop}
+use lib.ListN.{length, get_or, set, take, drop, length-append, take-append-drop}
+use lib.Seq.{append_snoc, drop-cons, drop-drop, drop-append-add, length-take-le, set-append_seam, take-append_seam, take-suc, take-length}
 use Rattle.numbers.specs.Number.{put, digits}
 use Rattle.numbers.proofs.NumberLaws.{length_digits, put-seam}
 use Rattle.views.specs.declared.View.{View}
@@ -95,26 +95,7 @@ store-turn b from i l h k =
     view-seam d b v (from + 5 * i) (length-stored b from i l (omega arith) (omega arith)) h
     ∙ ap (λ (r : List ℕ). overwritten r b) (append_assoc (take from b) (views_bytes (take i l)) (view_bytes v) ∙ ap (λ (r : List ℕ). take from b ++ r) (sym more))
 
-pub store-end : (b : List ℕ) (from i : ℕ) (l : List View) → from ≤ length b → i ≤ length l
-    → stored b from l i ≡ take from b ++ (views_bytes (take i l) ++ drop (from + 5 * i) b)
+pub store-end : (b : List ℕ) (from i : ℕ) (l : List View) → from ≤ length b → i ≡ length l
+    → stored b from l i ≡ take from b ++ (views_bytes l ++ drop (from + 5 * i) b)
 store-end b from i l h k =
-    part-whole (views_bytes (take i l)) b from (5 * i) h (length-views_bytes (take i l) ∙ ap (λ (n : ℕ). 5 * n) (length-take-le i l k))
-
--- ---- bytes copied one at a time from another range
-
-pub copy-turn : (b t : List ℕ) (to at i : ℕ) → to + i < length b → at + i < length t
-    → set (paste b to (drop at t) i) (to + i) (get_or t (at + i) 0) ≡ paste b to (drop at t) (i + 1)
-copy-turn b t to at i h l =
-    let s : i < length (drop at t) = rw (length-drop at t) (omega arith) in
-    rw (← get_or-drop at t i 0, add-one i) (paste-suc b to (drop at t) i 0 h s)
-
--- ---- bytes cleared one at a time: i bytes are 0, the rest is as it was
-
-pub clear-turn : (b : List ℕ) (i : ℕ) → i < length b → set (replicate i 0 ++ drop i b) i 0 ≡ replicate (i + 1) 0 ++ drop (i + 1) b
-clear-turn b i h =
-    rw (drop-cons b i 0 h, set_at (replicate i 0) _ (drop (suc i) b) 0 i (length-replicate i 0), ← replicate-append-replicate {A = ℕ} i 1 0, append_assoc (replicate i 0) (replicate 1 0) (drop (i + 1) b), add-one i) refl
-
-pub cleared : (b : List ℕ) (i : ℕ) → length b ≤ i → i ≤ length b → replicate i 0 ++ drop i b ≡ replicate (length b) 0
-cleared b i h k =
-    let e : i ≡ length b = omega arith in
-    rw (drop_of_length-le b h, append-nil {A = ℕ} (replicate i 0), e) refl
+    rw (k, take-length l) (part-whole (views_bytes l) b from (5 * length l) h (length-views_bytes l))

@@ -10,7 +10,7 @@ use borrow.Author.Tests.{leb-true, eqb-true}
 use Rattle.numbers.specs.Number.{get}
 use Rattle.views.specs.declared.View.{View}
 use Rattle.views.specs.declared.refusal.Refusal.TheVariants.{EmptySet, NotRising, ToldOutOfRange}
-use Rattle.views.specs.declared.refusal.Verdict.TheVariants.{Accepted}
+use Rattle.std.specs.Prelude.{Ok}
 use Rattle.views.specs.Limits.{max_views, max_ordered, longest}
 use Rattle.views.specs.Sets.{both}
 use Rattle.wire.specs.declared.Message.{Message}
@@ -31,12 +31,12 @@ both-second true t e = e
 both-second false t e = cc
 
 -- the number of an accepted message is one that its kind allows
-pub told-met : (kind : ℕ) (l : List View) (x : ℕ) → content_of kind l x ≡ Accepted → told_fits kind x ≡ true
+pub told-met : (kind : ℕ) (l : List View) (x : ℕ) → content_of kind l x ≡ Ok tt → told_fits kind x ≡ true
 unfolding content_of
 told-met kind l x e =
     let set-met = need-accepted _ EmptySet _ e in
     let rising-met = need-accepted _ NotRising _ set-met.1 in
-    (need-accepted _ ToldOutOfRange Accepted rising-met.1).0
+    (need-accepted _ ToldOutOfRange (Ok tt) rising-met.1).0
 
 -- ---- kinds
 

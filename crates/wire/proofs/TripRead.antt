@@ -1,5 +1,5 @@
 -- What is read is written: the bytes that the reader accepts are those that the writer makes of what was read.
-use mathlib.Core.Path.{◌≡◌, sym, ap, ap₂, ◌∙◌}
+use mathlib.Core.Path.{◌≡◌, refl, sym, ap, ap₂, ◌∙◌}
 use mathlib.Core.Bool.{true}
 use mathlib.Core.List.{List, ◌∷◌, ◌++◌}
 use Prim.Native.Nat.{ℕ, suc, ◌+◌, ◌*◌, ◌≤◌, ◌<◌}
@@ -10,31 +10,37 @@ use lib.Seq.{drop-cons, drop-drop, take-add}
 use borrow.Author.Tests.{leb-true}
 use Rattle.numbers.specs.Number.{get, digits}
 use Rattle.numbers.proofs.NumberLaws.{digits-get}
-use Rattle.views.specs.declared.refusal.Verdict.TheVariants.{Accepted}
+use Rattle.std.specs.Prelude.{Ok}
 use Rattle.views.specs.Refusals.{require}
 use Rattle.views.specs.Lists.{list_of, placed}
 use Rattle.wire.specs.declared.Reading.{Reading}
 use Rattle.wire.specs.Format.{numbers_of, views_bytes, numbers_bytes, bytes_of, views_allowed, numbers_allowed}
-use Rattle.wire.specs.Reader.{kind_in, view_count, number_count, end_of, views_in, number_in, message_of, scan_of, whole_of, frame_in, given, read_front}
+use Rattle.wire.specs.Reader.{kind_in, view_count, number_count, end_of, views_in, number_in, message_of, scan_of, whole_of, frame_in, read_front}
 use Rattle.wire.specs.Writer.{frame_bytes, frame_verdict}
 use Rattle.wire.proofs.TripViews.{AreBytes, views-again}
 use Rattle.wire.proofs.TripMessages.{told-met, Kind, kind-of-known, Again, message-again}
-use Rattle.views.proofs.VerdictLaws.{need-accepted}
-use Rattle.wire.proofs.VerdictLaws.{given-met, given-then}
+use Rattle.views.proofs.VerdictLaws.{need-accepted, then-met}
 use Rattle.views.proofs.PlaceLaws.{list-placed}
 use Rattle.wire.proofs.FormatLaws.{views-few}
-use Rattle.wire.proofs.ReaderLaws.{length-views_in, no_number}
+use Rattle.wire.proofs.ReaderLaws.{length-views_in, no_number, front_read}
 use Rattle.wire.proofs.WriterLaws.{numbers-digits}
 
 -- ---- an accepted reading taken apart
 
 -- the shape and the content of a message that was read were accepted
-pub front-met : (b : List ℕ) → (read_front b).verdict ≡ Accepted → (scan_of b ≡ Accepted) × (whole_of b ≡ Accepted)
+pub front-met : {r : Reading} (b : List ℕ) → read_front b ≡ Ok r → (scan_of b ≡ Ok tt) × (whole_of b ≡ Ok tt)
 unfolding read_front
 front-met b e =
-    let r : Reading = record { verdict = Accepted; taken = end_of b; frame = frame_in b } in
-    let whole : (given (whole_of b) r).verdict ≡ Accepted = ap (λ (y : Reading). y.verdict) (sym (given-then (scan_of b) (given (whole_of b) r) e)) ∙ e in
-    (given-met (scan_of b) (given (whole_of b) r) e, given-met (whole_of b) r whole)
+    let (scan, rest) = then-met (scan_of b) _ e in
+    let (whole, _) = then-met (whole_of b) _ rest in
+    (scan, whole)
+
+-- and it is what lies there
+pub front-is : {r : Reading} (b : List ℕ) → read_front b ≡ Ok r → r ≡ record { taken = end_of b; frame = frame_in b }
+front-is b e =
+    let (scan, whole) = front-met b e in
+    let there = front_read b _ _ _ scan whole refl refl refl in
+    cc
 
 -- what accepted bytes have met as they came
 pub record Scanned (b : List ℕ) : Type 0 where
@@ -43,7 +49,7 @@ pub record Scanned (b : List ℕ) : Type 0 where
   pub numbers : numbers_allowed (kind_in b) (number_count b) ≡ true
   pub size : end_of b ≤ length b
 
-pub scanned : (b : List ℕ) → scan_of b ≡ Accepted → Scanned b
+pub scanned : (b : List ℕ) → scan_of b ≡ Ok tt → Scanned b
 unfolding scan_of
 scanned b e =
     let some = need-accepted _ _ _ e in
@@ -89,7 +95,7 @@ parts b n c h =
 -- ---- the frame that is read
 
 -- what accepted bytes hold is accepted by the writer, and its bytes are they
-module _ (b : List ℕ) (y : AreBytes b) (s : Scanned b) (w : whole_of b ≡ Accepted) where
+module _ (b : List ℕ) (y : AreBytes b) (s : Scanned b) (w : whole_of b ≡ Ok tt) where
   pub message-read : Again (kind_in b) (number_count b) (number_in b) (message_of (kind_in b) (number_in b))
   message-read =
       message-again (kind_in b) (number_count b) (number_in b) s.kind s.numbers
@@ -117,7 +123,7 @@ module _ (b : List ℕ) (y : AreBytes b) (s : Scanned b) (w : whole_of b ≡ Acc
       in
       rw (list_read, numbers, a.kind-again, a.count-again, length-views_in b 6 n, views, view) (sym (parts b n c size))
 
-  pub verdict-again : frame_verdict (frame_in b) ≡ Accepted
+  pub verdict-again : frame_verdict (frame_in b) ≡ Ok tt
   unfolding frame_verdict require
   verdict-again =
       let a = message-read in

@@ -10,12 +10,12 @@ use borrow.Author.Tests.{le-leb}
 use Rattle.numbers.specs.Number.{get, digits}
 use Rattle.numbers.proofs.NumberLaws.{length_digits, get-digits}
 use Rattle.views.specs.declared.View.{View}
-use Rattle.views.specs.declared.refusal.Verdict.TheVariants.{Accepted}
-use Rattle.views.specs.Refusals.{require}
+use Rattle.std.specs.Prelude.{Ok}
+use Rattle.views.specs.Refusals.{require, and_then}
 use Rattle.views.specs.Lists.{placed}
 use Rattle.wire.specs.declared.Message.{Message}
 use Rattle.wire.specs.Format.{kind_of, numbers_of, views_bytes, numbers_bytes, bytes_of, views_allowed, content_of}
-use Rattle.wire.specs.Reader.{kind_in, view_count, views_in, number_in, scan_of, given, read_front}
+use Rattle.wire.specs.Reader.{kind_in, view_count, views_in, number_in, scan_of, read_front}
 use Rattle.wire.specs.Writer.{number_of}
 use Rattle.wire.proofs.TripViews.{EachFits, views-back}
 use Rattle.wire.proofs.TripMessages.{told-met, kind-known, numbers-known, message-back}
@@ -66,9 +66,12 @@ bytes-hold g m l rest fg fl fm =
 
 -- bytes that hold an allowed message are read as it
 pub held_reads : (b : List ℕ) (g : ℕ) (m : Message) (l : List View) → Holds b g m l → views_allowed (kind_of m) (length l) ≡ true
-    → content_of (kind_of m) l (number_of m) ≡ Accepted
-    → read_front b ≡ record { verdict = Accepted; taken = 6 + 5 * length l + 1 + 8 * length (numbers_of m); frame = record { view = record { 0 = g }; message = m; views = placed l } }
-unfolding read_front scan_of given require number_in
+    → content_of (kind_of m) l (number_of m) ≡ Ok tt
+    → read_front b ≡ Ok (record {
+      taken = 6 + 5 * length l + 1 + 8 * length (numbers_of m);
+      frame = record { view = record { 0 = g }; message = m; views = placed l };
+    })
+unfolding read_front scan_of and_then require number_in
 held_reads b g m l h v c =
     let s = h.size in
     rw (

@@ -12,18 +12,18 @@ use Rattle.views.specs.declared.View.{View}
 use Rattle.views.specs.declared.ViewId.{ViewId}
 use Rattle.views.specs.declared.refusal.Refusal.{Refusal}
 use Rattle.views.specs.declared.refusal.Refusal.TheVariants.{BufferTooShort}
-use Rattle.views.specs.declared.refusal.Verdict.TheVariants.{Accepted, Refused}
+use Rattle.std.specs.Prelude.{Ok, Err}
 use Rattle.views.specs.Limits.{max_views}
 use Rattle.views.specs.Lists.{list_of}
-use Rattle.views.specs.Refusals.{left}
+use Rattle.views.specs.Refusals.{and_then, left}
 use Rattle.wire.specs.declared.Message.{Message}
 use Rattle.wire.specs.declared.Message.TheVariants.{Client, Info, Registered, Told}
 use Rattle.wire.specs.declared.Frame.{Frame}
 use Rattle.wire.specs.Format.{kind_of, numbers_of, views_bytes, numbers_bytes, bytes_of}
 use Rattle.wire.specs.Reader.{views_in}
 use Rattle.wire.specs.Widths.{AreBytes}
-use Rattle.wire.specs.Writer.{number_of, frame_bytes, frame_verdict, frame_from, write_verdict, written_of, overwritten, Wrote}
-use Rattle.views.proofs.VerdictLaws.{need-met, need-unmet, need-accepted, then-accepted, then-refused}
+use Rattle.wire.specs.Writer.{number_of, frame_bytes, frame_verdict, frame_from, write_verdict, overwritten, Wrote}
+use Rattle.views.proofs.VerdictLaws.{need-met, need-unmet, need-accepted, then-accepted}
 use Rattle.wire.proofs.FormatLaws.{views-few}
 use Rattle.wire.proofs.ReaderLaws.{length-views_in, list-views_in}
 use Rattle.wire.proofs.TripViews.{views-again}
@@ -166,30 +166,27 @@ from-stored g n m from at b b1 b2 b3 h y p q r =
 -- ---- what each verdict says
 
 -- a frame that can be written has no more views than places
-pub frame-few : (f : Frame) → frame_verdict f ≡ Accepted → f.views.count ≤ max_views
+pub frame-few : (f : Frame) → frame_verdict f ≡ Ok tt → f.views.count ≤ max_views
 unfolding frame_verdict
 frame-few f e = views-few _ _ (need-accepted _ _ _ e).0
 
-pub from-few : (view : ViewId) (m : Message) (from : List ℕ) (at n : ℕ) → frame_verdict (frame_from view m from at n) ≡ Accepted → n ≤ max_views
+pub from-few : (view : ViewId) (m : Message) (from : List ℕ) (at n : ℕ) → frame_verdict (frame_from view m from at n) ≡ Ok tt → n ≤ max_views
 from-few view m from at n e = omega (arith, frame-few (frame_from view m from at n) e, length-views_in from at n)
 
-pub wrote-refused : (f : Frame) (b : List ℕ) (r : Refusal) → frame_verdict f ≡ Refused r → Wrote f b b (record { verdict = Refused r; length = 0 })
-unfolding write_verdict written_of left
-wrote-refused f b r e =
-    let v : write_verdict f (length b) ≡ Refused r = then-refused r _ e in
-    record { reply = rw v; buffer = rw v }
+pub wrote-refused : (f : Frame) (b : List ℕ) (r : Refusal) → frame_verdict f ≡ Err r → Wrote f b b (Err r)
+unfolding write_verdict and_then left
+wrote-refused f b r e = record { reply = rw e; buffer = rw e }
 
-pub wrote-short : (f : Frame) (b : List ℕ) → frame_verdict f ≡ Accepted → length b < length (frame_bytes f)
-    → Wrote f b b (record { verdict = Refused BufferTooShort; length = 0 })
-unfolding write_verdict written_of left
+pub wrote-short : (f : Frame) (b : List ℕ) → frame_verdict f ≡ Ok tt → length b < length (frame_bytes f) → Wrote f b b (Err BufferTooShort)
+unfolding write_verdict and_then left
 wrote-short f b e h =
-    let v : write_verdict f (length b) ≡ Refused BufferTooShort = then-accepted _ e ∙ need-unmet _ _ (lt-leb _ _ h) in
+    let v : write_verdict f (length b) ≡ Err BufferTooShort = then-accepted _ e ∙ need-unmet _ _ (lt-leb _ _ h) in
     record { reply = rw v; buffer = rw v }
 
-pub wrote-whole : (f : Frame) (b exit : List ℕ) (n : ℕ) → frame_verdict f ≡ Accepted → exit ≡ overwritten (frame_bytes f) b → n ≡ length (frame_bytes f) → n ≤ length b
-    → Wrote f b exit (record { verdict = Accepted; length = n })
-unfolding write_verdict written_of left
+pub wrote-whole : (f : Frame) (b exit : List ℕ) (n : ℕ) → frame_verdict f ≡ Ok tt → exit ≡ overwritten (frame_bytes f) b → n ≡ length (frame_bytes f) → n ≤ length b
+    → Wrote f b exit (Ok n)
+unfolding write_verdict and_then left
 wrote-whole f b exit n e p q h =
     let room : length (frame_bytes f) ≤ length b = rw q at h in
-    let v : write_verdict f (length b) ≡ Accepted = then-accepted _ e ∙ need-met _ _ (le-leb _ _ room) in
+    let v : write_verdict f (length b) ≡ Ok tt = then-accepted _ e ∙ need-met _ _ (le-leb _ _ room) in
     record { reply = rw (v, q); buffer = rw (v, p) }

@@ -1,14 +1,12 @@
 -- Message bytes: kind, identifier of the view sent in, a section of views, a section of numbers. Whole numbers are
 -- big-endian.
-use Rattle.std.specs.Prelude.{Bool, true, false, cond, List, [], ◌∷◌, ◌++◌, ℕ, ◌+◌, eqb, leb, length}
+use Rattle.std.specs.Prelude.{Bool, true, false, cond, List, [], ◌∷◌, ◌++◌, ℕ, eqb, leb, length, Ok}
 use Rattle.numbers.specs.Number.{digits}
 use Rattle.views.specs.declared.View.{View}
-use Rattle.views.specs.declared.refusal.Verdict.{Verdict}
-use Rattle.views.specs.declared.refusal.Verdict.TheVariants.{Accepted}
+use Rattle.views.specs.Refusals.{Verdict, require}
 use Rattle.views.specs.declared.refusal.Refusal.TheVariants.{EmptySet, NotRising, ToldOutOfRange}
 use Rattle.views.specs.Limits.{max_views, max_ordered}
 use Rattle.views.specs.Sizes.{identifier_size, number_size}
-use Rattle.views.specs.Refusals.{require}
 use Rattle.views.specs.Sets.{both, is_empty}
 use Rattle.views.specs.Lists.{id_of, is_rising}
 use Rattle.wire.specs.declared.Message.{Message}
@@ -88,4 +86,4 @@ told_fits kind x = cond (eqb kind told_kind) (both (leb 1 x) (leb x max_ordered)
 unfoldable pub content_of : ℕ → List View → ℕ → Verdict
 content_of kind l x =
     require (cond (some_empty l) false true) EmptySet
-    (require (is_rising l) NotRising (require (told_fits kind x) ToldOutOfRange Accepted))
+    (require (is_rising l) NotRising (require (told_fits kind x) ToldOutOfRange (Ok tt)))

@@ -1,20 +1,18 @@
 -- The reader: the message at the front of bytes and how many it took, or the first refusal, 32 to 34 as the bytes come,
 -- then 35 to 37. What lies behind the message is its caller's matter.
-use Rattle.std.specs.Prelude.{cond, List, [], ◌∷◌, ℕ, zero, suc, ◌+◌, ◌*◌, ◌%◌, eqb, leb, length, get_or}
+use Rattle.std.specs.Prelude.{cond, List, [], ◌∷◌, ℕ, zero, suc, ◌+◌, ◌*◌, ◌%◌, eqb, leb, length, get_or, Ok}
+use Rattle.std.specs.Prelude.{Result}
 use Rattle.numbers.specs.Number.{get}
 use Rattle.views.specs.declared.View.{View}
 use Rattle.views.specs.declared.refusal.Refusal.{Refusal}
 use Rattle.views.specs.declared.refusal.Refusal.TheVariants.{EndsEarly, UnknownKind, SectionCount}
-use Rattle.views.specs.declared.refusal.Verdict.{Verdict}
-use Rattle.views.specs.declared.refusal.Verdict.TheVariants.{Accepted, Refused}
+use Rattle.views.specs.Refusals.{Verdict, require, and_then, after}
 use Rattle.views.specs.Sizes.{identifier_size, view_size, number_size}
-use Rattle.views.specs.Refusals.{require}
 use Rattle.views.specs.Lists.{placed}
 use Rattle.wire.specs.declared.Message.{Message}
 use Rattle.wire.specs.declared.Message.TheVariants.{Client, Info, Registered, Told}
 use Rattle.wire.specs.declared.Frame.{Frame}
 use Rattle.wire.specs.declared.Reading.{Reading}
-use Rattle.wire.specs.declared.Front.{Front}
 use Rattle.wire.specs.Format.{client_kind, info_kind, registered_kind}
 use Rattle.wire.specs.Format.{is_known, views_allowed, numbers_allowed, content_of}
 
@@ -82,20 +80,13 @@ scan_of b =
     require (views_allowed (kind_in b) (view_count b)) SectionCount (
     require (leb (numbers_place b + 1) (length b)) EndsEarly (
     require (numbers_allowed (kind_in b) (number_count b)) SectionCount (
-    require (leb (end_of b) (length b)) EndsEarly Accepted))))))
+    require (leb (end_of b) (length b)) EndsEarly (Ok tt)))))))
 
 -- over the whole message
 abbrev pub whole_of : List ℕ → Verdict
 whole_of b = content_of (kind_in b) (views_in b views_at (view_count b)) (number_in b)
 
 -- ---- what is read
-
--- a refusal gives its number only
-abbrev pub no_frame : Frame
-no_frame = record { view = record { 0 = 0 }; message = Registered; views = placed [] }
-
-abbrev pub refused : Refusal → Reading
-refused r = record { verdict = Refused r; taken = 0; frame = no_frame }
 
 abbrev pub frame_in : List ℕ → Frame
 frame_in b = record {
@@ -104,16 +95,10 @@ frame_in b = record {
   views = placed (views_in b views_at (view_count b));
 }
 
--- r if accepted, else the refusal
-unfoldable pub given : Verdict → Reading → Reading
-given Accepted r = r
-given (Refused x) r = refused x
+-- the message at the front of the bytes, and how many bytes it took: a refusal gives its number only
+unfoldable pub read_front : List ℕ → Result Reading Refusal
+read_front b = and_then (scan_of b) (and_then (whole_of b) (Ok (record { taken = end_of b; frame = frame_in b })))
 
--- the message at the front of the bytes, and how many bytes it took
-unfoldable pub read_front : List ℕ → Reading
-read_front b =
-    given (scan_of b) (given (whole_of b) (record { verdict = Accepted; taken = end_of b; frame = frame_in b }))
-
--- the verdict on the message at the front, and how many bytes it takes
-abbrev pub front_of : List ℕ → Front
-front_of b = record { verdict = (read_front b).verdict; taken = (read_front b).taken }
+-- how many bytes the message at the front takes
+abbrev pub front_of : List ℕ → Result ℕ Refusal
+front_of b = after (read_front b) (λ r. Ok r.taken)

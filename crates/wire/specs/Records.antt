@@ -1,9 +1,11 @@
 -- A message's record: the bytes of a frame, and the frame that bytes are.
-use Rattle.std.specs.Prelude.{cond, List, ◌∷◌, ◌++◌, ℕ, ◌+◌, ◌*◌, eqb, ltb, get_or}
+use Rattle.std.specs.Prelude.{cond, List, ◌∷◌, ◌++◌, ℕ, ◌+◌, ◌*◌, eqb, ltb, get_or, Result, Ok, Err}
 use Rattle.numbers.specs.Number.{get, digits}
+use Rattle.views.specs.declared.refusal.Refusal.{Refusal}
 use Rattle.views.specs.Limits.{max_views}
 use Rattle.views.specs.Sizes.{identifier_size, view_size, number_size}
 use Rattle.wire.specs.declared.Frame.{Frame}
+use Rattle.wire.specs.declared.Reading.{Reading}
 use Rattle.wire.specs.Format.{kind_of, views_bytes, told_kind}
 use Rattle.wire.specs.Reader.{views_in, message_of}
 use Rattle.wire.specs.Writer.{number_of}
@@ -39,6 +41,11 @@ head_bytes kind g x n = (kind ∷ digits identifier_size g) ++ (digits number_si
 unfoldable pub record_bytes : Frame → List ℕ
 record_bytes f =
     head_bytes (kind_of f.message) f.view.0 (number_of f.message) f.views.count ++ views_bytes f.views.at
+
+-- what reading leaves of a record: a refusal leaves it as it was
+abbrev pub reading_bytes : Result Reading Refusal → List ℕ → List ℕ
+reading_bytes (Ok r) old = record_bytes r.frame
+reading_bytes (Err x) old = old
 
 -- ---- the frame that a record is
 

@@ -1,14 +1,12 @@
 -- The writer: the bytes of a message into a buffer, or the first refusal, 33 to 37 as far as they apply, then 39.
-use Rattle.std.specs.Prelude.{◌≡◌, List, ◌++◌, ℕ, ◌+◌, ◌*◌, leb, length, drop, set, take}
+use Rattle.std.specs.Prelude.{◌≡◌, List, ◌++◌, ℕ, ◌+◌, ◌*◌, leb, length, drop, set, take, Ok, Result}
 use Rattle.views.specs.declared.refusal.Refusal.TheVariants.{SectionCount, BufferTooShort}
-use Rattle.views.specs.declared.refusal.Verdict.{Verdict}
-use Rattle.views.specs.declared.refusal.Verdict.TheVariants.{Accepted, Refused}
-use Rattle.views.specs.Refusals.{require, and_then, left}
+use Rattle.views.specs.declared.refusal.Refusal.{Refusal}
+use Rattle.views.specs.Refusals.{Verdict, require, and_then, left}
 use Rattle.views.specs.Lists.{list_of, placed, id_of}
 use Rattle.wire.specs.declared.Message.{Message}
 use Rattle.wire.specs.declared.Message.TheVariants.{Client, Info, Registered, Told}
 use Rattle.wire.specs.declared.Frame.{Frame}
-use Rattle.wire.specs.declared.Written.{Written}
 use Rattle.wire.specs.Format.{kind_of, numbers_of, views_allowed, content_of, bytes_of, views_bytes}
 use Rattle.wire.specs.Reader.{views_in}
 use Rattle.numbers.specs.Number.{get, put}
@@ -35,21 +33,16 @@ frame_verdict f =
     content_of (kind_of f.message) (list_of f.views) (number_of f.message))
 
 unfoldable pub write_verdict : Frame → ℕ → Verdict
-write_verdict f room = and_then (frame_verdict f) (require (leb (length (frame_bytes f)) room) BufferTooShort Accepted)
+write_verdict f room = and_then (frame_verdict f) (require (leb (length (frame_bytes f)) room) BufferTooShort (Ok tt))
 
 -- ---- what a call gives and leaves
-
--- the number of bytes written; a refusal gives its number only
-unfoldable pub written_of : Verdict → ℕ → Written
-written_of Accepted n = record { verdict = Accepted; length = n }
-written_of (Refused r) n = record { verdict = Refused r; length = 0 }
 
 -- the message stands at the front of the buffer, and the rest of the buffer is as it was
 abbrev pub overwritten : List ℕ → List ℕ → List ℕ
 overwritten bytes buffer = bytes ++ drop (length bytes) buffer
 
-pub record Wrote (f : Frame) (entry exit : List ℕ) (r : Written) : Type 0 where
-  pub reply : r ≡ written_of (write_verdict f (length entry)) (length (frame_bytes f))
+pub record Wrote (f : Frame) (entry exit : List ℕ) (r : Result ℕ Refusal) : Type 0 where
+  pub reply : r ≡ and_then (write_verdict f (length entry)) (Ok (length (frame_bytes f)))
   pub buffer : exit ≡ left (write_verdict f (length entry)) (overwritten (frame_bytes f) entry) entry
 
 -- the frame of a message whose n views lie in bytes, from a place on

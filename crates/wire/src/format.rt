@@ -47,90 +47,68 @@ pub fn number(m: Message) -> u64
 {
     match m {
         Message::Client(x) => x,
-        Message::Info => 0,
-        Message::Registered => 0,
+        Message::Info | Message::Registered => 0,
         Message::Told(k) => k as u64,
     }
 }
 
 // The message of a kind with a number.
+#[tactic(auto, unfolding(crate::specs::Reader::message_of))]
 pub fn message(kind: u8, x: u64) -> Message
     ensures { result ≡ message_of kind x }
 {
-    if kind == CLIENT {
-        return Message::Client(x);
+    match kind {
+        CLIENT => Message::Client(x),
+        INFO => Message::Info,
+        REGISTERED => Message::Registered,
+        // A cast has to lose nothing, and x may be any number.
+        _ => Message::Told((x % 256) as u8),
     }
-    if kind == INFO {
-        return Message::Info;
-    }
-    if kind == REGISTERED {
-        return Message::Registered;
-    }
-    Message::Told((x % 256) as u8)
 }
 
+#[tactic(auto, unfolding(crate::specs::Format::is_known))]
 pub fn known(kind: u8) -> bool
     ensures { result ≡ is_known kind }
 {
-    if kind < CLIENT {
-        return false;
-    }
-    kind <= TOLD
+    (CLIENT..=TOLD).contains(&kind)
 }
 
 // A message of the kind may carry n views.
+#[tactic(auto, unfolding(crate::specs::Format::views_allowed))]
 pub fn views_allowed(kind: u8, n: usize) -> bool
     ensures { result ≡ views_allowed kind n }
 {
     if kind == INFO {
-        if n < 1 {
-            return false;
-        }
-        return n <= limits::VIEWS;
+        (1..=limits::VIEWS).contains(&n)
+    } else {
+        n == 0
     }
-    n == 0
 }
 
 // A message of the kind may carry n numbers.
+#[tactic(auto, unfolding(crate::specs::Format::numbers_allowed))]
 pub fn numbers_allowed(kind: u8, n: usize) -> bool
     ensures { result ≡ numbers_allowed kind n }
 {
-    if kind == CLIENT {
-        return n == 1;
+    match kind {
+        CLIENT | TOLD => n == 1,
+        _ => n == 0,
     }
-    if kind != TOLD {
-        return n == 0;
-    }
-    n == 1
 }
 
 // Some listed set is empty.
 pub fn some_empty(list: Views) -> bool
     ensures { result ≡ some_empty (list_of list) }
 {
-    let n = list::used(list.count);
-    let mut i = 0;
-    while i < n {
-        let v = list.at[i];
-        if v.set == 0 {
-            return true;
-        }
-        i += 1;
-    }
-    false
+    list.at[..list::used(list.count)].iter().any(|v| v.set == 0)
 }
 
 // A told's count is 1 to 128.
+#[tactic(auto, unfolding(crate::specs::Format::told_fits))]
 pub fn told_fits(kind: u8, x: u64) -> bool
     ensures { result ≡ told_fits kind x }
 {
-    if kind == TOLD {
-        if x < 1 {
-            return false;
-        }
-        return x <= limits::ORDERED as u64;
-    }
-    true
+    kind != TOLD || (1..=limits::ORDERED as u64).contains(&x)
 }
 
 // What is asked of a whole message: no empty set, rising identifiers, a told's count.
@@ -138,13 +116,13 @@ pub fn content(kind: u8, list: Views, x: u64) -> Verdict
     ensures { result ≡ content_of kind (list_of list) x }
 {
     if some_empty(list) {
-        return Verdict::Refused(Refusal::EmptySet);
+        return Err(Refusal::EmptySet);
     }
     if !list::rising(list) {
-        return Verdict::Refused(Refusal::NotRising);
+        return Err(Refusal::NotRising);
     }
     if !told_fits(kind, x) {
-        return Verdict::Refused(Refusal::ToldOutOfRange);
+        return Err(Refusal::ToldOutOfRange);
     }
-    Verdict::Accepted
+    Ok(())
 }

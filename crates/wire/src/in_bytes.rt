@@ -9,23 +9,17 @@ ghost use Rattle.wire.specs.Format.{some_empty};
 ghost use Rattle.wire.specs.Reader.{views_in};
 
 use crate::reader;
-use views::list::Lookup;
-use views::{ViewId, limits, sizes};
+use views::{View, ViewId, limits, sizes};
 
-// A told's count is 1 to 128, by the two halves of its eight bytes: the high one is 0.
+// A told's count is 1 to 128, by the two halves of its eight bytes: the high one is 0. Two halves of four bytes are
+// read faster than all eight.
 pub fn told_fits(b: &[u8], at: usize) -> bool
     requires { at + number_size ≤ length b.now }
     ensures { result ≡ both (leb 1 (get b.now at number_size))
         (leb (get b.now at number_size) max_ordered) }
 {
-    if numbers::get_number(b, at, 4) != 0 {
-        return false;
-    }
-    let low = numbers::get_number(b, at + 4, 4);
-    if low < 1 {
-        return false;
-    }
-    low <= limits::ORDERED as u64
+    numbers::get_number(b, at, 4) == 0
+        && (1..=limits::ORDERED as u64).contains(&numbers::get_number(b, at + 4, 4))
 }
 
 // Some set of the views from a place on is empty.
@@ -33,12 +27,11 @@ pub fn some_empty(b: &[u8], from: usize, count: usize) -> bool
     requires { from + view_size * count ≤ length b.now }
     ensures { result ≡ some_empty (views_in b.now from count) }
 {
-    let mut i = 0;
-    while i < count {
+    // A `for`, since `any` over the places is slower.
+    for i in 0..count {
         if b[from + sizes::VIEW * i + sizes::IDENTIFIER] == 0 {
             return true;
         }
-        i += 1;
     }
     false
 }
@@ -48,15 +41,13 @@ pub fn rise_above(b: &[u8], from: usize, count: usize, g: ViewId) -> bool
     requires { from + view_size * count ≤ length b.now }
     ensures { result ≡ rises_above g.0 (views_in b.now from count) }
 {
-    let mut last = g.0;
-    let mut i = 0;
-    while i < count {
+    let mut last = g;
+    for i in 0..count {
         let v = reader::load_view(b, from + sizes::VIEW * i);
-        if v.id.0 <= last {
+        if v.id <= last {
             return false;
         }
-        last = v.id.0;
-        i += 1;
+        last = v.id;
     }
     true
 }
@@ -66,7 +57,7 @@ pub fn rising(b: &[u8], from: usize, count: usize) -> bool
     requires { from + view_size * count ≤ length b.now }
     ensures { result ≡ is_rising (views_in b.now from count) }
 {
-    if count < 1 {
+    if count == 0 {
         return true;
     }
     let first = reader::load_view(b, from);
@@ -74,17 +65,15 @@ pub fn rising(b: &[u8], from: usize, count: usize) -> bool
 }
 
 // The view with the identifier.
-pub fn find(b: &[u8], from: usize, count: usize, id: ViewId) -> Lookup
+pub fn find(b: &[u8], from: usize, count: usize, id: ViewId) -> Option<View>
     requires { from + view_size * count ≤ length b.now }
     ensures { result ≡ find_of id.0 (views_in b.now from count) }
 {
-    let mut i = 0;
-    while i < count {
+    for i in 0..count {
         let v = reader::load_view(b, from + sizes::VIEW * i);
-        if v.id.0 == id.0 {
-            return Lookup::Found(v);
+        if v.id == id {
+            return Some(v);
         }
-        i += 1;
     }
-    Lookup::Missing
+    None
 }

@@ -9,9 +9,14 @@ pub mod record;
 pub mod single;
 pub mod writer;
 
-use views::ViewId;
 use views::list::Views;
-use views::refusal::Verdict;
+use views::{View, ViewId};
+
+// What stands in a place without a view.
+const NO_VIEW: View = View {
+    id: ViewId(0),
+    set: 0,
+};
 
 // The four messages. An info's views stand beside it.
 #[derive(Clone, Copy)]
@@ -30,24 +35,9 @@ pub struct Frame {
     pub views: Views,
 }
 
-// What reading gives: the message and how many bytes it took, or the refusal alone.
+// What reading gives of the message at the front of bytes: how many bytes it took, and its frame.
 #[derive(Clone, Copy)]
 pub struct Reading {
-    pub verdict: Verdict,
     pub taken: usize,
     pub frame: Frame,
-}
-
-// The verdict on the message at the front of bytes, and how many bytes it takes, 0 where it is refused.
-#[derive(Clone, Copy)]
-pub struct Front {
-    pub verdict: Verdict,
-    pub taken: usize,
-}
-
-// What writing gives: how many bytes were written, or the refusal alone.
-#[derive(Clone, Copy)]
-pub struct Written {
-    pub verdict: Verdict,
-    pub length: usize,
 }

@@ -1,12 +1,11 @@
 // Two lists of views put together in one walk, where they lie in bytes.
-ghost use Rattle.std.specs.Prelude.{◌≡◌, ◌+◌, ◌*◌, ◌≤◌, length, get_or};
+ghost use Rattle.std.specs.Prelude.{◌≡◌, ◌+◌, ◌*◌, ◌≤◌, length, slice_get};
 ghost use Rattle.views.specs.Limits.{max_views};
 ghost use Rattle.views.specs.Sizes.{view_size};
-ghost use Rattle.views.specs.Lists.{no_view};
 ghost use Rattle.wire.specs.Reader.{views_in};
 ghost use Rattle.wire.specs.Merges.{Merges};
 
-use crate::reader;
+use crate::{NO_VIEW, reader};
 use views::list::Views;
 use views::{View, ViewId, limits, list, sizes};
 
@@ -17,17 +16,15 @@ pub struct Merged {
     pub turns: usize,
 }
 
-// The view at place i of n views, the zero view past the last.
-fn standing(b: &[u8], from: usize, n: usize, i: usize) -> View
+// The view at place i of n views, none past the last.
+fn standing(b: &[u8], from: usize, n: usize, i: usize) -> Option<View>
     requires { from + view_size * n ≤ length b.now }
-    ensures { result ≡ get_or (views_in b.now from n) i no_view }
+    ensures { result ≡ slice_get (views_in b.now from n) i }
 {
     if i < n {
-        return reader::load_view(b, from + sizes::VIEW * i);
-    }
-    View {
-        id: ViewId(0),
-        set: 0,
+        Some(reader::load_view(b, from + sizes::VIEW * i))
+    } else {
+        None
     }
 }
 
@@ -46,21 +43,15 @@ pub fn merge(
         × (on + view_size * m ≤ length c.now) × (m ≤ max_views) }
     ensures { Merges (views_in b.now from n) (views_in c.now on m) floor.0 result }
 {
-    let none = View {
-        id: ViewId(0),
-        set: 0,
-    };
-    let mut at = [none; limits::VIEWS];
+    let mut at = [NO_VIEW; limits::VIEWS];
     let mut k = 0;
     let mut turns = 0;
     let mut i = 0;
     let mut j = 0;
-    while i + j < n + m {
-        let x = standing(b, from, n, i);
-        let y = standing(c, on, m, j);
-        let next = list::choose(i < n, x, j < m, y);
+    // A `while`, since neither place goes on by one at each turn.
+    while let Some(next) = list::choose(standing(b, from, n, i), standing(c, on, m, j)) {
         let v = next.view;
-        if floor.0 < v.id.0 {
+        if floor < v.id {
             if k < limits::VIEWS {
                 at[k] = v;
             }

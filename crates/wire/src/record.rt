@@ -3,14 +3,15 @@ ghost use Rattle.std.specs.Prelude.{◌≡◌, true, ◌++◌, ◌+◌, ◌*◌,
 ghost use Rattle.views.specs.Limits.{max_views};
 ghost use Rattle.views.specs.Sizes.{view_size};
 ghost use Rattle.views.specs.Lists.{places};
-ghost use Rattle.views.specs.Refusals.{left};
+ghost use Rattle.views.specs.Refusals.{verdict_given};
 ghost use Rattle.wire.specs.Format.{is_known, views_bytes};
-ghost use Rattle.wire.specs.Reader.{views_in, read_front, front_of};
+ghost use Rattle.wire.specs.Reader.{views_in, frame_in, scan_of, whole_of, read_front, front_of};
 ghost use Rattle.wire.specs.Single.{read_one};
 ghost use Rattle.wire.specs.Writer.{overwritten, frame_verdict, Wrote};
-ghost use Rattle.wire.specs.Records.{record_kind, record_views, record_size, head_bytes, record_bytes, frame_of};
+ghost use Rattle.wire.specs.Records.{record_kind, record_views, record_size, head_bytes, record_bytes};
+ghost use Rattle.wire.specs.Records.{frame_of, reading_bytes};
 
-use crate::{Front, Written, format, in_bytes, reader, single, writer};
+use crate::{format, in_bytes, reader, single, writer};
 use views::refusal::{Refusal, Verdict};
 use views::{ViewId, limits, sizes};
 
@@ -53,8 +54,8 @@ fn put_views(out: &mut [u8], from: &[u8], at: usize, n: usize)
 
 // The record of the message at the front of the bytes.
 fn store(out: &mut [u8], bytes: &[u8])
-    requires { (length out.old ≡ record_size) × ((read_front bytes.now).verdict ≡ Verdict.Accepted) }
-    ensures { out.new ≡ record_bytes (read_front bytes.now).frame }
+    requires { (length out.old ≡ record_size) × (scan_of bytes.now ≡ Ok tt) × (whole_of bytes.now ≡ Ok tt) }
+    ensures { out.new ≡ record_bytes (frame_in bytes.now) }
 {
     let g = numbers::get_number(bytes, format::IDENTIFIER_AT, sizes::IDENTIFIER);
     let x = reader::load_number(bytes);
@@ -64,44 +65,25 @@ fn store(out: &mut [u8], bytes: &[u8])
 }
 
 // The message at the front of the bytes is read into the record; how many bytes it took.
-pub fn read_front(bytes: &[u8], out: &mut [u8]) -> Front
+pub fn read_front(bytes: &[u8], out: &mut [u8]) -> Result<usize, Refusal>
     requires { length out.old ≡ record_size }
     ensures { (result ≡ front_of bytes.now) × (out.new
-        ≡ left (read_front bytes.now).verdict (record_bytes (read_front bytes.now).frame)
-        out.old) }
+        ≡ reading_bytes (read_front bytes.now) out.old) }
 {
-    let f = reader::front(bytes);
-    let v = f.verdict;
-    match v {
-        Verdict::Refused(r) => Front {
-            verdict: Verdict::Refused(r),
-            taken: 0,
-        },
-        Verdict::Accepted => {
-            store(out, bytes);
-            Front {
-                verdict: Verdict::Accepted,
-                taken: f.taken,
-            }
-        }
-    }
+    let taken = reader::front(bytes)?;
+    store(out, bytes);
+    Ok(taken)
 }
 
 // One message, which the bytes must be as a whole, is read into the record.
 pub fn read(bytes: &[u8], out: &mut [u8]) -> Verdict
     requires { length out.old ≡ record_size }
-    ensures { (result ≡ (read_one bytes.now).verdict) × (out.new
-        ≡ left (read_one bytes.now).verdict (record_bytes (read_one bytes.now).frame)
-        out.old) }
+    ensures { (result ≡ verdict_given (read_one bytes.now)) × (out.new
+        ≡ reading_bytes (read_one bytes.now) out.old) }
 {
-    let v = single::verdict(bytes);
-    match v {
-        Verdict::Refused(r) => Verdict::Refused(r),
-        Verdict::Accepted => {
-            store(out, bytes);
-            Verdict::Accepted
-        }
-    }
+    single::verdict(bytes)?;
+    store(out, bytes);
+    Ok(())
 }
 
 // The message of a record of a known kind can be written: 34 to 37, asked of the record where it lies.
@@ -112,51 +94,35 @@ fn check(message: &[u8]) -> Verdict
     let kind = message[KIND];
     let n = message[COUNT] as usize;
     if !format::views_allowed(kind, n) {
-        return Verdict::Refused(Refusal::SectionCount);
+        return Err(Refusal::SectionCount);
     }
     if in_bytes::some_empty(message, VIEWS, n) {
-        return Verdict::Refused(Refusal::EmptySet);
+        return Err(Refusal::EmptySet);
     }
     if !in_bytes::rising(message, VIEWS, n) {
-        return Verdict::Refused(Refusal::NotRising);
+        return Err(Refusal::NotRising);
     }
     if kind != format::TOLD {
-        return Verdict::Accepted;
+        return Ok(());
     }
     if !in_bytes::told_fits(message, NUMBER) {
-        return Verdict::Refused(Refusal::ToldOutOfRange);
+        return Err(Refusal::ToldOutOfRange);
     }
-    Verdict::Accepted
+    Ok(())
 }
 
 // The message of a record of a known kind is written to the front of the buffer.
-pub fn write(message: &[u8], out: &mut [u8]) -> Written
+pub fn write(message: &[u8], out: &mut [u8]) -> Result<usize, Refusal>
     requires { (length message.now ≡ record_size) × (is_known (get_or message.now record_kind 0) ≡ true) }
     ensures { Wrote (frame_of message.now) out.old out.new result }
 {
-    let v = check(message);
-    match v {
-        Verdict::Refused(r) => Written {
-            verdict: Verdict::Refused(r),
-            length: 0,
-        },
-        Verdict::Accepted => write_checked(message, out),
-    }
-}
-
-// The same where it can be written.
-fn write_checked(message: &[u8], out: &mut [u8]) -> Written
-    requires { (length message.now ≡ record_size) × (is_known (get_or message.now record_kind 0) ≡ true)
-        × (frame_verdict (frame_of message.now) ≡ Verdict.Accepted) }
-    ensures { Wrote (frame_of message.now) out.old out.new result }
-{
+    check(message)?;
     let g = numbers::get_number(message, VIEW, sizes::IDENTIFIER);
     let x = numbers::get_number(message, NUMBER, sizes::NUMBER);
     let m = format::message(message[KIND], x);
-    let view = ViewId((g % 4294967296) as u32);
     writer::write_from(
         out,
-        view,
+        ViewId(g as u32),
         m,
         message,
         NUMBER,

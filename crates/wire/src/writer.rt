@@ -9,7 +9,7 @@ ghost use Rattle.wire.specs.Writer.{Wrote, store_view};
 ghost use Rattle.wire.specs.Format.{views_bytes, numbers_of, numbers_bytes, bytes_of};
 ghost use Rattle.wire.specs.Reader.{views_at, views_in, shortest};
 
-use crate::{Frame, Message, Written, format};
+use crate::{Frame, Message, format};
 use views::list::Views;
 use views::refusal::{Refusal, Verdict};
 use views::{View, ViewId, sizes};
@@ -22,7 +22,7 @@ pub fn check(f: Frame) -> Verdict
     let list = f.views;
     let kind = format::kind(m);
     if !format::views_allowed(kind, list.count) {
-        return Verdict::Refused(Refusal::SectionCount);
+        return Err(Refusal::SectionCount);
     }
     format::content(kind, list, format::number(m))
 }
@@ -33,13 +33,8 @@ pub fn store_views(b: &mut [u8], from: usize, list: Views, n: usize)
     ensures { b.new ≡ take from b.old
         ++ (views_bytes (take n list.at) ++ drop (from + view_size * n) b.old) }
 {
-    let mut i = 0;
-    while i < n {
-        let v = list.at[i];
-        let place = from + sizes::VIEW * i;
-        numbers::put_number(b, place, sizes::IDENTIFIER, v.id.0 as u64);
-        b[place + sizes::IDENTIFIER] = v.set;
-        i += 1;
+    for (i, v) in list.at[..n].iter().enumerate() {
+        store_view(b, from + sizes::VIEW * i, *v);
     }
 }
 
@@ -51,7 +46,7 @@ fn store_front(b: &mut [u8], kind: u8, view: ViewId, n: usize)
 {
     b[0] = kind;
     numbers::put_number(b, format::IDENTIFIER_AT, sizes::IDENTIFIER, view.0 as u64);
-    b[format::COUNT_AT] = (n % 256) as u8;
+    b[format::COUNT_AT] = n as u8;
 }
 
 // How many numbers the message carries.
@@ -59,10 +54,8 @@ fn numbers_in(m: Message) -> u8
     ensures { result ≡ length (numbers_of m) }
 {
     match m {
-        Message::Client(_) => 1,
-        Message::Info => 0,
-        Message::Registered => 0,
-        Message::Told(_) => 1,
+        Message::Client(_) | Message::Told(_) => 1,
+        Message::Info | Message::Registered => 0,
     }
 }
 
@@ -75,10 +68,9 @@ fn store_numbers(b: &mut [u8], at: usize, m: Message)
 {
     let count = numbers_in(m);
     b[at] = count;
-    if count == 0 {
-        return;
+    if count != 0 {
+        numbers::put_number(b, at + 1, sizes::NUMBER, format::number(m));
     }
-    numbers::put_number(b, at + 1, sizes::NUMBER, format::number(m));
 }
 
 // The frame's bytes are stored at the front of a buffer that has room for them.
@@ -87,48 +79,25 @@ fn store_frame(b: &mut [u8], f: Frame)
         ≤ length b.old) × (f.views.count ≤ max_views) }
     ensures { b.new ≡ overwritten (frame_bytes f) b.old }
 {
-    let m = f.message;
-    let view = f.view;
-    let list = f.views;
-    let n = list.count;
-    store_front(b, format::kind(m), view, n);
-    store_views(b, format::VIEWS_AT, list, n);
-    store_numbers(b, format::VIEWS_AT + sizes::VIEW * n, m);
+    let n = f.views.count;
+    store_front(b, format::kind(f.message), f.view, n);
+    store_views(b, format::VIEWS_AT, f.views, n);
+    store_numbers(b, format::VIEWS_AT + sizes::VIEW * n, f.message);
 }
 
 // The frame's bytes are written to the front of the buffer.
-pub fn write(b: &mut [u8], f: Frame) -> Written
+pub fn write(b: &mut [u8], f: Frame) -> Result<usize, Refusal>
     ensures { Wrote f b.old b.new result }
 {
-    let verdict = check(f);
-    match verdict {
-        Verdict::Refused(r) => Written {
-            verdict: Verdict::Refused(r),
-            length: 0,
-        },
-        Verdict::Accepted => write_checked(b, f),
-    }
-}
-
-// The same where the frame can be written.
-fn write_checked(b: &mut [u8], f: Frame) -> Written
-    requires { frame_verdict f ≡ Verdict.Accepted }
-    ensures { Wrote f b.old b.new result }
-{
-    let m = f.message;
-    let n = f.views.count;
-    let size = format::SHORTEST + sizes::VIEW * n + sizes::NUMBER * (numbers_in(m) as usize);
+    check(f)?;
+    let size = format::SHORTEST
+        + sizes::VIEW * f.views.count
+        + sizes::NUMBER * (numbers_in(f.message) as usize);
     if b.len() < size {
-        return Written {
-            verdict: Verdict::Refused(Refusal::BufferTooShort),
-            length: 0,
-        };
+        return Err(Refusal::BufferTooShort);
     }
     store_frame(b, f);
-    Written {
-        verdict: Verdict::Accepted,
-        length: size,
-    }
+    Ok(size)
 }
 
 // A view is stored at a place.
@@ -145,22 +114,14 @@ pub fn copy(out: &mut [u8], to: usize, from: &[u8], at: usize, n: usize)
     requires { (to + n ≤ length out.old) × (at + n ≤ length from.now) }
     ensures { out.new ≡ paste out.old to (drop at from.now) n }
 {
-    let mut i = 0;
-    while i < n {
-        out[to + i] = from[at + i];
-        i += 1;
-    }
+    out[to..to + n].copy_from_slice(&from[at..at + n]);
 }
 
 // Every byte is 0.
 pub fn clear(b: &mut [u8])
     ensures { b.new ≡ replicate (length b.old) 0 }
 {
-    let mut i = 0;
-    while i < b.len() {
-        b[i] = 0;
-        i += 1;
-    }
+    b.fill(0);
 }
 
 // The section of numbers is stored at a place; the number lies in other bytes, and is copied as it stands.
@@ -173,10 +134,9 @@ fn copy_numbers(out: &mut [u8], to: usize, m: Message, from: &[u8], number: usiz
 {
     let many = numbers_in(m);
     out[to] = many;
-    if many == 0 {
-        return;
+    if many != 0 {
+        copy(out, to + 1, from, number, sizes::NUMBER);
     }
-    copy(out, to + 1, from, number, sizes::NUMBER);
 }
 
 // The bytes of a message, whose number and n views lie in other bytes, are stored at the front of a buffer that has
@@ -210,22 +170,16 @@ pub fn write_from(
     number: usize,
     at: usize,
     n: usize,
-) -> Written
+) -> Result<usize, Refusal>
     requires { (number + number_size ≤ length from.now) × LiesAt m from.now number
         × (at + view_size * n ≤ length from.now)
-        × (frame_verdict (frame_from view m from.now at n) ≡ Verdict.Accepted) }
+        × (frame_verdict (frame_from view m from.now at n) ≡ Ok tt) }
     ensures { Wrote (frame_from view m from.now at n) out.old out.new result }
 {
     let length = format::SHORTEST + sizes::VIEW * n + sizes::NUMBER * (numbers_in(m) as usize);
     if out.len() < length {
-        return Written {
-            verdict: Verdict::Refused(Refusal::BufferTooShort),
-            length: 0,
-        };
+        return Err(Refusal::BufferTooShort);
     }
     store_from(out, view, m, from, number, at, n);
-    Written {
-        verdict: Verdict::Accepted,
-        length,
-    }
+    Ok(length)
 }

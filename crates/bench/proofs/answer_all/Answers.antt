@@ -1,6 +1,5 @@
 -- Each line ends at or behind its start, and the next starts behind its end.
 use mathlib.Core.Path.{ap}
-use Prim.Native.Nat.{◌-◌}
 use native.Mathlib.Omega.{arith}
 use lib.ListN.{length}
 use Rattle.bench_lines.proofs.WordLaws.{find-le, find-from}

@@ -14,14 +14,14 @@ use Rattle.bench.proofs.run.Goals as goal
 idle-stays : (b : Bench) → b ≡ idle → (r : Ranges) → BenchStaysSound b r
 idle-stays b e r h = absurd (true≢false (sym h ∙ ap (λ (x : Bench). x.running) e))
 
-pub loop-turns-init : goal.loop-turns-init
-loop-turns-init g c = (idle-stays _ c.idle-bench.ensures _, search rules)
+pub loop-init : goal.loop-init
+loop-init g c = (idle-stays _ c.idle-bench.ensures _, search rules)
 
 pub slice_bounds-finish-end-then-n-held : goal.slice_bounds-finish-end-then-n-held
 slice_bounds-finish-end-then-n-held g c = sym (length-take-le _ _ (omega arith))
 
-pub slice_bounds-answer_all-end-in-loop-turns : goal.slice_bounds-answer_all-end-in-loop-turns
-slice_bounds-answer_all-end-in-loop-turns g c = sym (length-take-le _ _ (omega arith))
+pub slice_bounds-answer_all-end-in-loop : goal.slice_bounds-answer_all-end-in-loop
+slice_bounds-answer_all-end-in-loop g c = sym (length-take-le _ _ (omega arith))
 
-pub loop-turns-preserved : goal.loop-turns-preserved
-loop-turns-preserved g c = (c.answer_all-t.ensures.1, search rules)
+pub loop-preserved : goal.loop-preserved
+loop-preserved g c = (c.answer_all-t.ensures.1, search rules)

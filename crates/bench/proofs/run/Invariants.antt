@@ -6,11 +6,7 @@ use Rattle.group_bytes.specs.Groups.{ranges}
 use Rattle.bench_session.specs.NextParts.{BenchStaysSound}
 use Rattle.bench.proofs.run.Given as goal
 
-abbrev pub invariant-loop-turns : goal.invariant-loop-turns
-invariant-loop-turns g l =
+abbrev pub invariant-loop : goal.invariant-loop
+invariant-loop g l =
     BenchStaysSound l.bench (ranges l.list l.all l.queues)
     × ((l.held ≤ length l.input) × (length l.list ≡ length l.initial.list) × (length l.all ≡ length l.initial.all) × (length l.queues ≡ length l.initial.queues) × (length l.input ≡ length l.initial.input) × (length l.out ≡ length l.initial.out))
-
-abbrev pub decreases-loop-turns : goal.decreases-loop-turns
-decreases-loop-turns g l =
-    l.turns

@@ -5,10 +5,8 @@ ghost use Rattle.bench_lines.specs.Lines.{form, table, form_of};
 use crate::texts::words;
 use events::kinds;
 
-// The kinds of lines besides the steps: 0 for group, and the number behind the last step's where there is no such name.
+// The kind of the line besides the steps'.
 pub const GROUP: u8 = 0;
-
-pub const UNKNOWN: u8 = kinds::COLLECT + 1;
 
 // The largest number of each width: an identifier's, an entry number's, any other's.
 const IDENTIFIER: u64 = 4294967295;
@@ -36,48 +34,49 @@ fn with_operands(kind: u8, first: u64, second: u64) -> Form
     }
 }
 
-// What the name asks for.
-pub fn form_of(word: &[u8]) -> Form
+// What the name asks for, if there is such a name.
+pub fn form_of(word: &[u8]) -> Option<Form>
     ensures { result ≡ form_of table word.now }
 {
+    // No match on the names: its proof would be of every length and every byte at which one parts from another.
     if words::is(word, b"group") {
-        return with_operands(GROUP, OTHER, OTHER);
+        return Some(with_operands(GROUP, OTHER, OTHER));
     }
     if words::is(word, b"create") {
-        return with_operands(kinds::CREATE, IDENTIFIER, OTHER);
+        return Some(with_operands(kinds::CREATE, IDENTIFIER, OTHER));
     }
     if words::is(word, b"join") {
-        return with_operands(kinds::JOIN, OTHER, IDENTIFIER);
+        return Some(with_operands(kinds::JOIN, OTHER, IDENTIFIER));
     }
     if words::is(word, b"pass") {
-        return with_operands(kinds::PASS, OTHER, 0);
+        return Some(with_operands(kinds::PASS, OTHER, 0));
     }
     if words::is(word, b"order") {
-        return with_operands(kinds::ORDER, OTHER, IDENTIFIER);
+        return Some(with_operands(kinds::ORDER, OTHER, IDENTIFIER));
     }
     if words::is(word, b"deliver") {
-        return with_operands(kinds::DELIVER, OTHER, 0);
+        return Some(with_operands(kinds::DELIVER, OTHER, 0));
     }
     if words::is(word, b"attempt") {
-        return with_operands(kinds::ATTEMPT, OTHER, 0);
+        return Some(with_operands(kinds::ATTEMPT, OTHER, 0));
     }
     if words::is(word, b"register") {
-        return with_operands(kinds::REGISTER, OTHER, 0);
+        return Some(with_operands(kinds::REGISTER, OTHER, 0));
     }
     if words::is(word, b"send") {
-        return with_operands(kinds::SEND, OTHER, ENTRY);
+        return Some(with_operands(kinds::SEND, OTHER, ENTRY));
     }
     if words::is(word, b"hand") {
-        return with_operands(kinds::HAND, OTHER, 0);
+        return Some(with_operands(kinds::HAND, OTHER, 0));
     }
     if words::is(word, b"tell") {
-        return with_operands(kinds::TELL, OTHER, 0);
+        return Some(with_operands(kinds::TELL, OTHER, 0));
     }
     if words::is(word, b"safe") {
-        return with_operands(kinds::SAFE, OTHER, 0);
+        return Some(with_operands(kinds::SAFE, OTHER, 0));
     }
     if words::is(word, b"collect") {
-        return with_operands(kinds::COLLECT, OTHER, 0);
+        return Some(with_operands(kinds::COLLECT, OTHER, 0));
     }
-    with_operands(UNKNOWN, OTHER, 0)
+    None
 }

@@ -1,13 +1,13 @@
 // Replies as bytes, put together in a scratch text: what counts of it is its first bytes, as many as were put so far.
 ghost use Rattle.std.specs.Prelude.{◌≤◌, length};
 ghost use Rattle.bench_lines.specs.TextParts.{Put};
-ghost use Rattle.bench_lines.specs.ReplyLines.{spoken, event_line, reply_line, Wrote};
+ghost use Rattle.bench_lines.specs.ReplyLines.{spoken, event_line, reply_line, longest_reply, Wrote};
+ghost use Rattle.bench_lines.specs.Promises.{Sized};
 
 use crate::texts::numerals::put_number;
 use crate::texts::{put, words};
-use events::{Event, Reply, kinds};
-use views::refusal::{Refusal, Verdict};
-use wire::Written;
+use events::{Event, Reply};
+use views::refusal::Refusal;
 
 // Room for a word of 8 bytes, four numbers of 20 digits, the spaces between them, and the byte that ends the line.
 pub const ROOM: usize = 93;
@@ -19,78 +19,61 @@ fn put_spoken(text: &mut [u8], word: &[u8], numbers: &[u64]) -> usize
         result }
 {
     let mut at = put(text, 0, word);
-    let mut i: usize = 0;
-    while i < numbers.len() {
+    for x in numbers {
         text[at] = words::SPACE;
-        at = put_number(text, at + 1, numbers[i]);
-        i += 1;
+        at = put_number(text, at + 1, *x);
     }
     text[at] = words::LINE_FEED;
     at + 1
 }
 
-// The line of an accepted step: its event, or `ok`.
+// The line of an outward event. Its numbers are within their types.
 fn put_event(text: &mut [u8], e: Event) -> usize
     requires { 93 ≤ length text.old }
-    ensures { Put (event_line e) text.old 0 text.new result }
+    ensures line { Put (event_line e) text.old 0 text.new result }
+    ensures sized { Sized e }
 {
-    let member = e.member.0 as u64;
-    let view = e.view.id.0 as u64;
-    let sender = e.sender.0 as u64;
-    if e.kind == kinds::ATTEMPT {
-        let numbers = [member, view, e.view.set as u64];
-        return put_spoken(text, b"attempt", &numbers);
+    match e {
+        Event::Attempt(p, v) => put_spoken(
+            text,
+            b"attempt",
+            &[p.0 as u64, v.id.0 as u64, v.set as u64],
+        ),
+        Event::Register(p, g) => put_spoken(text, b"register", &[p.0 as u64, g.0 as u64]),
+        Event::Send(p, g, x) => put_spoken(text, b"send", &[p.0 as u64, g.0 as u64, x]),
+        Event::Hand(p, g, x) => put_spoken(
+            text,
+            b"hand",
+            &[p.0 as u64, g.0 as u64, x.sender.0 as u64, x.entry],
+        ),
+        Event::Safe(p, g, x) => put_spoken(
+            text,
+            b"safe",
+            &[p.0 as u64, g.0 as u64, x.sender.0 as u64, x.entry],
+        ),
     }
-    if e.kind == kinds::REGISTER {
-        let numbers = [member, view];
-        return put_spoken(text, b"register", &numbers);
-    }
-    if e.kind == kinds::SEND {
-        let numbers = [member, view, e.entry];
-        return put_spoken(text, b"send", &numbers);
-    }
-    if e.kind == kinds::HAND {
-        let numbers = [member, view, sender, e.entry];
-        return put_spoken(text, b"hand", &numbers);
-    }
-    if e.kind == kinds::SAFE {
-        let numbers = [member, view, sender, e.entry];
-        return put_spoken(text, b"safe", &numbers);
-    }
-    put(text, 0, b"ok\n")
 }
 
-// The line of a reply.
+// The line of a reply: its event, `ok` where an accepted step has none, or the refusal's number. No line is longer than
+// the longest.
 pub fn put_reply(text: &mut [u8], r: Reply) -> usize
     requires { 93 ≤ length text.old }
-    ensures { Put (reply_line r) text.old 0 text.new result }
+    ensures line { Put (reply_line r) text.old 0 text.new result }
+    ensures fits { length (reply_line r) ≤ longest_reply }
 {
-    let verdict = r.verdict;
-    match verdict {
-        Verdict::Refused(x) => {
-            let numbers = [views::refusal::number(x) as u64];
-            put_spoken(text, b"refused", &numbers)
-        }
-        Verdict::Accepted => {
-            let e = r.event;
-            put_event(text, e)
-        }
+    match r {
+        Ok(Some(e)) => put_event(text, e),
+        Ok(None) => put(text, 0, b"ok\n"),
+        Err(x) => put_spoken(text, b"refused", &[x.number() as u64]),
     }
 }
 
 // The line goes to the front of a buffer that has room for it.
-pub fn put_front(out: &mut [u8], line: &[u8]) -> Written
+pub fn put_front(out: &mut [u8], line: &[u8]) -> Result<usize, Refusal>
     ensures { Wrote line.now out.old out.new result }
 {
     if out.len() < line.len() {
-        return Written {
-            verdict: Verdict::Refused(Refusal::BufferTooShort),
-            length: 0,
-        };
+        return Err(Refusal::BufferTooShort);
     }
-    let length = put(out, 0, line);
-    Written {
-        verdict: Verdict::Accepted,
-        length,
-    }
+    Ok(put(out, 0, line))
 }

@@ -5,54 +5,36 @@ ghost use Rattle.bench_lines.specs.TextParts.{Put};
 
 use crate::texts::put;
 
-// What a word says as an operand.
-#[derive(Clone, Copy)]
-pub enum Numeral {
-    Unfit,
-    Number(u64),
-}
-
 // The word is not empty, and `0` is the only one that begins with 0.
 fn well_begun(word: &[u8]) -> bool
     ensures { result ≡ begun word.now }
 {
-    if word.len() == 0 {
-        return false;
+    match word {
+        [] => false,
+        [_] => true,
+        [first, ..] => *first != b'0',
     }
-    if word.len() == 1 {
-        return true;
-    }
-    word[0] != b'0'
 }
 
-// The number that the word is, at most max.
-pub fn read_numeral(word: &[u8], max: u64) -> Numeral
+// The number that the word is, if it is one of at most max.
+pub fn read_numeral(word: &[u8], max: u64) -> Option<u64>
     ensures { result ≡ numeral_of max word.now }
 {
     if !well_begun(word) {
-        return Numeral::Unfit;
+        return None;
     }
     let mut x: u64 = 0;
-    let mut i: usize = 0;
-    while i < word.len() {
-        let c = word[i];
-        if c < b'0' {
-            return Numeral::Unfit;
+    for c in word {
+        if !c.is_ascii_digit() {
+            return None;
         }
-        if b'9' < c {
-            return Numeral::Unfit;
-        }
-        let d = (c - b'0') as u64;
-        if max < d {
-            return Numeral::Unfit;
-        }
-        if (max - d) / 10 < x {
-            return Numeral::Unfit;
+        let d = u64::from(*c - b'0');
+        if max < d || (max - d) / 10 < x {
+            return None;
         }
         x = x * 10 + d;
-        i += 1;
     }
-    Numeral::Number(x)
+    Some(x)
 }
 
 // The most digits of a number.
@@ -66,9 +48,10 @@ pub fn put_number(text: &mut [u8], at: usize, x: u64) -> usize
     let mut digits = [0u8; DIGITS];
     let mut i: usize = DIGITS - 1;
     let mut rest = x;
+    // A digit loop: how many digits there are is known only at its end.
     while 9 < rest {
         digits[i] = b'0' + (rest % 10) as u8;
-        rest = rest / 10;
+        rest /= 10;
         i -= 1;
     }
     digits[i] = b'0' + rest as u8;

@@ -11,12 +11,10 @@ pub const LINE_FEED: u8 = 10;
 pub fn find(s: &[u8], from: usize, c: u8) -> usize
     ensures { result ≡ find_from c s.now from }
 {
-    let mut i = from;
-    while i < s.len() {
+    for i in from..s.len() {
         if s[i] == c {
             return i;
         }
-        i += 1;
     }
     s.len()
 }
@@ -25,15 +23,5 @@ pub fn find(s: &[u8], from: usize, c: u8) -> usize
 pub fn is(word: &[u8], name: &[u8]) -> bool
     ensures { result ≡ same word.now name.now }
 {
-    if word.len() != name.len() {
-        return false;
-    }
-    let mut i: usize = 0;
-    while i < word.len() {
-        if word[i] != name[i] {
-            return false;
-        }
-        i += 1;
-    }
-    true
+    word == name
 }

@@ -6,10 +6,10 @@ returns-then-not-running c =
     let a = c.args in
     rw (c.if-not-running.true, c.unread.ensures) (idle-answers (record { list = a.list.now; books = a.all.now; queues = a.queues.now }) a.kind a.first a.second)
 
-pub next-reply-requires : goal.next-reply-requires
-next-reply-requires c k = c.requires k c.if-not-running.false
+pub next-requires : goal.next-requires
+next-requires c k = c.requires k c.if-not-running.false
 
 pub returns : goal.returns
 returns c =
     let a = c.args in
-    rw c.if-not-running.false (step-answers (record { list = a.list.now; books = a.all.now; queues = a.queues.now }) a.kind a.first a.second _ _ c.next-reply.ensures)
+    rw c.if-not-running.false (step-answers (record { list = a.list.now; books = a.all.now; queues = a.queues.now }) a.kind a.first a.second _ _ c.next.ensures)

@@ -1,6 +1,5 @@
 -- `book_sound::sound` meets its contract: where the layout fits, the book is sound when its record and its queues are.
-use mathlib.Core.Path.{sym, ◌∙◌}
-use native.Mathlib.Omega.{arith}
+use Rattle.std.proofs.Common.{sym, ◌∙◌, arith}
 use Rattle.rules.proofs.Truth.{stopped}
 use Rattle.book_bytes.specs.Books.{bytes_sound}
 use Rattle.book_bytes.proofs.LayoutLaws.{layout-says}
@@ -17,12 +16,6 @@ bounds-b-0 c = let l = layout-says c.args.b.now (sym c.layout_fits.ensures ∙ c
 pub bounds-b-34 : goal.bounds-b-34
 bounds-b-34 c = let l = layout-says c.args.b.now (sym c.layout_fits.ensures ∙ c.if-not-layout_fits.false) in omega (arith, l.size, l.side)
 
-pub overflow_mul-own : goal.overflow_mul-own
-overflow_mul-own c = let l = layout-says c.args.b.now (sym c.layout_fits.ensures ∙ c.if-not-layout_fits.false) in omega (arith, l.size, l.side)
-
-pub overflow_add-own : goal.overflow_add-own
-overflow_add-own c = let l = layout-says c.args.b.now (sym c.layout_fits.ensures ∙ c.if-not-layout_fits.false) in omega (arith, l.size, l.side)
-
 pub bounds-b-side : goal.bounds-b-side
 bounds-b-side c = let l = layout-says c.args.b.now (sym c.layout_fits.ensures ∙ c.if-not-layout_fits.false) in omega (arith, l.size, l.side)
 
@@ -35,18 +28,17 @@ bounds-b-side-2 c = let l = layout-says c.args.b.now (sym c.layout_fits.ensures 
 pub record_sound-requires : goal.record_sound-requires
 record_sound-requires c = let l = layout-says c.args.b.now (sym c.layout_fits.ensures ∙ c.if-not-layout_fits.false) in (omega (arith, l.size), l.opens)
 
-pub returns-then-not-record_sound : goal.returns-then-not-record_sound
-returns-then-not-record_sound c =
-    let early = c in
-    sym (record-stops early.args.b.now (sym early.layout_fits.ensures ∙ early.if-not-layout_fits.false) (sym c.record_sound.ensures ∙ c.if-not-record_sound.true))
-
 pub queues_sound-requires : goal.queues_sound-requires
 queues_sound-requires c =
-    let early = c in
-    let fits = sym early.layout_fits.ensures ∙ early.if-not-layout_fits.false in
-    (fits, record-members early.args.b.now fits (sym c.record_sound.ensures ∙ c.if-not-record_sound.false))
+    let fits = sym c.layout_fits.ensures ∙ c.if-not-layout_fits.false in
+    (fits, record-members c.args.b.now fits (sym c.record_sound.ensures ∙ c.if-record_sound.true))
 
-pub returns : goal.returns
-returns c =
-    let early = c in
-    c.queues_sound.ensures ∙ sym (record-passes early.args.b.now (sym early.layout_fits.ensures ∙ early.if-not-layout_fits.false) (sym c.record_sound.ensures ∙ c.if-not-record_sound.false))
+pub returns-then-record_sound : goal.returns-then-record_sound
+returns-then-record_sound c =
+    let fits = sym c.layout_fits.ensures ∙ c.if-not-layout_fits.false in
+    c.queues_sound.ensures ∙ sym (record-passes c.args.b.now fits (sym c.record_sound.ensures ∙ c.if-record_sound.true))
+
+pub returns-else-record_sound : goal.returns-else-record_sound
+returns-else-record_sound c =
+    let fits = sym c.layout_fits.ensures ∙ c.if-not-layout_fits.false in
+    c.if-record_sound.false ∙ sym (record-stops c.args.b.now fits (sym c.record_sound.ensures ∙ c.if-record_sound.false))

@@ -1,17 +1,11 @@
-use native.Mathlib.Omega.{arith}
+-- `book_steps::say` meets its contract: what is said goes to the end of outgoing.
 use Rattle.book_steps.specs.Parts.{said_bytes}
 use Rattle.book_steps.proofs.say.Goals as goal
 
-pub store_short-requires : goal.store_short-requires
-store_short-requires c = omega (arith, c.requires.1 c.if-m.true)
-
-pub overflow_add-b : goal.overflow_add-b
-overflow_add-b c = omega (arith, c.requires.1 c.if-m.true)
-
-pub returns-then-m : goal.returns-then-m
+pub returns-in-Some : goal.returns-in-Some
 unfolding said_bytes
-returns-then-m c = rw (c.if-m.true, c.store_short.ensures)
+returns-in-Some c = rw (c.store_short.ensures, c.kind.ensures, c.number.ensures, c.in-Some.is)
 
-pub returns-else-m : goal.returns-else-m
+pub returns-in_default : goal.returns-in_default
 unfolding said_bytes
-returns-else-m c = rw c.if-m.false
+returns-in_default c = rw c.in_default.is

@@ -14,4 +14,7 @@ pub put_number-requires : goal.put_number-requires
 put_number-requires c = simp length-set (omega (arith, simp length-set at c.store_view.auto.b))
 
 pub returns : goal.returns
-returns c = event-stored c.args.e c.args.out.now _ _ (omega arith) c.store_view.ensures c.put_number.ensures
+returns c =
+    let e = c.fields_for-e.result in
+    rw (← c.fields_for-e.ensures)
+    (record { bytes = event-stored e c.args.out.now _ _ (omega arith) c.store_view.ensures c.put_number.ensures; fits = (omega arith, omega arith) })

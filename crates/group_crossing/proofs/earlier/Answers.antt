@@ -4,10 +4,10 @@ use Rattle.views.specs.Sets.{has}
 use Rattle.group_crossing.specs.QueryParts.{earlier_at}
 use Rattle.group_crossing.proofs.earlier.Goals as goal
 
-pub returns-then-marks-i-ne1 : goal.returns-then-marks-i-ne1
+pub returns-then-marks-i-eq1 : goal.returns-then-marks-i-eq1
 unfolding earlier_at has
-returns-then-marks-i-ne1 c = rw (ne_eqb _ _ c.if-marks-i-ne1.true)
+returns-then-marks-i-eq1 c = rw (eq-eqb _ _ c.if-marks-i-eq1.true, c.load_view.ensures)
 
-pub returns : goal.returns
+pub returns-else-marks-i-eq1 : goal.returns-else-marks-i-eq1
 unfolding earlier_at has
-returns c = rw (eq-eqb _ _ c.if-marks-i-ne1.false, c.load_view-v.ensures)
+returns-else-marks-i-eq1 c = rw (ne_eqb _ _ c.if-marks-i-eq1.false)

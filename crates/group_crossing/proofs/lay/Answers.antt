@@ -1,38 +1,30 @@
 -- `group_crossing::lay` meets its contract: storing what is left to store gives what storing all from the start gives.
-use mathlib.Core.Path.{refl, sym, ap, ◌∙◌}
-use Prim.Native.Nat.{◌-◌}
+use mathlib.Core.Path.{◌≡◌, sym, ◌∙◌}
 use native.Mathlib.Omega.{arith}
 use lib.ListN.{length}
+use Rattle.numbers.specs.Number.{put}
 use Rattle.group_crossing.specs.QueryParts.{pick_at}
-use Rattle.group_crossing.proofs.QueryLaws.{put-length, room-turn, room_next, store-turn, store-end}
+use Rattle.group_crossing.proofs.QueryLaws.{ids_on, room_here, store_turn, store_end}
 use Rattle.group_crossing.proofs.lay.Goals as goal
 
-pub loop-i-init : goal.loop-i-init
-loop-i-init c = let s = c in (omega arith, refl, omega (arith, s.requires.2), refl)
+pub put_number-requires : goal.put_number-requires
+put_number-requires c =
+    omega (arith, room_here c.args.list.now _ c.loop-i.i c.loop-i.at (length c.loop-i.out) (omega arith) (sym c.picks.ensures ∙ c.if-picks.true) c.loop-i.invariant.room)
 
-pub put-at-requires : goal.put-at-requires
-put-at-requires c =
-    let s = c in
-    let l = c.loop-i in
-    let t = pick_at s.args.list.now s.args.marks s.args.hold s.args.set in
-    (omega (arith, s.requires.0, l.invariant.0), omega (arith, s.requires.1, l.invariant.0), room-turn s.args.list.now t l.i l.at _ (omega arith) l.invariant.2)
+pub loop-i-preserved-then-picks : goal.loop-i-preserved-then-picks
+loop-i-preserved-then-picks c =
+    let picked = sym c.picks.ensures ∙ c.if-picks.true in
+    let stored : c.put_number.new.b ≡ put c.loop-i.out c.loop-i.at 4 c.get_number-id.result = c.put_number.ensures in
+    record {
+      room = room_here c.args.list.now _ c.loop-i.i c.loop-i.at (length c.put_number.new.b) (omega arith) picked (omega (arith, c.loop-i.invariant.room));
+      stored = rw (stored, c.get_number-id.ensures.0) (store_turn c.args.list.now _ c.loop-i.i c.loop-i.at c.loop-i.out _ (omega arith) picked c.loop-i.invariant.stored);
+    }
 
 pub loop-i-preserved : goal.loop-i-preserved
-loop-i-preserved c =
-    let s = c in
-    let l = c.loop-i in
-    let t = pick_at s.args.list.now s.args.marks s.args.hold s.args.set in
-    let x = c.put-at.ensures in
-    let long = ap length x.1 ∙ put-length (t (l.i - 1)) _ l.at _ in (
-      omega (arith, l.invariant.0),
-      long ∙ l.invariant.1,
-      rw (x.0, long) (room_next s.args.list.now t l.i l.at _ (omega arith) l.invariant.2),
-      rw (x.0, x.1) (store-turn s.args.list.now t l.i l.at _ _ (omega arith) l.invariant.3),
-    )
+loop-i-preserved c = rw (← ids_on c.args.list.now _ c.loop-i.i (omega arith) (sym c.picks.ensures ∙ c.if-picks.false)) c.loop-i.invariant
 
 pub returns : goal.returns
 returns c =
-    let s = c in
-    let l = c.loop-i in
-    let t = pick_at s.args.list.now s.args.marks s.args.hold s.args.set in
-    sym (store-end s.args.list.now t l.i l.at _ (omega arith)) ∙ l.invariant.3
+    let t = pick_at c.args.list.now c.args.marks c.args.hold c.args.set in
+    let end : c.loop-i.i ≡ 0 = omega arith in
+    sym (store_end c.args.list.now t c.loop-i.at c.loop-i.out) ∙ rw end at c.loop-i.invariant.stored

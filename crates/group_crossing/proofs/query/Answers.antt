@@ -12,7 +12,7 @@ pub returns-then-out-ne0 : goal.returns-then-out-ne0
 returns-then-out-ne0 c =
     let a = c.args in
     let r = ranges a.list.now a.books.now a.queues.now in
-    not-whole r a.hold a.set _ _ c.if-out-ne0.true c.refuse.ensures
+    not-whole r a.hold a.set _ c.if-out-ne0.true
 
 pub returns-then-not-sound : goal.returns-then-not-sound
 returns-then-not-sound c =
@@ -20,7 +20,7 @@ returns-then-not-sound c =
     let c8 = c3 in
     let a = c8.args in
     let r = ranges a.list.now a.books.now a.queues.now in
-    not_sound r a.hold a.set _ c3.if-out-ne0.false _ (sym c.sound.ensures ∙ not-true _ c.if-not-sound.true-raw) c.refuse-then-not-sound.ensures
+    not_sound r a.hold a.set _ c3.if-out-ne0.false (sym c.sound.ensures ∙ not-true _ c.if-not-sound.true-raw)
 
 pub bounds-books-0 : goal.bounds-books-0
 bounds-books-0 c =
@@ -36,8 +36,8 @@ returns-then-not-fits c =
     let c11 = c6 in
     let a = c11.args in
     let r = ranges a.list.now a.books.now a.queues.now in
-    not_set r a.hold a.set _ c6.if-out-ne0.false (sym c5.sound.ensures ∙ not-false _ c4.if-not-sound.false-raw) _
-    (sym c.fits.ensures ∙ not-true _ c.if-not-fits.true-raw) c.refuse-then-not-fits.ensures
+    not_set r a.hold a.set _ c6.if-out-ne0.false (sym c5.sound.ensures ∙ not-false _ c4.if-not-sound.false-raw)
+    (sym c.fits.ensures ∙ not-true _ c.if-not-fits.true-raw)
 
 pub bounds-queues-0 : goal.bounds-queues-0
 bounds-queues-0 c =
@@ -97,8 +97,7 @@ returns-then-out-k c =
     let a = c15.args in
     let r = ranges a.list.now a.books.now a.queues.now in
     not-room r a.hold a.set _ c10.if-out-ne0.false (sym c9.sound.ensures ∙ not-false _ c8.if-not-sound.false-raw)
-    (sym c6.fits.ensures ∙ not-false _ c5.if-not-fits.false-raw) _ c3.get_number-marks.ensures.0 _ c.count-k.ensures _
-    c.if-out-k.true c.refuse-then-out-k.ensures
+    (sym c6.fits.ensures ∙ not-false _ c5.if-not-fits.false-raw) _ c3.get_number-marks.ensures.0 _ c.count-k.ensures c.if-out-k.true
 
 pub lay-requires : goal.lay-requires
 lay-requires c =

@@ -7,6 +7,3 @@ use Rattle.group_crossing.proofs.wanted.Goals as goal
 pub returns-then-hold : goal.returns-then-hold
 unfolding majority_of passes
 returns-then-hold c = c.majority.ensures ∙ rw c.if-hold.true
-
-pub returns : goal.returns
-returns c = rw (c.if-hold.false, c.empty.ensures, c.common.ensures)

@@ -1,3 +1,5 @@
+use mathlib.Core.Path.{sym}
+use Rattle.std.proofs.Common.{length-take-le}
 use Rattle.group_listed.proofs.BytesLaws.{part_in, part_end, part-more, part_left}
 use Rattle.group_listed.proofs.StepLaws.{stepped_by}
 use Rattle.group_listed.proofs.step_by.Goals as goal
@@ -8,7 +10,7 @@ slice_bounds-bytes-end c = part_end _ _ _ c.long-e.ensures c.spread-bytes.ensure
 -- the part that went to the group came back as long as it was
 pub slice_bounds-view_in-end : goal.slice_bounds-view_in-end
 slice_bounds-view_in-end c =
-    part-more c.args.l _ _ c.long-e.ensures c.spread-bytes.ensures c.step-reply.new.list _ c.step-reply.auto.list
+    sym (length-take-le _ _ (part-more c.args.l _ _ c.long-e.ensures c.spread-bytes.ensures c.step-reply.new.list _ c.step-reply.auto.list))
 
 pub returns : goal.returns
 returns c =

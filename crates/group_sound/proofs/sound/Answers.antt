@@ -52,14 +52,14 @@ numbers_fit-requires c =
     let r = lent a.list.now a.books.now a.queues.now in
     room-few r (sym t.sizes_fit.ensures ∙ not-false _ t.if-not-sizes_fit.false-raw)
 
-pub returns-then-not-numbers_fit : goal.returns-then-not-numbers_fit
+pub returns-else-numbers_fit : goal.returns-else-numbers_fit
 unfolding parts_sound
-returns-then-not-numbers_fit c =
+returns-else-numbers_fit c =
     let g = c in
     let a = g.args in
     let r = lent a.list.now a.books.now a.queues.now in
     let said = numbers-said r _ _ g.get_number-marks.ensures.0 c.numbers_fit.ensures in
-    sym (ranges-parts r ∙ stopped _ 1 (sym said ∙ not-true _ c.if-not-numbers_fit.true-raw))
+    c.if-numbers_fit.false ∙ sym (ranges-parts r ∙ stopped _ 1 (sym said ∙ c.if-numbers_fit.false))
 
 pub records_sound-requires : goal.records_sound-requires
 records_sound-requires c =
@@ -68,17 +68,17 @@ records_sound-requires c =
     let a = t.args in
     let r = lent a.list.now a.books.now a.queues.now in
     let z = sym t.sizes_fit.ensures ∙ not-false _ t.if-not-sizes_fit.false-raw in
-    let m = sym (numbers-said r _ _ g.get_number-marks.ensures.0 c.numbers_fit.ensures) ∙ not-false _ c.if-not-numbers_fit.false-raw in
+    let m = sym (numbers-said r _ _ g.get_number-marks.ensures.0 c.numbers_fit.ensures) ∙ c.if-numbers_fit.true in
     (list-holds r z m, books-long r z, queues-hold r z m, members-few r z m)
 
-pub returns : goal.returns
+pub returns-then-numbers_fit : goal.returns-then-numbers_fit
 unfolding parts_sound
-returns c =
+returns-then-numbers_fit c =
     let c2 = c in
     let g = c2 in
     let t = g in
     let a = t.args in
     let r = lent a.list.now a.books.now a.queues.now in
     let z = sym t.sizes_fit.ensures ∙ not-false _ t.if-not-sizes_fit.false-raw in
-    let m = sym (numbers-said r _ _ g.get_number-marks.ensures.0 c2.numbers_fit.ensures) ∙ not-false _ c.if-not-numbers_fit.false-raw in
+    let m = sym (numbers-said r _ _ g.get_number-marks.ensures.0 c2.numbers_fit.ensures) ∙ c.if-numbers_fit.true in
     c.records_sound.ensures ∙ sym (ranges-parts r ∙ three _ _ _ ∙ rw (z, m))

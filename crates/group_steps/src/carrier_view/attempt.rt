@@ -14,8 +14,7 @@ ghost use Rattle.group_bytes.specs.Groups.{place_of, ranges_sound};
 ghost use Rattle.group_bytes.specs.Moves.{marked};
 ghost use Rattle.group_steps.specs.OwnParts.{HasBook, of_member, OwnStep, Attempted};
 
-use events::Reply;
-use views::refusal::{Refusal, Verdict};
+use events::{Event, Reply};
 use views::{Member, ViewId};
 
 // The carrier view becomes open and becomes the client view, in the member's book.
@@ -25,12 +24,8 @@ fn own(all: &mut [u8], p: Member) -> Reply
         (of_member all.old p.0 (λ b. few_open (attempts one (members_in b) (own_in_book b) (book_in b))))
         attempt_bytes all.old all.new result }
 {
-    if all[book_bytes::MEMBERS] <= p.0 {
-        return events::refuse(Refusal::NoSuchMember);
-    }
-    let a = book_bytes::SIZE * (p.0 as usize);
-    let e = a + book_bytes::SIZE;
-    book_steps::carrier_view::attempt(&mut all[a..e])
+    let a = crate::book_at(all, p)?;
+    book_steps::carrier_view::attempt(&mut all[a..a + book_bytes::SIZE])
 }
 
 // Marks the view with the identifier as attempted.
@@ -58,13 +53,9 @@ pub fn attempt(list: &[u8], all: &mut [u8], queues: &mut [u8], p: Member) -> Rep
         (record { list = list.entry.now; books = all.old; queues = queues.old }) p.0
         all.new queues.new result }
 {
-    let r = own(all, p);
-    let v = r.verdict;
-    match v {
-        Verdict::Refused(f) => events::refuse(f),
-        Verdict::Accepted => {
-            mark(list, queues, r.event.view.id);
-            r
-        }
+    let happened = own(all, p)?;
+    if let Some(Event::Attempt(_, view)) = happened {
+        mark(list, queues, view.id);
     }
+    Ok(happened)
 }

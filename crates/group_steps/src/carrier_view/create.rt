@@ -17,15 +17,10 @@ fn above(list: &[u8], n: u8, id: ViewId) -> bool
     requires { view_size * n ≤ length list.now }
     ensures { result ≡ all_below id.0 (views_in list.now 0 n) }
 {
-    let mut i = 0;
-    while i < n {
-        let other = numbers::get_number(list, group_bytes::VIEW * (i as usize), sizes::IDENTIFIER);
-        if id.0 as u64 <= other {
-            return false;
-        }
-        i += 1;
-    }
-    true
+    (0..n).all(|i| {
+        let other = numbers::get_number(list, group_bytes::VIEW * i as usize, sizes::IDENTIFIER);
+        other < id.0 as u64
+    })
 }
 
 // Every queue of the view at a place is empty.
@@ -33,13 +28,9 @@ fn clear(queues: &mut [u8], i: u8)
     requires { (i ≤ max_views) × (order_at i + table_size ≤ length queues.old) }
     ensures { queues.new ≡ table_cleared queues.old i }
 {
-    let c = group_bytes::order_at(i);
-    queues[c] = 0;
-    let mut p = 0;
-    while p < limits::MEMBERS {
-        let w = group_bytes::waiting_at(i, Member(p));
-        queues[w] = 0;
-        p += 1;
+    queues[group_bytes::order_at(i)] = 0;
+    for p in 0..limits::MEMBERS {
+        queues[group_bytes::waiting_at(i, Member(p))] = 0;
     }
 }
 
@@ -63,16 +54,16 @@ pub fn create(list: &mut [u8], all: &[u8], queues: &mut [u8], id: ViewId, set: u
         list.exit.now queues.new result }
 {
     if !sets::fits(all[book_bytes::MEMBERS], set) {
-        return Verdict::Refused(Refusal::SetUnfit);
+        return Err(Refusal::SetUnfit);
     }
     let made = queues[group_bytes::MADE];
     if !above(list, made, id) {
-        return Verdict::Refused(Refusal::IdentifierNotAbove);
+        return Err(Refusal::IdentifierNotAbove);
     }
     if list.len() / group_bytes::VIEW <= made as usize {
-        return Verdict::Refused(Refusal::ListFull);
+        return Err(Refusal::ListFull);
     }
     let v = View { id, set };
     make(list, queues, made, v);
-    Verdict::Accepted
+    Ok(())
 }

@@ -31,21 +31,21 @@ pub fn order(list: &[u8], all: &[u8], queues: &mut [u8], p: Member, id: ViewId) 
         queues.new result }
 {
     if all[book_bytes::MEMBERS] <= p.0 {
-        return Verdict::Refused(Refusal::NoSuchMember);
+        return Err(Refusal::NoSuchMember);
     }
     let made = queues[group_bytes::MADE];
     let i = group_bytes::place(list, made, id);
     if made <= i {
-        return Verdict::Refused(Refusal::NoSuchView);
+        return Err(Refusal::NoSuchView);
     }
     let c = group_bytes::order_at(i);
     let w = group_bytes::waiting_at(i, p);
     if queues[w] == 0 {
-        return Verdict::Refused(Refusal::NoneWaiting);
+        return Err(Refusal::NoneWaiting);
     }
     if limits::ORDERED <= queues[c] {
-        return Verdict::Refused(Refusal::OrderFull);
+        return Err(Refusal::OrderFull);
     }
     forward(queues, c, w);
-    Verdict::Accepted
+    Ok(())
 }

@@ -41,23 +41,20 @@ pub fn pass(list: &[u8], all: &mut [u8], queues: &mut [u8], p: Member) -> Verdic
         (record { list = list.entry.now; books = all.old; queues = queues.old }) p.0
         all.new queues.new result }
 {
-    if all[book_bytes::MEMBERS] <= p.0 {
-        return Verdict::Refused(Refusal::NoSuchMember);
-    }
-    let a = book_bytes::SIZE * (p.0 as usize);
+    let a = crate::book_at(all, p)?;
     let e = a + book_bytes::SIZE;
     let carrier = book_bytes::load_seat(&all[a..e], book_bytes::CARRIER);
     if !carrier.there {
-        return Verdict::Refused(Refusal::NoCarrierView);
+        return Err(Refusal::NoCarrierView);
     }
     if all[a + book_bytes::OUTGOING] == 0 {
-        return Verdict::Refused(Refusal::NoneOutgoing);
+        return Err(Refusal::NoneOutgoing);
     }
     let i = group_bytes::place(list, queues[group_bytes::MADE], carrier.view.id);
     let w = group_bytes::waiting_at(i, p);
     if limits::WAITING <= queues[w] {
-        return Verdict::Refused(Refusal::WaitingFull);
+        return Err(Refusal::WaitingFull);
     }
     forward(&mut all[a..e], queues, w);
-    Verdict::Accepted
+    Ok(())
 }

@@ -9,7 +9,7 @@ use lib.Dec.{ltb}
 use Rattle.views.specs.declared.View.{View}
 use Rattle.views.specs.declared.refusal.Refusal.{Refusal}
 use Rattle.views.specs.declared.refusal.Refusal.TheVariants.{OrderFull, TooManyOpen}
-use Rattle.views.specs.declared.refusal.Verdict.TheVariants.{Accepted, Refused}
+use Rattle.std.specs.Prelude.{Ok, Err}
 use Rattle.views.specs.Limits.{max_members}
 use Rattle.views.specs.Points.{at, at2}
 use Rattle.views.specs.Refusals.{left}
@@ -153,7 +153,7 @@ module _ (n S : ℕ) where
 
   -- ---- the start
 
-  begun : (lent : Member → List ℕ) → 0 < n → ((p : Member) → p < n → verdict_of (start_call n S p (lent p)) ≡ Accepted) → Follows (H.world0 n S lent) []
+  begun : (lent : Member → List ℕ) → 0 < n → ((p : Member) → p < n → verdict_of (start_call n S p (lent p)) ≡ Ok tt) → Follows (H.world0 n S lent) []
   begun lent some h =
       let (x, e) = accepts (start_call n S 0 (lent 0)) (h 0 some) in
       let b = start-gave n S 0 (lent 0) x e in
@@ -185,7 +185,7 @@ never-four-hosts n S w l g p i =
     conditions-from _ (a.fits and rw (a.members, a.book) (never-wedged-hosts one n S t l r p i) and tt)
 
 -- a result that two tests can refuse
-refused-by : (x y : Bool) (d : Done) (r : Refusal) → verdict_of (need x OrderFull (need y TooManyOpen (accepted d))) ≡ Refused r → (r ≡ OrderFull) ⊎ (r ≡ TooManyOpen)
+refused-by : (x y : Bool) (d : Done) (r : Refusal) → verdict_of (need x OrderFull (need y TooManyOpen (accepted d))) ≡ Err r → (r ≡ OrderFull) ⊎ (r ≡ TooManyOpen)
 unfolding need
 refused-by false y d r e = let k : OrderFull ≡ r = cc in inl (sym k)
 refused-by true false d r e = let k : TooManyOpen ≡ r = cc in inr (sym k)

@@ -1,11 +1,10 @@
 -- What a member calls can be called later as well: its book is its own, and views and orders only grow.
 use mathlib.Core.Path.{◌≡◌, refl, sym, ap, subst, ◌∙◌}
-use mathlib.Core.Option.{some}
+use Rattle.std.specs.Prelude.{Some, Ok}
 use mathlib.Core.List.{List, [], ◌∷◌, ◌++◌, append-nil, append_assoc}
 use Prim.Native.Nat.{ℕ, zero, suc}
 use native.Mathlib.Omega.{arith}
 use Rattle.views.specs.declared.View.{View}
-use Rattle.views.specs.declared.refusal.Verdict.TheVariants.{Accepted}
 use Rattle.views.specs.Points.{at}
 use Rattle.views.specs.Members.{In, pop}
 use Rattle.views.specs.Lists.{id_of, view_of}
@@ -70,7 +69,7 @@ module _ (n : ℕ) (w t : World) (g : Grown w t) (p : Member) (same : t.books p 
 
   in_order : (bytes : List ℕ) (q : Member) → InOrder w p bytes q → InOrder t p bytes q
   in_order bytes q h v m c e =
-      let next = h v m (subst (λ (b : List ℕ). (book_in b).carrier.view ≡ some v) same c) e in
+      let next = h v m (subst (λ (b : List ℕ). (book_in b).carrier.view ≡ Some v) same c) e in
       let letter : Letter = record { sender = q; bytes = bytes } in
       let (more, is) = g.order (id_of v) in
       let later = at_more (book_in (w.books p)).carrier.taken (w.order (id_of v)) more letter next in
@@ -101,5 +100,5 @@ each-later n w t g p same (b ∷ ps) q (o, os) = (
       let next : at p (new (t.books p)) t.books p ≡ at p (new (w.books p)) w.books p
       = upd-here p (new (t.books p)) t.books ∙ ap new same ∙ sym (upd-here p (new (w.books p)) w.books) in
       each-later n (rebooked w p (new (w.books p))) (rebooked t p (new (t.books p))) (record { views = g.views; order = g.order }) p next ps q
-      (os (subst (λ (c : List ℕ). verdict_of (deliver_call b q c) ≡ Accepted) same e)),
+      (os (subst (λ (c : List ℕ). verdict_of (deliver_call b q c) ≡ Ok tt) same e)),
 )

@@ -2,15 +2,15 @@
 use mathlib.Core.Path.{◌≡◌, refl, sym, ap, subst, ◌∙◌}
 use mathlib.Core.List.{List, [], ◌∷◌, ◌++◌, append-nil}
 use Prim.Native.Nat.{ℕ, ◌<◌}
-use lib.ListN.{drop}
-use Rattle.views.specs.declared.refusal.Verdict.{Verdict}
-use Rattle.views.specs.declared.refusal.Verdict.TheVariants.{Accepted, Refused}
+use Rattle.views.specs.Refusals.{Verdict, left}
+use Rattle.views.specs.declared.refusal.Refusal.{Refusal}
+use Rattle.std.specs.Prelude.{Ok, Err}
+use Rattle.std.specs.Prelude.{Result as Outcome}
 use Rattle.views.specs.Points.{at}
-use Rattle.views.specs.Refusals.{left}
 use Rattle.views.proofs.PointLaws.{upd-here, upd-again, upd-itself}
 use Rattle.wire.specs.declared.Reading.{Reading}
 use Rattle.wire.specs.Widths.{AreBytes}
-use Rattle.wire.specs.Packets.{piece_of, cut_by, pieces_in, readings_in}
+use Rattle.wire.specs.Packets.{piece_of, rest_of, cut_by, pieces_in, readings_in}
 use Rattle.slots.proofs.BytesKept.{take-bytes, drop-bytes}
 use Rattle.rules.specs.Data.{Member, Event, ok, Result, refused, accepted}
 use Rattle.rules.specs.Member.{Done}
@@ -30,15 +30,20 @@ use Rattle.member.proofs.Hosts.Follows.{follows, never-four-hosts}
 
 -- ---- the pieces of bytes are bytes
 
-piece_bytes : (v : Verdict) (n : ℕ) (s : List ℕ) → AreBytes s → AreBytes (piece_of v n s)
+piece_bytes : (v : Outcome Reading Refusal) (s : List ℕ) → AreBytes s → AreBytes (piece_of v s)
 unfolding piece_of
-piece_bytes Accepted n s y = take-bytes n s y
-piece_bytes (Refused r) n s y = y
+piece_bytes (Ok r) s y = take-bytes r.taken s y
+piece_bytes (Err x) s y = y
 
-cut-bytes : (l : List Reading) (s : List ℕ) → AreBytes s → Each AreBytes (cut_by l s)
+rest_bytes : (v : Outcome Reading Refusal) (s : List ℕ) → AreBytes s → AreBytes (rest_of v s)
+unfolding rest_of
+rest_bytes (Ok r) s y = drop-bytes r.taken s y
+rest_bytes (Err x) s y = y
+
+cut-bytes : (l : List (Outcome Reading Refusal)) (s : List ℕ) → AreBytes s → Each AreBytes (cut_by l s)
 unfolding cut_by
 cut-bytes [] s y = tt
-cut-bytes (r ∷ l) s y = (piece_bytes r.verdict r.taken s y, cut-bytes l (drop r.taken s) (drop-bytes r.taken s y))
+cut-bytes (v ∷ l) s y = (piece_bytes v s y, cut-bytes l (rest_of v s) (rest_bytes v s y))
 
 -- ---- deliver shows nothing
 
@@ -69,7 +74,7 @@ module _ (n S : ℕ) (p : Member) (i : p < n) (q : Member) where
   taken w b = rebooked w p (deliver_bytes b q (w.books p))
 
   one_more : (w : World) (l : List (Event ℕ)) → History n S w l → (b : List ℕ) → AreBytes b → H.InOrder w p b q
-      → verdict_of (deliver_call b q (w.books p)) ≡ Accepted → History n S (taken w b) l
+      → verdict_of (deliver_call b q (w.books p)) ≡ Ok tt → History n S (taken w b) l
   unfolding left
   one_more w l h b y o v =
       let r = deliver_call b q (w.books p) in
@@ -81,13 +86,13 @@ module _ (n S : ℕ) (p : Member) (i : p < n) (q : Member) where
   -- the messages after the first, if it is taken
   abbrev Others : World → List (Event ℕ) → List ℕ → List (List ℕ) → Type 0
   Others w l b ps =
-      verdict_of (deliver_call b q (w.books p)) ≡ Accepted → History n S (rebooked (taken w b) p (apart ps q ((taken w b).books p)).book) l
+      verdict_of (deliver_call b q (w.books p)) ≡ Ok tt → History n S (rebooked (taken w b) p (apart ps q ((taken w b).books p)).book) l
 
   first_of : (w : World) (l : List (Event ℕ)) → History n S w l → (b : List ℕ) (ps : List (List ℕ)) → Others w l b ps
       → (v : Verdict) → verdict_of (deliver_call b q (w.books p)) ≡ v → History n S (rebooked w p (apart (b ∷ ps) q (w.books p)).book) l
   unfolding apart after left
-  first_of w l h b ps k (Refused r) e = rw e (same-book w l h)
-  first_of w l h b ps k Accepted e =
+  first_of w l h b ps k (Err r) e = rw e (same-book w l h)
+  first_of w l h b ps k (Ok u) e =
       let new = deliver_bytes b q (w.books p) in
       let here : at p new w.books p ≡ new = upd-here p new w.books in
       let rest = subst (λ (c : List ℕ). History n S (rebooked (taken w b) p (apart ps q c).book) l) here (k e) in

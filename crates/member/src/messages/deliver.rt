@@ -1,14 +1,13 @@
 // Deliver: the bytes of a message of the carrier view are asked for the reader's verdict, and the message is taken from
 // where it lies.
-ghost use Rattle.std.specs.Prelude.{true, ◌≡◌};
-ghost use Rattle.std.proofs.Math.Option.{some};
+ghost use Rattle.std.specs.Prelude.{true, ◌≡◌, Some, Ok, IsOk};
 ghost use Rattle.views.specs.Refusals.{left};
 ghost use Rattle.wire.specs.Reader.{scan_of, frame_in, read_front};
 ghost use Rattle.events.specs.Replies.{reply_of, verdict_of};
-ghost use Rattle.rules.specs.Alone.{sent_by};
+ghost use Rattle.rules.specs.Alone.{sent_in};
 ghost use Rattle.book_bytes.specs.Books.{book_in, bytes_sound, members_in};
 ghost use Rattle.book_steps.specs.Acts.{take_bytes};
-ghost use Rattle.member.specs.Parts.{frame_answer, sent_in, arriving, Took};
+ghost use Rattle.member.specs.Parts.{frame_answer, sent_as, arriving, Took};
 ghost use Rattle.member.specs.Calls.{deliver_bytes, Gave, deliver_call};
 
 use crate::admit;
@@ -20,30 +19,30 @@ use wire::format;
 
 // 7 for any view carried, 41 another view, 42 a sender not in it, 16 after 128 taken.
 fn answer(n: u8, v: View, taken: Position, q: Member, bytes: &[u8]) -> Verdict
-    requires { scan_of bytes.now ≡ Verdict.Accepted }
+    requires { scan_of bytes.now ≡ Ok tt }
     ensures { result ≡ frame_answer n v taken.0 q.0 (frame_in bytes.now) }
 {
     let count = bytes[format::COUNT_AT] as usize;
     if !book_sound::views_at::all_fit(bytes, format::VIEWS_AT, count, n) {
-        return Verdict::Refused(Refusal::SetUnfit);
+        return Err(Refusal::SetUnfit);
     }
     let g = numbers::get_number(bytes, format::IDENTIFIER_AT, sizes::IDENTIFIER);
     if g != v.id.0 as u64 {
-        return Verdict::Refused(Refusal::AnotherView);
+        return Err(Refusal::AnotherView);
     }
     if !sets::contains(v.set, q) {
-        return Verdict::Refused(Refusal::SenderNotInView);
+        return Err(Refusal::SenderNotInView);
     }
     if limits::ORDERED <= taken.0 {
-        return Verdict::Refused(Refusal::OrderFull);
+        return Err(Refusal::OrderFull);
     }
-    Verdict::Accepted
+    Ok(())
 }
 
 // The message at the front of the bytes is taken, in the carrier view v; 43 comes last.
 fn deliver_message(b: &mut [u8], v: View, q: Member, bytes: &[u8]) -> Reply
-    requires { (bytes_sound b.old ≡ true) × ((book_in b.old).carrier.view ≡ some v)
-        × ((read_front bytes.now).verdict ≡ Verdict.Accepted) }
+    requires { (bytes_sound b.old ≡ true) × ((book_in b.old).carrier.view ≡ Some v)
+        × IsOk (read_front bytes.now) }
     ensures { (result ≡ reply_of
         (arriving (members_in b.old) v (sent_in (frame_in bytes.now)) q.0
         (book_in b.old)))
@@ -53,42 +52,28 @@ fn deliver_message(b: &mut [u8], v: View, q: Member, bytes: &[u8]) -> Reply
         (take_bytes q.0 (sent_in (frame_in bytes.now)).message b.old) b.old) }
 {
     let taken = Position(b[book_bytes::TAKEN]);
-    let verdict = answer(b[book_bytes::MEMBERS], v, taken, q, bytes);
-    match verdict {
-        Verdict::Refused(r) => events::refuse(r),
-        Verdict::Accepted => {
-            let message = wire::reader::load_message(bytes);
-            let e = Entry { sender: q, message };
-            let count = bytes[format::COUNT_AT] as usize;
-            // The bytes go on as a slice made here: one that came in would be copied whole, and the copy waited for.
-            book_steps::messages::deliver(b, e, &bytes[0..bytes.len()], format::VIEWS_AT, count)
-        }
-    }
+    answer(b[book_bytes::MEMBERS], v, taken, q, bytes)?;
+    let message = wire::reader::load_message(bytes);
+    let e = Entry { sender: q, message };
+    let count = bytes[format::COUNT_AT] as usize;
+    // The bytes go on as a slice made here: one that came in would be copied whole, and the copy waited for.
+    book_steps::messages::deliver(b, e, &bytes[0..bytes.len()], format::VIEWS_AT, count)
 }
 
 // The message at the front of the bytes is taken into a sound book, where `read` is the verdict on it: 13, then its own
 // refusal.
 pub fn deliver_read(b: &mut [u8], bytes: &[u8], read: Verdict, q: Member) -> Verdict
     requires { (bytes_sound b.old ≡ true)
-        × (read ≡ Verdict.Accepted → (read_front bytes.now).verdict ≡ Verdict.Accepted) }
-    ensures { Took (sent_by read (frame_in bytes.now)) q.0 b.old b.new result }
+        × (read ≡ Ok tt → IsOk (read_front bytes.now)) }
+    ensures { Took (sent_as read (frame_in bytes.now)) q.0 b.old b.new result }
 {
     let carrier = book_bytes::load_seat(b, book_bytes::CARRIER);
     if !carrier.there {
-        return Verdict::Refused(Refusal::NoCarrierView);
+        return Err(Refusal::NoCarrierView);
     }
-    match read {
-        Verdict::Refused(r) => Verdict::Refused(r),
-        Verdict::Accepted => {
-            let v = carrier.view;
-            let r = deliver_message(b, v, q, bytes);
-            let taken = r.verdict;
-            match taken {
-                Verdict::Refused(x) => Verdict::Refused(x),
-                Verdict::Accepted => Verdict::Accepted,
-            }
-        }
-    }
+    read?;
+    deliver_message(b, carrier.view, q, bytes)?;
+    Ok(())
 }
 
 // The bytes of one message from the sender q are taken.
@@ -96,19 +81,8 @@ pub fn deliver(b: &mut [u8], bytes: &[u8], q: Member) -> Reply
     ensures { Gave (deliver_call bytes.now q.0 b.old)
         (deliver_bytes bytes.now q.0 b.old) b.old b.new result }
 {
-    let v = admit(b);
-    match v {
-        Verdict::Refused(r) => events::refuse(r),
-        Verdict::Accepted => {
-            let read = wire::single::verdict(bytes);
-            let taken = deliver_read(b, bytes, read, q);
-            match taken {
-                Verdict::Refused(r) => events::refuse(r),
-                Verdict::Accepted => Reply {
-                    verdict: Verdict::Accepted,
-                    event: events::no_event(),
-                },
-            }
-        }
-    }
+    admit(b)?;
+    let read = wire::single::verdict(bytes);
+    deliver_read(b, bytes, read, q)?;
+    Ok(None)
 }

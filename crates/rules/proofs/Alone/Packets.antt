@@ -1,8 +1,8 @@
 -- A packet one by one: what can stop it, and that a view's 128 messages bound it.
-use mathlib.Core.Path.{◌≡◌, refl}
+use mathlib.Core.Path.{◌≡◌, refl, subst}
 use mathlib.Core.Logic.{◌⊎◌, inl, inr, ⊎_elim}
 use mathlib.Core.Bool.{Bool, true, false}
-use mathlib.Core.Option.{Option, none, some}
+use Rattle.std.specs.Prelude.{Option, None, Some, Ok, Err}
 use mathlib.Core.List.{List, [], ◌∷◌, map}
 use Prim.Native.Nat.{ℕ, ◌+◌, ◌≤◌, ◌<◌}
 use native.Mathlib.Omega.{arith}
@@ -10,22 +10,20 @@ use lib.Dec.{ltb}
 use borrow.Author.Tests.{ltb-true}
 use Rattle.views.specs.declared.View.{View}
 use Rattle.views.specs.declared.refusal.Refusal.{Refusal}
-use Rattle.views.specs.declared.refusal.Verdict.{Verdict}
-use Rattle.views.specs.declared.refusal.Verdict.TheVariants.{Accepted, Refused}
+use Rattle.std.specs.Prelude.{Result as Outcome}
+use Rattle.views.specs.Refusals.{require, and_then}
 use Rattle.views.specs.Limits.{max_ordered}
-use Rattle.views.specs.Refusals.{require}
 use Rattle.views.specs.Members.{In, top, pop}
 use Rattle.views.proofs.SetLaws.{known}
-use Rattle.wire.specs.declared.Frame.{Frame}
 use Rattle.wire.specs.declared.Reading.{Reading}
 use Rattle.wire.specs.Widths.{AreBytes}
 use Rattle.wire.specs.Format.{content_of}
-use Rattle.wire.specs.Reader.{scan_of, given, read_front}
+use Rattle.wire.specs.Reader.{scan_of, read_front}
 use Rattle.wire.specs.Packets.{readings_in}
 use Rattle.wire.proofs.PacketTrip.{by-readings, drop-bytes}
 use Rattle.rules.specs.Data.{Member, MessageOf, client, info, registered, told, BookOf, Result, refused, accepted, need, with_view, after}
 use Rattle.rules.specs.Member.{DoneOf, client_is_carrier, delivered}
-use Rattle.rules.specs.Alone.{SentOf, Sent, sent_by, sent_of, book_sound, alone, deliver_alone, DeliveryOf, onward, deliveries_one_by_one, stops}
+use Rattle.rules.specs.Alone.{SentOf, Sent, sent_of, book_sound, alone, deliver_alone, DeliveryOf, onward, deliveries_one_by_one, stops}
 use Rattle.rules.proofs.Holding.{Holds, gives, need-holds, view-holds, after_holds, holds-from}
 use Rattle.rules.proofs.Alone.Readable.{Given, front-given}
 
@@ -36,57 +34,57 @@ Each P (x ∷ l) = P x × Each P l
 -- ---- what can stop a packet
 
 -- if it is refused, then by one of these
-abbrev Stops : Verdict → Type 0
-Stops v = (r : Refusal) → v ≡ Refused r → In r stops
-
 abbrev pub StoppedBy : {A : Type 0} → Result A → Type 0
 StoppedBy x = (r : Refusal) → x ≡ refused r → In r stops
 
-accepted-stops : Stops Accepted
-accepted-stops r e = let z : ◌≡◌ {A = ℕ} 0 1 = cc in absurd (omega arith)
+abbrev Stops : {A : Type 0} → Outcome A Refusal → Type 0
+Stops v = (r : Refusal) → v ≡ Err r → In r stops
 
-require-stops : (c : Bool) (x : Refusal) (v : Verdict) → In x stops → Stops v → Stops (require c x v)
+accepted-stops : {A : Type 0} (x : A) → Stops (Ok x)
+accepted-stops x r e = cc
+
+require-stops : {A : Type 0} (c : Bool) (x : Refusal) (v : Outcome A Refusal) → In x stops → Stops v → Stops (require c x v)
 unfolding require
 require-stops true x v i h r e = h r e
 require-stops false x v i h r e = let k : x ≡ r = cc in rw (← k) i
 
-given-stops : (v : Verdict) (r : Reading) → Stops v → Stops r.verdict → Stops (given v r).verdict
-unfolding given
-given-stops Accepted r h k = k
-given-stops (Refused x) r h k = h
+then-stops : {A B : Type 0} (v : Outcome A Refusal) (w : Outcome B Refusal) → Stops v → Stops w → Stops (and_then v w)
+unfolding and_then
+then-stops (Ok u) w h k r e = k r e
+then-stops (Err x) w h k r e = h r cc
 
 -- 32 to 37: all of the reader's
-front-stops : (s : List ℕ) → Stops (read_front s).verdict
+front-stops : (s : List ℕ) → Stops (read_front s)
 unfolding read_front scan_of content_of
 front-stops s =
     let ends = pop (pop top) in
     let kind = pop (pop (pop top)) in
     let section = pop (pop (pop (pop top))) in
-    given-stops _ _
+    then-stops _ _
     (require-stops _ _ _ ends (require-stops _ _ _ kind (require-stops _ _ _ ends (require-stops _ _ _ section
-    (require-stops _ _ _ ends (require-stops _ _ _ section (require-stops _ _ _ ends accepted-stops)))))))
-    (given-stops _ _
+    (require-stops _ _ _ ends (require-stops _ _ _ section (require-stops _ _ _ ends (accepted-stops _))))))))
+    (then-stops _ _
     (require-stops _ _ _ (pop (pop (pop (pop (pop top))))) (require-stops _ _ _ (pop (pop (pop (pop (pop (pop top)))))) (require-stops _ _ _ (pop (pop (pop (pop (pop (pop (pop top)))))))
-    accepted-stops)))
-    accepted-stops)
+    (accepted-stops _))))
+    (accepted-stops _))
 
-sent-stops : (v : Verdict) (f : Frame) → Stops v → StoppedBy (sent_by v f)
-sent-stops Accepted f h r e = let z : ◌≡◌ {A = ℕ} 0 1 = cc in absurd (omega arith)
-sent-stops (Refused x) f h r e = let k : x ≡ r = cc in rw (← k) (h x refl)
+sent-stops : (v : Outcome Reading Refusal) → Stops v → StoppedBy (sent_of v)
+sent-stops (Ok x) h r e = cc
+sent-stops (Err x) h r e = h r cc
 
 -- what the reader gives in a packet
 abbrev pub Fine : Result Sent → Type 0
 Fine read = Given read × StoppedBy read
 
 pub front-fine : (s : List ℕ) → AreBytes s → Fine (sent_of (read_front s))
-front-fine s y = (front-given s y, sent-stops (read_front s).verdict (read_front s).frame (front-stops s))
+front-fine s y = (front-given s y, sent-stops (read_front s) (front-stops s))
 
 pub each-fine : (s : List ℕ) → AreBytes s → Each Fine (map sent_of (readings_in s))
 each-fine =
     by-readings (λ s l. AreBytes s → Each Fine (map sent_of l))
     (λ s e y. tt)
-    (λ s r k e y. (front-fine s y, tt))
-    (λ s l k e f y. (front-fine s y, f (drop-bytes (read_front s).taken s y)))
+    (λ s d k e y. (subst (λ (v : Outcome Reading Refusal). Fine (sent_of v)) e (front-fine s y), tt))
+    (λ s r l k e f y. (subst (λ (v : Outcome Reading Refusal). Fine (sent_of v)) e (front-fine s y), f (drop-bytes r.taken s y)))
 
 module _ {A : Type 0} where
   gives-stops : (x : A) → StoppedBy (accepted x)
@@ -105,8 +103,8 @@ module _ {A : Type 0} where
 
   view-stops : (o : Option View) (x : Refusal) (f : View → Result A) → In x stops → ((v : View) → StoppedBy (f v)) → StoppedBy (with_view o x f)
   unfolding with_view
-  view-stops none x f i h r e = let k : x ≡ r = cc in rw (← k) i
-  view-stops (some v) x f i h r e = h v r e
+  view-stops None x f i h r e = let k : x ≡ r = cc in rw (← k) i
+  view-stops (Some v) x f i h r e = h v r e
 
   after-stops : {B : Type 0} (y : Result B) (f : B → Result A) → StoppedBy y → ((z : B) → StoppedBy (f z)) → StoppedBy (after y f)
   unfolding after

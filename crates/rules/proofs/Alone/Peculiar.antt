@@ -3,7 +3,7 @@
 use mathlib.Core.Path.{◌≡◌, refl, sym, ap}
 use mathlib.Core.Logic.{◌≢◌, ◌⊎◌, ⊎_elim}
 use mathlib.Core.Bool.{true, false, cond}
-use mathlib.Core.Option.{some}
+use Rattle.std.specs.Prelude.{Some, Option, None}
 use mathlib.Core.List.{List, [], ◌∷◌}
 use Prim.Native.Nat.{◌+◌, ◌≤◌, ◌<◌}
 use native.Mathlib.Omega.{arith}
@@ -11,8 +11,6 @@ use lib.Dec.{eqb, ltb}
 use lib.ListN.{length, drop}
 use borrow.Author.Tests.{lt-ltb, eqb-true}
 use Rattle.views.specs.declared.View.{View}
-use Rattle.views.specs.declared.list.Lookup.{Lookup}
-use Rattle.views.specs.declared.list.Lookup.TheVariants.{Found, Missing}
 use Rattle.views.specs.Limits.{max_open, max_ordered}
 use Rattle.views.specs.Sets.{is_empty, is_beyond}
 use Rattle.views.specs.Lists.{id_of, is_rising, find_of, insert_of, union_of}
@@ -30,9 +28,9 @@ use Rattle.rules.proofs.Sound.Kept.{made}
 -- ---- over what is held of a rising list of views
 
 module _ (views : List View) (r : is_rising views ≡ true) where
-  own_same : (x : View) (l : List View) (o : Lookup) → find_of (id_of x) l ≡ o → In x views → Within l views → own_or x o ≡ x
-  own_same x l (Found v) e i w = let f = find-in (id_of x) l v e in rising-unique views r v x (w v f.0) i f.1
-  own_same x l Missing e i w = refl
+  own_same : (x : View) (l : List View) (o : Option View) → find_of (id_of x) l ≡ o → In x views → Within l views → own_or x o ≡ x
+  own_same x l (Some v) e i w = let f = find-in (id_of x) l v e in rising-unique views r v x (w v f.0) i f.1
+  own_same x l None e i w = refl
 
   settled-own : (x : View) (h : Held) → In x views → HeldSound (Listed views) h → settled_by x h ≡ cond (ltb (id_of h.settled) (id_of x)) x h.settled
   unfolding settled_by
@@ -75,7 +73,7 @@ module _ {M : Type 0} where
     held_of = let b = h.book p i in record { short = b.opens-short; rises = b.opens-rise; known = b.held-known }
 
     -- the next message of the carrier view's order is sound, and fewer than 128 were taken before it: 16 would not be given
-    pub next-sound : (v : View) (e : EntryOf M) (rest : List (EntryOf M)) → (s.books p).carrier.view ≡ some v
+    pub next-sound : (v : View) (e : EntryOf M) (rest : List (EntryOf M)) → (s.books p).carrier.view ≡ Some v
         → drop (s.books p).carrier.taken (s.order (id_of v)) ≡ e ∷ rest → EntrySound s e × ((s.books p).carrier.taken < max_ordered)
     next-sound v e rest c d =
         let o = h.ordered v ((h.book p i).carrier-known v c) in (
@@ -102,7 +100,7 @@ module _ {M : Type 0} where
     info-short q x l e = learned-short s.views (made s h) x l (s.books p).held (info-sound e) held_of
 
     -- a carrier view above the settled one is open after the attempt, with its own set
-    pub attempt-opens : (v : View) → (s.books p).carrier.view ≡ some v → id_of (s.books p).held.settled < id_of v
+    pub attempt-opens : (v : View) → (s.books p).carrier.view ≡ Some v → id_of (s.books p).held.settled < id_of v
         → ((opened v (s.books p).held).opens ≡ insert_of v (s.books p).held.opens) × In v (opened v (s.books p).held).opens
     unfolding opened
     attempt-opens v c l =
@@ -117,7 +115,7 @@ module _ {M : Type 0} where
     attempt-inserts v l n = rw (lt-ltb _ _ l) (insert-longer v (s.books p).held.opens n)
 
     -- after an attempt at most 31 are open: 43 would not be given
-    pub attempt-short : (v : View) → (s.books p).carrier.view ≡ some v → length (opened v (s.books p).held).opens ≤ max_open
+    pub attempt-short : (v : View) → (s.books p).carrier.view ≡ Some v → length (opened v (s.books p).held).opens ≤ max_open
     attempt-short v c = opened-short s.views (made s h) v (s.books p).held ((h.book p i).carrier-known v c) held_of
 
   -- every view of a queued info has members, all of them the group's: 7 would not be given

@@ -7,12 +7,12 @@ use native.Mathlib.Omega.{arith}
 use lib.ListN.{length, get_or}
 use borrow.Author.Tests.{le-leb, eqb-true}
 use Rattle.views.specs.declared.View.{View}
+use Rattle.views.specs.declared.refusal.Refusal.{Refusal}
 use Rattle.views.specs.declared.refusal.Refusal.TheVariants.{EmptySet, NotRising}
-use Rattle.views.specs.declared.refusal.Verdict.{Verdict}
-use Rattle.views.specs.declared.refusal.Verdict.TheVariants.{Accepted, Refused}
+use Rattle.std.specs.Prelude.{Ok, Err}
+use Rattle.std.specs.Prelude.{Result as Outcome}
 use Rattle.views.specs.Limits.{max_views, max_ordered}
 use Rattle.views.specs.Lists.{id_of, no_view, is_rising, rises_above, list_of}
-use Rattle.wire.specs.declared.Frame.{Frame}
 use Rattle.wire.specs.declared.Reading.{Reading}
 use Rattle.wire.specs.Format.{views_allowed, numbers_allowed, told_fits, content_of}
 use Rattle.wire.specs.Reader.{kind_in, view_count, numbers_place, number_count, views_in, number_in, message_of as carried_in, whole_of, read_front}
@@ -20,13 +20,13 @@ use Rattle.wire.specs.Single.{read_one}
 use Rattle.wire.specs.Writer.{number_of}
 use Rattle.views.proofs.VerdictLaws.{need-accepted}
 use Rattle.wire.proofs.FormatLaws.{views-few}
-use Rattle.wire.proofs.ReaderLaws.{length-views_in, list-views_in, front_read}
+use Rattle.wire.proofs.ReaderLaws.{length-views_in, list-views_in}
 use Rattle.wire.proofs.TripViews.{EachFits, AreBytes, get-fits, views-fit}
 use Rattle.wire.proofs.TripMessages.{Kind, client, info, registered, told, told-met}
-use Rattle.wire.proofs.TripRead.{Scanned, scanned, front-met}
+use Rattle.wire.proofs.TripRead.{Scanned, scanned, front-met, front-is}
 use Rattle.wire.proofs.RoundTrip.{read-takes-all}
 use Rattle.rules.specs.Data.{Message, Result, accepted}
-use Rattle.rules.specs.Alone.{Sent, views_of, carried_of, message_of, sent_by, sent_of}
+use Rattle.rules.specs.Alone.{Sent, views_of, carried_of, message_of, sent_in, sent_of}
 use Rattle.rules.proofs.TestLaws.{within-says, within-from}
 use Rattle.rules.proofs.Alone.Taken.{Readable}
 
@@ -39,11 +39,11 @@ pub record Carries (m : Message) : Type 0 where
 
 -- ---- a message by its kind
 
-rising-met : (kind : ℕ) (l : List View) (x : ℕ) → content_of kind l x ≡ Accepted → is_rising l ≡ true
+rising-met : (kind : ℕ) (l : List View) (x : ℕ) → content_of kind l x ≡ Ok tt → is_rising l ≡ true
 unfolding content_of
 rising-met kind l x e = (need-accepted _ NotRising _ (need-accepted _ EmptySet _ e).1).0
 
-readable : (kind x : ℕ) (l : List View) → Kind kind → views_allowed kind (length l) ≡ true → content_of kind l x ≡ Accepted → Readable (message_of (carried_in kind x) l)
+readable : (kind x : ℕ) (l : List View) → Kind kind → views_allowed kind (length l) ≡ true → content_of kind l x ≡ Ok tt → Readable (message_of (carried_in kind x) l)
 unfolding told_fits is_rising rises_above carried_in
 readable kind x l client a w = record { count = refl; opens = refl }
 readable kind x [] info a w = record { count = refl; opens = refl }
@@ -67,28 +67,26 @@ carries kind c x l told a n h f = record { ids = λ j. omega arith; sets = λ j.
 
 -- ---- what accepted bytes hold
 
-sent-met : (v : Verdict) (f : Frame) (x : Sent) → sent_by v f ≡ accepted x → (v ≡ Accepted) × (x.message ≡ message_of f.message (list_of f.views))
-sent-met Accepted f x e =
-    let s : record { view = f.view.0; message = message_of f.message (list_of f.views) } ≡ x = cc in
-    (refl, ap (λ (y : Sent). y.message) (sym s))
-sent-met (Refused r) f x e = let z : ◌≡◌ {A = ℕ} 0 1 = cc in absurd (omega arith)
+-- a message comes of what was read
+pub sent-met : (v : Outcome Reading Refusal) (x : Sent) → sent_of v ≡ accepted x → (r : Reading) × (v ≡ Ok r) × (x ≡ sent_in r.frame)
+sent-met (Ok r) x e = (r, refl, cc)
+sent-met (Err d) x e = cc
 
 -- the shape and the content are accepted, and the message is that of the bytes' parts
 record Read (b : List ℕ) (m : Message) : Type 0 where
   shape : Scanned b
-  content : whole_of b ≡ Accepted
+  content : whole_of b ≡ Ok tt
   message : m ≡ message_of (carried_in (kind_in b) (number_in b)) (views_in b 6 (view_count b))
 
 reads : (b : List ℕ) (x : Sent) → sent_of (read_front b) ≡ accepted x → Read b x.message
 reads b x e =
-    let t = sent-met (read_front b).verdict (read_front b).frame x e in
-    let met = front-met b t.0 in
+    let (r, read, t) = sent-met (read_front b) x e in
+    let met = front-met b read in
     let s = scanned b met.0 in
-    let front = front_read b _ _ _ met.0 met.1 refl refl refl in
     record {
       shape = s;
       content = met.1;
-      message = t.1 ∙ ap (λ (r : Reading). message_of r.frame.message (list_of r.frame.views)) front
+      message = ap (λ (y : Sent). y.message) t ∙ ap (λ (y : Reading). message_of y.frame.message (list_of y.frame.views)) (front-is b read)
           ∙ ap (message_of (carried_in (kind_in b) (number_in b))) (list-views_in b 6 (view_count b) (views-few (kind_in b) (view_count b) s.views));
     }
 
@@ -120,5 +118,5 @@ pub one-given : (b : List ℕ) → AreBytes b → Given (sent_of (read_one b))
 one-given b y =
     let g = front-given b y in
     let same : (x : Sent) → sent_of (read_one b) ≡ accepted x → sent_of (read_front b) ≡ accepted x
-    = λ x e. ap sent_of (sym (read-takes-all b (sent-met (read_one b).verdict (read_one b).frame x e).0).0) ∙ e in
+    = λ x e. let (r, one, t) = sent-met (read_one b) x e in ap sent_of ((read-takes-all b one).0 ∙ sym one) ∙ e in
     record { readable = λ x e. g.readable x (same x e); fits = λ x e. g.fits x (same x e) }

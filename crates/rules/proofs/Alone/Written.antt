@@ -5,7 +5,7 @@ use Prim.Native.Nat.{ℕ, ◌≤◌}
 use native.Mathlib.Omega.{arith}
 use lib.ListN.{length, length-take}
 use Rattle.views.specs.declared.View.{View}
-use Rattle.views.specs.declared.refusal.Verdict.TheVariants.{Accepted}
+use Rattle.std.specs.Prelude.{Ok}
 use Rattle.views.specs.Limits.{max_views}
 use Rattle.views.specs.Lists.{list_of, placed}
 use Rattle.views.proofs.PlaceLaws.{list-placed}
@@ -28,7 +28,7 @@ abbrev sent_in : ℕ → Message → Sent
 sent_in g m = record { view = g; message = m }
 
 -- a frame that is within its widths, that the writer accepts, and that carries the message
-pub written-sent : (f : Frame) (m : Message) → Fits f → frame_verdict f ≡ Accepted → f.message ≡ carried_of m → list_of f.views ≡ views_of m
+pub written-sent : (f : Frame) (m : Message) → Fits f → frame_verdict f ≡ Ok tt → f.message ≡ carried_of m → list_of f.views ≡ views_of m
     → sent_of (read_one (frame_bytes f)) ≡ accepted (record { view = f.view.0; message = m })
 written-sent f m fit v carried views =
     let g = f.view.0 in

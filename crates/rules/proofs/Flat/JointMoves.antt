@@ -2,7 +2,7 @@
 use mathlib.Core.Path.{◌≡◌, refl, sym, ◌∙◌, subst, ap}
 use mathlib.Core.Logic.{◌⊎◌, inl, inr}
 use mathlib.Core.Bool.{Bool, true, false, cond}
-use mathlib.Core.Option.{Option, none, some}
+use Rattle.std.specs.Prelude.{Option, None, Some}
 use mathlib.Core.List.{List, [], ◌∷◌, ◌++◌, map}
 use Prim.Native.Nat.{ℕ, zero, suc, ◌≤◌, ◌<◌, max}
 use native.Mathlib.Omega.{arith}
@@ -10,8 +10,6 @@ use lib.Dec.{ltb}
 use lib.ListN.{length, drop}
 use borrow.Author.Tests.{ltb-true, ltb-false, eqb-true, eqb-false}
 use Rattle.views.specs.declared.View.{View}
-use Rattle.views.specs.declared.list.Lookup.{Lookup}
-use Rattle.views.specs.declared.list.Lookup.TheVariants.{Found, Missing}
 use Rattle.views.specs.Limits.{max_members}
 use Rattle.views.specs.Members.{In, top, pop}
 use Rattle.views.specs.Points.{at, at2}
@@ -38,9 +36,9 @@ map-drop f (suc n) (x ∷ l) = map-drop f n l
 
 -- ---- what an info teaches, by identifiers
 
-own-id : (x : View) (l : List View) (o : Lookup) → find_of (id_of x) l ≡ o → id_of (own_or x o) ≡ id_of x
-own-id x l (Found v) e = (find-in (id_of x) l v e).1
-own-id x l Missing e = refl
+own-id : (x : View) (l : List View) (o : Option View) → find_of (id_of x) l ≡ o → id_of (own_or x o) ≡ id_of x
+own-id x l (Some v) e = (find-in (id_of x) l v e).1
+own-id x l None e = refl
 
 settled-max : (x : View) (h : Held) → id_of (settled_by x h) ≡ max (id_of h.settled) (id_of x)
 unfolding settled_by
@@ -89,7 +87,7 @@ module _ {M : Type 0} where
       join-moves g = listed-holds _ _ (λ v e. owned weight s o p _ (join-well weight s o p v (find-in g s.views v e).0))
 
       -- ---- 3. pass
-      pub passed-moves : (v : View) (x : EntryOf M) (r : List (EntryOf M)) → b.carrier.view ≡ some v → b.outgoing ≡ x ∷ r
+      pub passed-moves : (v : View) (x : EntryOf M) (r : List (EntryOf M)) → b.carrier.view ≡ Some v → b.outgoing ≡ x ∷ r
           → Moved weight s (record {
             state = record {
               members = s.members;
@@ -153,14 +151,14 @@ module _ {M : Type 0} where
         next v e r k = map-drop ent_of b.carrier.taken (s.order (id_of v)) ∙ ap (map ent_of) k
 
         -- a member whose client view is its carrier view has handed out no more than there is
-        fits : (v : View) → b.carrier.view ≡ some v → client_is_carrier b ≡ true → b.client.handed ≤ length b.client.inward
+        fits : (v : View) → b.carrier.view ≡ Some v → client_is_carrier b ≡ true → b.client.handed ≤ length b.client.inward
         fits v c d = go b.client.view refl
           where
             go : (x : Option View) → b.client.view ≡ x → b.client.handed ≤ length b.client.inward
-            go none e = let z : ◌≡◌ {A = ℕ} 0 (suc (id_of v)) = sym (ap rank e) ∙ eqb-true (rank b.client.view) (rank b.carrier.view) d ∙ ap rank c in absurd (omega arith)
-            go (some u) e = handed-fits weight s o p i lt u e
+            go None e = let z : ◌≡◌ {A = ℕ} 0 (suc (id_of v)) = sym (ap rank e) ∙ eqb-true (rank b.client.view) (rank b.carrier.view) d ∙ ap rank c in absurd (omega arith)
+            go (Some u) e = handed-fits weight s o p i lt u e
 
-        pub took-moves : (v : View) → b.carrier.view ≡ some v → (e : EntryOf M) (r : List (EntryOf M)) → drop b.carrier.taken (s.order (id_of v)) ≡ e ∷ r
+        pub took-moves : (v : View) → b.carrier.view ≡ Some v → (e : EntryOf M) (r : List (EntryOf M)) → drop b.carrier.taken (s.order (id_of v)) ≡ e ∷ r
             → Moved weight s (record { state = booked s p (take_from e b); answer = ok })
         unfolding delivered learned shown
         took-moves v c (entry q (D.client x)) r k = go (client_is_carrier b) refl

@@ -3,7 +3,7 @@
 use mathlib.Core.Path.{◌≡◌, refl, sym, ◌∙◌, subst, ap, fun_ext}
 use mathlib.Core.Logic.{inl, inr}
 use mathlib.Core.Bool.{Bool, true, false, cond, not, ◌||◌}
-use mathlib.Core.Option.{Option, some}
+use Rattle.std.specs.Prelude.{Option, Some}
 use mathlib.Core.List.{List, [], ◌∷◌, ◌++◌, map}
 use Prim.Native.Nat.{ℕ, suc, ◌+◌, ◌*◌, ◌≤◌, ◌<◌}
 use native.Mathlib.Omega.{arith}
@@ -94,7 +94,7 @@ module _ {M : Type 0} where
       need-well : (c : Bool) (r : Refusal) (x : Result (DoneOf M)) → (c ≡ true → Steps-well x) → Steps-well (need c r x)
       need-well = need-holds
 
-      view-well : (o : Option View) (r : Refusal) (f : View → Result (DoneOf M)) → ((v : View) → o ≡ some v → Steps-well (f v)) → Steps-well (with_view o r f)
+      view-well : (o : Option View) (r : Refusal) (f : View → Result (DoneOf M)) → ((v : View) → o ≡ Some v → Steps-well (f v)) → Steps-well (with_view o r f)
       view-well = view-holds
 
       first-well : {B : Type 0} (l : List B) (r : Refusal) (f : B → List B → Result (DoneOf M)) → ((x : B) (k : List B) → l ≡ x ∷ k → Steps-well (f x k)) → Steps-well (with_first l r f)
@@ -112,17 +112,17 @@ module _ {M : Type 0} where
           well _ _ (moved (joined p v b) ok _ [] (F.join p v h (true-T m) (leb-true (rank b.carrier.view) (id_of v) a)) (C.join-flat s p v) refl (only _))))
 
       -- ---- 7, 8: a message is queued where the client view is the carrier view
-      pub same_view : (v : View) → b.client.view ≡ some v → client_is_carrier b ≡ true → rank b.carrier.view ≡ suc (id_of v)
+      pub same_view : (v : View) → b.client.view ≡ Some v → client_is_carrier b ≡ true → rank b.carrier.view ≡ suc (id_of v)
       same_view v e c = sym (eqb-true (rank b.client.view) (rank b.carrier.view) c) ∙ ap rank e
 
-      other-view : (v : View) → b.client.view ≡ some v → client_is_carrier b ≡ false → rank b.carrier.view ≡ suc (id_of v) → ⊥
+      other-view : (v : View) → b.client.view ≡ Some v → client_is_carrier b ≡ false → rank b.carrier.view ≡ suc (id_of v) → ⊥
       other-view v e c k = eqb-false (rank b.client.view) (rank b.carrier.view) c (ap rank e ∙ sym k)
 
       pub register-well : Steps-well (registers p b)
       unfolding registers queues shown
       register-well = view-well _ _ _ (λ v e. need-well _ _ _ (λ _. need-well _ _ _ (λ _. go v e (client_is_carrier b) refl)))
         where
-          go : (v : View) → b.client.view ≡ some v → (c : Bool) → client_is_carrier b ≡ c
+          go : (v : View) → b.client.view ≡ Some v → (c : Bool) → client_is_carrier b ≡ c
               → Steps-well (accepted (record { book = cond c (outgoes (b.outgoing ++ (entry p D.registered ∷ [])) (noted b)) (noted b); answer = event (D.register p (id_of v)) }))
           go v e true c =
               well _ _ (moved (queued_book p D.registered true b.client.told b) (event (D.register p (id_of v))) _ _
@@ -135,7 +135,7 @@ module _ {M : Type 0} where
       unfolding sends queues shown
       send-well x = view-well _ _ _ (λ v e. need-well _ _ _ (λ _. go v e (client_is_carrier b) refl))
         where
-          go : (v : View) → b.client.view ≡ some v → (c : Bool) → client_is_carrier b ≡ c
+          go : (v : View) → b.client.view ≡ Some v → (c : Bool) → client_is_carrier b ≡ c
               → Steps-well (accepted (record { book = cond c (outgoes (b.outgoing ++ (entry p (D.client x) ∷ [])) b) b; answer = event (D.send p (id_of v) x) }))
           go v e true c =
               well _ _ (moved (queued_book p (D.client x) b.client.registered b.client.told b) (event (D.send p (id_of v) x)) _ _
@@ -163,7 +163,7 @@ module _ {M : Type 0} where
         asked v h f e q t =
             if-has (has v.set q) (f q) (every-at s.members (λ q. not (has v.set q) || f q) e q (of-view v h q t)) (T_true (has v.set q) t)
 
-        pub handed-fits : (v : View) → b.client.view ≡ some v → b.client.handed ≤ length b.client.inward
+        pub handed-fits : (v : View) → b.client.view ≡ Some v → b.client.handed ≤ length b.client.inward
         handed-fits v e = subst (λ (o : Option View). b.client.handed ≤ limit_at o b.client.inward) e (i.book p lt).handed-in
 
         -- ---- 6. attempt

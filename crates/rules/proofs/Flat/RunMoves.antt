@@ -1,7 +1,7 @@
 -- Any step, any list of steps from an accepted start: the flat group makes the same outward events by its moves.
 use mathlib.Core.Path.{◌≡◌, refl, sym, ◌∙◌, subst, ap}
 use mathlib.Core.Bool.{Bool, true, false, cond}
-use mathlib.Core.Option.{none, some}
+use Rattle.std.specs.Prelude.{None, Some}
 use mathlib.Core.List.{List, [], ◌∷◌, ◌++◌, append-nil, append_assoc}
 use Prim.Native.Nat.{ℕ, suc, ◌<◌}
 use lib.Dec.{T, ltb, leb}
@@ -106,7 +106,7 @@ module _ (weight : Member → ℕ) where
 
   -- ---- the start
 
-  view-or : (b : Bool) (v : View) → rank (cond b (some v) none) ≡ cond b (suc (id_of v)) 0
+  view-or : (b : Bool) (v : View) → rank (cond b (Some v) None) ≡ cond b (suc (id_of v)) 0
   view-or true v = refl
   view-or false v = refl
 

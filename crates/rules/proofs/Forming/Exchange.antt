@@ -1,14 +1,13 @@
 -- The exchange of messages, and a whole round of the driver: every server of the list has one message outgoing, which goes to waiting, to the order, and from
 -- there to each of them.
 use mathlib.Core.Path.{◌≡◌, sym, ◌∙◌, subst, ap}
-use mathlib.Core.Option.{Option, none, some}
+use Rattle.std.specs.Prelude.{Option, None, Some}
 use mathlib.Core.List.{List, [], ◌∷◌, ◌++◌, map, append-nil, append_assoc}
 use Prim.Native.Nat.{ℕ, ◌+◌, ◌≤◌, ◌<◌}
 use native.Mathlib.Omega.{arith}
 use lib.ListN.{length, replicate, length-append, length-map}
 use lib.Seq.{drop-append_seam}
 use Rattle.views.specs.declared.View.{View}
-use Rattle.views.specs.declared.list.Lookup.TheVariants.{Found}
 use Rattle.views.specs.Limits.{max_ordered}
 use Rattle.views.specs.Points.{at, at2}
 use Rattle.views.specs.Lists.{id_of, find_of}
@@ -32,12 +31,12 @@ exchanged es b = take_all es (outgoes [] b)
 
 -- in the view v a server has taken the k messages that are ordered, and has the message e outgoing
 pub record Sends (v : View) (k : ℕ) (e : Entry) (b : Book) : Type 0 where
-  pub view : b.carrier.view ≡ some v
+  pub view : b.carrier.view ≡ Some v
   pub taken : b.carrier.taken ≡ k
   pub outgoing : b.outgoing ≡ e ∷ []
 
 -- groups that differ from s in books and queues alone, and the view v, which is made
-module _ (weight : Member → ℕ) (s : Group) (v : View) (found : find_of (id_of v) s.views ≡ Found v) where
+module _ (weight : Member → ℕ) (s : Group) (v : View) (found : find_of (id_of v) s.views ≡ Some v) where
   abbrev g : Identifier
   g = id_of v
 
@@ -53,7 +52,7 @@ module _ (weight : Member → ℕ) (s : Group) (v : View) (found : find_of (id_o
   pass-more p l e os bs ws n one x = (changed-more p l passed bs n x.0, waits-more g p l (λ p. e p ∷ []) ws n x.1, goes-append weight one x.2)
 
   pass-phase : (l : List Member) → Distinct l → ((p : Member) → In p l → p < s.members) → (e : Member → Entry) (os : Order) (bs : Books) (ws : Waiting)
-      → Kept (changed s bs ws os) → ((p : Member) → In p l → ((bs p).carrier.view ≡ some v) × ((bs p).outgoing ≡ e p ∷ []) × (ws p g ≡ [])) → Passes l e os bs ws
+      → Kept (changed s bs ws os) → ((p : Member) → In p l → ((bs p).carrier.view ≡ Some v) × ((bs p).outgoing ≡ e p ∷ []) × (ws p g ≡ [])) → Passes l e os bs ws
   unfolding by_each changed-none waits-none
   pass-phase [] d lt e os bs ws h r = (changed-none passed bs, waits-none g _ ws, stay)
   pass-phase (p ∷ l) d lt e os bs ws h r =
@@ -91,11 +90,11 @@ module _ (weight : Member → ℕ) (s : Group) (v : View) (found : find_of (id_o
 
   -- ---- and each takes all of it
   deliver-phase : (l : List Member) → Distinct l → (e : Member → Entry) (bs : Books) (ws : Waiting) (os o : Order) → o g ≡ os g ++ map e l
-      → Kept (changed s bs ws o) → ((p : Member) → In p l → (p < s.members) × ((bs p).carrier.view ≡ some v) × ((bs p).carrier.taken ≡ length (os g)))
+      → Kept (changed s bs ws o) → ((p : Member) → In p l → (p < s.members) × ((bs p).carrier.view ≡ Some v) × ((bs p).carrier.taken ≡ length (os g)))
       → (c : Changed l (λ p. take_all (map e l)) bs) × Goes weight (changed s bs ws o) (by_each 5 (length l) g l) [] (changed s c.books ws o)
   unfolding events_by
   deliver-phase l d e bs ws os o f h r =
-      own-phase weight s v found 5 (length l) none (λ p. take_all (map e l)) (λ p x. (p < s.members) × (x.carrier.view ≡ some v) × (x.carrier.taken ≡ length (os g))) ws o l d
+      own-phase weight s v found 5 (length l) None (λ p. take_all (map e l)) (λ p x. (p < s.members) × (x.carrier.view ≡ Some v) × (x.carrier.taken ≡ length (os g))) ws o l d
       (λ p i cs m k. subst
       (λ (j : ℕ). Goes weight (changed s cs ws o) (replicate j (asks weight s v found 5 p)) [] (changed s (at p (take_all (map e l) (cs p)) cs) ws o)) (length-map l e)
       (deliver-all weight s v found ws o p k.0 (map e l) cs m k.1 (rw (k.2, f) (drop-append_seam (os g) (map e l)))))

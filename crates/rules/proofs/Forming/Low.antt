@@ -3,7 +3,7 @@
 use mathlib.Core.Path.{◌≡◌, subst, ap}
 use mathlib.Core.Logic.{◌⊎◌, inl, inr, ⊎_elim}
 use mathlib.Core.Bool.{Bool, true, false, cond}
-use mathlib.Core.Option.{none, some}
+use Rattle.std.specs.Prelude.{None, Some}
 use mathlib.Core.List.{List, []}
 use Prim.Native.Nat.{ℕ, suc, ◌≤◌, ◌<◌, max}
 use native.Mathlib.Omega.{arith}
@@ -46,7 +46,7 @@ pub record LowGroup (S : ℕ) (s : Group) : Type 0 where
 
 -- ---- the start
 
-view-if : (b : Bool) (v : View) → T b → 1 ≤ rank (cond b (some v) none)
+view-if : (b : Bool) (v : View) → T b → 1 ≤ rank (cond b (Some v) None)
 view-if true v t = omega arith
 view-if false v t = absurd t
 

@@ -2,12 +2,11 @@
 -- which it is done, and its events; and what waits for a view at every server of a list.
 use mathlib.Core.Path.{◌≡◌, refl, sym, ◌∙◌, subst, ap}
 use mathlib.Core.Logic.{◌≢◌, ⊎_elim}
-use mathlib.Core.Option.{Option, none, some}
+use Rattle.std.specs.Prelude.{Option, None, Some}
 use mathlib.Core.List.{List, [], ◌∷◌, ◌++◌, map}
 use Prim.Native.Nat.{ℕ}
 use lib.ListN.{replicate}
 use Rattle.views.specs.declared.View.{View}
-use Rattle.views.specs.declared.list.Lookup.TheVariants.{Found}
 use Rattle.views.specs.Points.{at, at2}
 use Rattle.views.specs.Lists.{id_of, find_of}
 use Rattle.views.proofs.Members.{In, top, pop, in-nil, in-cons, in_top}
@@ -83,21 +82,21 @@ waits-more g p l m ws n w = record {
 
 -- what the servers of a list say outward by a kind of step: nothing, or an event each
 unfoldable pub events_by : Option (Member → Event ℕ) → List Member → List (Event ℕ)
-events_by none l = []
-events_by (some e) l = map e l
+events_by None l = []
+events_by (Some e) l = map e l
 
 events-none : (o : Option (Member → Event ℕ)) → events_by o [] ≡ []
 unfolding events_by
-events-none none = refl
-events-none (some e) = refl
+events-none None = refl
+events-none (Some e) = refl
 
 events-more : (o : Option (Member → Event ℕ)) (p : Member) (l : List Member) → events_by o (p ∷ []) ++ events_by o l ≡ events_by o (p ∷ l)
 unfolding events_by
-events-more none p l = refl
-events-more (some e) p l = refl
+events-more None p l = refl
+events-more (Some e) p l = refl
 
 -- groups that differ from s in books and queues alone, the view v, which is made, and servers of it
-module _ (weight : Member → ℕ) (s : Group) (v : View) (found : find_of (id_of v) s.views ≡ Found v) where
+module _ (weight : Member → ℕ) (s : Group) (v : View) (found : find_of (id_of v) s.views ≡ Some v) where
   abbrev g : Identifier
   g = id_of v
 

@@ -2,13 +2,12 @@
 use mathlib.Core.Path.{◌≡◌, refl, sym, ◌∙◌, subst, ap}
 use mathlib.Core.Logic.{⊎_elim}
 use mathlib.Core.Bool.{true, false}
-use mathlib.Core.Option.{some}
+use Rattle.std.specs.Prelude.{Some}
 use mathlib.Core.List.{List, [], ◌∷◌, ◌++◌}
 use Prim.Native.Nat.{ℕ, ◌+◌, ◌≤◌, ◌<◌}
 use lib.ListN.{length, drop, replicate}
 use borrow.Author.Tests.{lt-ltb, le-leb}
 use Rattle.views.specs.declared.View.{View}
-use Rattle.views.specs.declared.list.Lookup.TheVariants.{Found}
 use Rattle.views.specs.Limits.{max_ordered}
 use Rattle.views.specs.Points.{at, at2}
 use Rattle.views.specs.Sets.{has}
@@ -36,7 +35,7 @@ taken-one (entry q registered) b = refl
 taken-one (entry q (told k)) b = refl
 
 -- groups that differ from s in books and queues alone, and the view v, which is made
-module _ (weight : Member → ℕ) (s : Group) (v : View) (found : find_of (id_of v) s.views ≡ Found v) where
+module _ (weight : Member → ℕ) (s : Group) (v : View) (found : find_of (id_of v) s.views ≡ Some v) where
   abbrev g : Identifier
   g = id_of v
 
@@ -56,25 +55,25 @@ module _ (weight : Member → ℕ) (s : Group) (v : View) (found : find_of (id_o
     join_one m l =
         goes_silent weight (changed s (at p (joined p v (bs p)) bs) ws os) h (rw (lt-ltb p n i, found, m, le-leb (rank (bs p).carrier.view) g l))
 
-    pub attempt-one : (bs p).carrier.view ≡ some v → rank (bs p).client.view ≤ g → every_of n v (bs p).carrier.infos ≡ true
+    pub attempt-one : (bs p).carrier.view ≡ Some v → rank (bs p).client.view ≤ g → every_of n v (bs p).carrier.infos ≡ true
         → all (passes weight v) ((bs p).held.settled ∷ (bs p).held.opens) ≡ true → Leaves 6 (attempt p v ∷ []) (attempted v (bs p))
     unfolding step_of pick need own after attempts with_view booked
     attempt-one c l f t =
         goes-speaks weight (changed s (at p (attempted v (bs p)) bs) ws os) (attempt p v) h (rw (lt-ltb p n i, c, le-leb (rank (bs p).client.view) g l, f, t))
 
-    pub register-one : (bs p).client.view ≡ some v → (bs p).client.registered ≡ false → has_room (bs p) ≡ true
+    pub register-one : (bs p).client.view ≡ Some v → (bs p).client.registered ≡ false → has_room (bs p) ≡ true
         → Leaves 7 (register p g ∷ []) (queues p registered (noted (bs p)))
     unfolding step_of pick need own after registers with_view booked
     register-one c l f =
         goes-speaks weight (changed s (at p (queues p registered (noted (bs p))) bs) ws os) (register p g) h (rw (lt-ltb p n i, f, l, c))
 
-    pub collect-one : (bs p).carrier.view ≡ some v → id_of (bs p).held.settled < g → every_of n v (bs p).carrier.registrations ≡ true → Leaves 12 [] (collected v (bs p))
+    pub collect-one : (bs p).carrier.view ≡ Some v → id_of (bs p).held.settled < g → every_of n v (bs p).carrier.registrations ≡ true → Leaves 12 [] (collected v (bs p))
     unfolding step_of pick need own after collects with_view booked
     collect-one c l f =
         goes_silent weight (changed s (at p (collected v (bs p)) bs) ws os) h (rw (lt-ltb p n i, c, lt-ltb (id_of (bs p).held.settled) g l, f))
 
     -- ---- steps that move a message
-    pub pass-one : (bs p).carrier.view ≡ some v → (e : Entry) → (bs p).outgoing ≡ e ∷ [] → ws p g ≡ []
+    pub pass-one : (bs p).carrier.view ≡ Some v → (e : Entry) → (bs p).outgoing ≡ e ∷ [] → ws p g ≡ []
         → Goes weight (changed s bs ws os) (asks 3 p ∷ []) [] (changed s (at p (outgoes [] (bs p)) bs) (at2 p g (e ∷ []) ws) os)
     unfolding step_of pick need pass_step passing after with_view with_first
     pass-one c e o w =
@@ -86,14 +85,14 @@ module _ (weight : Member → ℕ) (s : Group) (v : View) (found : find_of (id_o
     order-one e w l =
         goes_silent weight (changed s bs (at2 p g [] ws) (at g (os g ++ (e ∷ [])) os)) h (rw (lt-ltb p n i, found, w, lt-ltb (length (os g)) max_ordered l))
 
-    deliver-one : (bs p).carrier.view ≡ some v → (e : Entry) (rest : List Entry) → drop (bs p).carrier.taken (os g) ≡ e ∷ rest → Leaves 5 [] (take_from e (bs p))
+    deliver-one : (bs p).carrier.view ≡ Some v → (e : Entry) (rest : List Entry) → drop (bs p).carrier.taken (os g) ≡ e ∷ rest → Leaves 5 [] (take_from e (bs p))
     unfolding step_of pick need deliver_step with_view with_first booked
     deliver-one c e rest o =
         goes_silent weight (changed s (at p (take_from e (bs p)) bs) ws os) h (rw (lt-ltb p n i, c, o))
 
   -- the messages that p has not taken, all of them
   pub deliver-all : (ws : Member → Identifier → List Entry) (os : Identifier → List Entry) (p : Member) → p < n → (es : List Entry) (bs : Member → Book)
-      → Kept (changed s bs ws os) → (bs p).carrier.view ≡ some v → drop (bs p).carrier.taken (os g) ≡ es
+      → Kept (changed s bs ws os) → (bs p).carrier.view ≡ Some v → drop (bs p).carrier.taken (os g) ≡ es
       → Goes weight (changed s bs ws os) (replicate (length es) (asks 5 p)) [] (changed s (at p (take_all es (bs p)) bs) ws os)
   unfolding take_all
   deliver-all ws os p i [] bs h c o = subst (λ (cs : Member → Book). Goes weight (changed s bs ws os) [] [] (changed s cs ws os)) (sym (upd-itself p bs)) stay

@@ -2,7 +2,7 @@
 use mathlib.Core.Path.{◌≡◌, refl, sym, ◌∙◌, subst, ap}
 use mathlib.Core.Logic.{inl, ⊎_elim}
 use mathlib.Core.Bool.{Bool, true, false, cond, not, ◌||◌}
-use mathlib.Core.Option.{none, some}
+use Rattle.std.specs.Prelude.{None, Some}
 use mathlib.Core.List.{List, [], ◌∷◌, ◌++◌, map, append-nil}
 use Prim.Native.Nat.{ℕ, ◌≤◌, ◌<◌}
 use native.Mathlib.Omega.{arith}
@@ -10,7 +10,6 @@ use lib.Dec.{ltb}
 use lib.ListN.{length}
 use borrow.Author.Tests.{eq-eqb}
 use Rattle.views.specs.declared.View.{View}
-use Rattle.views.specs.declared.list.Lookup.TheVariants.{Found}
 use Rattle.views.specs.Limits.{max_members}
 use Rattle.views.specs.Sets.{has}
 use Rattle.views.specs.Lists.{id_of, find_of, insert_of, above_of}
@@ -36,7 +35,7 @@ none_in (x ∷ l) f = absurd (f x top)
 above-none : (g : ℕ) (l : List View) → ((w : View) → In w l → id_of w ≤ g) → above_of g l ≡ []
 above-none g l f = none_in (above_of g l) (λ w i. let r = above_in g l w i in omega (arith, f w r.0))
 
-both-views : (v : View) (b : Book) → b.client.view ≡ some v → b.carrier.view ≡ some v → client_is_carrier b ≡ true
+both-views : (v : View) (b : Book) → b.client.view ≡ Some v → b.carrier.view ≡ Some v → client_is_carrier b ≡ true
 both-views v b c d = eq-eqb _ _ (ap rank c ∙ sym (ap rank d))
 
 -- the group s that the driver finds, and the view v
@@ -75,7 +74,7 @@ module _ (weight : Member → ℕ) (s : Group) (high : s.members ≤ max_members
   joins-so k z p b r = record { view = refl; taken = sym z; outgoing = ap (λ (h : Held). entry p (info h.settled h.opens) ∷ []) r.same }
 
   record Told (b : Book) : Type 0 where
-    view : b.carrier.view ≡ some v
+    view : b.carrier.view ≡ Some v
     taken : b.carrier.taken ≡ length L
     outgoing : b.outgoing ≡ []
     client : rank b.client.view ≤ g
@@ -99,10 +98,10 @@ module _ (weight : Member → ℕ) (s : Group) (high : s.members ≤ max_members
   -- ---- the second round: registrations, collects
 
   record Tried (b : Book) : Type 0 where
-    view : b.carrier.view ≡ some v
+    view : b.carrier.view ≡ Some v
     taken : b.carrier.taken ≡ length L
     outgoing : b.outgoing ≡ []
-    client : b.client.view ≡ some v
+    client : b.client.view ≡ Some v
     registered : b.client.registered ≡ false
     settled : id_of b.held.settled < g
     opens : (w : View) → In w b.held.opens → id_of w ≤ g
@@ -139,7 +138,7 @@ module _ (weight : Member → ℕ) (s : Group) (high : s.members ≤ max_members
       })
 
   record Ripe (b : Book) : Type 0 where
-    view : b.carrier.view ≡ some v
+    view : b.carrier.view ≡ Some v
     settled : id_of b.held.settled < g
     registrations : every_of s.members v b.carrier.registrations ≡ true
     opens : (w : View) → In w b.held.opens → id_of w ≤ g
@@ -162,7 +161,7 @@ module _ (weight : Member → ℕ) (s : Group) (high : s.members ≤ max_members
 
   -- ---- all servers through both
 
-  module _ (found : find_of (id_of v) s.views ≡ Found v) (lt : (p : Member) → In p L → p < s.members) where
+  module _ (found : find_of (id_of v) s.views ≡ Some v) (lt : (p : Member) → In p L → p < s.members) where
     -- the steps, with the events es, lead to a group in which the view is settled and nothing open
     abbrev pub Ends : Group → List Step → List (Event ℕ) → Type 0
     Ends t l es = (u : Group) × Goes weight t l es u × ((p : Member) → In p L → (u.books p).held ≡ record { settled = v; opens = [] })
@@ -181,7 +180,7 @@ module _ (weight : Member → ℕ) (s : Group) (high : s.members ≤ max_members
       second-round : Leads weight s v found L second bs ws os (round_steps 7 12 g L) (registering ++ [])
       unfolding events_by
       second-round =
-          round-phase weight s v found 7 12 (some (λ p. register p g)) none (λ p b. queues p registered (noted b)) (λ p. collected v) (λ p. Tried) (λ p. Ripe) registered_from
+          round-phase weight s v found 7 12 (Some (λ p. register p g)) None (λ p b. queues p registered (noted b)) (λ p. collected v) (λ p. Tried) (λ p. Ripe) registered_from
           L (servers-distinct v) bs ws os (omega (arith, servers-few v))
           (λ p i. record {
             member = lt p i;
@@ -209,7 +208,7 @@ module _ (weight : Member → ℕ) (s : Group) (high : s.members ≤ max_members
       first_round : Leads weight s v found L first s.books s.waiting s.order (round_steps 2 6 g L) attempting
       unfolding events_by
       first_round =
-          round-phase weight s v found 2 6 none (some (λ p. attempt p v)) (λ p. joined p v) (λ p. attempted v) Ready (λ p. Told) (info_from H)
+          round-phase weight s v found 2 6 None (Some (λ p. attempt p v)) (λ p. joined p v) (λ p. attempted v) Ready (λ p. Told) (info_from H)
           L (servers-distinct v) s.books s.waiting s.order (omega (arith, servers-few v, ap length empty))
           (λ p i. record {
             member = lt p i;

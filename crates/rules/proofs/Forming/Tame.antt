@@ -8,8 +8,7 @@ use Prim.Native.Nat.{ℕ, suc, ◌<◌}
 use native.Mathlib.Omega.{arith}
 use lib.Dec.{ltb}
 use Rattle.views.specs.declared.View.{View}
-use Rattle.views.specs.declared.list.Lookup.{Lookup}
-use Rattle.views.specs.declared.list.Lookup.TheVariants.{Found, Missing}
+use Rattle.std.specs.Prelude.{Option, Some, None}
 use Rattle.views.specs.Lists.{id_of, find_of, insert_of, union_of, above_of}
 use Rattle.views.proofs.Members.{In, top, pop, in-cons}
 use Rattle.views.proofs.ListLaws.{find-in, above_in, union-in, insert-in}
@@ -58,10 +57,10 @@ settled-of : (x : View) (h : Held) → In (settled_by x h) (held_views h) ⊎ (s
 unfolding settled_by
 settled-of x h = go (ltb (id_of h.settled) (id_of x)) (find_of (id_of x) h.opens) refl
   where
-    go : (y : Bool) (o : Lookup) → find_of (id_of x) h.opens ≡ o
+    go : (y : Bool) (o : Option View) → find_of (id_of x) h.opens ≡ o
         → In (cond y (own_or x o) h.settled) (held_views h) ⊎ (cond y (own_or x o) h.settled ≡ x)
-    go true (Found v) e = inl (pop (find-in (id_of x) h.opens v e).0)
-    go true Missing e = inr refl
+    go true (Some v) e = inl (pop (find-in (id_of x) h.opens v e).0)
+    go true None e = inr refl
     go false o e = inl top
 
 pub learned-held : (x : View) (l : List View) (h : Held) (w : View) → In w (held_views (learned x l h)) → In w (held_views h) ⊎ In w (x ∷ l)

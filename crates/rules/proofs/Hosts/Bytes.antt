@@ -8,7 +8,7 @@ use lib.Pow.{pow_mono}
 use lib.ListN.{length}
 use borrow.Author.Tests.{leb-false, le-leb}
 use Rattle.views.specs.declared.View.{View}
-use Rattle.views.specs.declared.refusal.Verdict.TheVariants.{Accepted}
+use Rattle.std.specs.Prelude.{Ok}
 use Rattle.views.specs.Limits.{max_members, max_views, max_ordered}
 use Rattle.views.specs.Refusals.{require}
 use Rattle.views.specs.Sets.{is_empty, is_beyond}
@@ -43,7 +43,7 @@ is-client registered x e = let z : ◌≡◌ {A = ℕ} 0 1 = cc in absurd (omega
 is-client (told k) x e = let z : ◌≡◌ {A = ℕ} 0 1 = cc in absurd (omega arith)
 
 -- a message that the writer takes
-frame_back : (g : ℕ) (m : Message) → length (views_of m) ≤ max_views → Fits (framed g m) → frame_verdict (framed g m) ≡ Accepted
+frame_back : (g : ℕ) (m : Message) → length (views_of m) ≤ max_views → Fits (framed g m) → frame_verdict (framed g m) ≡ Ok tt
     → sent_of (read_one (message_bytes g m)) ≡ accepted (record { view = g; message = m })
 frame_back g m few f v =
     let back : list_of (placed (views_of m)) ≡ views_of m = list-placed (views_of m) few in
@@ -77,7 +77,7 @@ module _ (n : ℕ) (Known : View → Type 0) (narrow : (v : View) → Known v �
   }
 
   -- a message without views
-  plain : (g : ℕ) (m : Message) → g < 256 ^ 4 → ((x : ℕ) → m ≡ client x → x < 256 ^ 8) → views_of m ≡ [] → frame_verdict (framed g m) ≡ Accepted
+  plain : (g : ℕ) (m : Message) → g < 256 ^ 4 → ((x : ℕ) → m ≡ client x → x < 256 ^ 8) → views_of m ≡ [] → frame_verdict (framed g m) ≡ Ok tt
       → sent_of (read_one (message_bytes g m)) ≡ accepted (record { view = g; message = m })
   plain g m h x e v =
       let few : length (views_of m) ≤ max_views = rw e (omega arith) in

@@ -1,7 +1,7 @@
 -- What each call of a member and each doing of the carrier makes of a world is a move of the flat group, or none, and keeps what the moves rest on.
 use mathlib.Core.Path.{◌≡◌, refl, sym, subst}
 use mathlib.Core.Logic.{⊎_elim}
-use mathlib.Core.Option.{some}
+use Rattle.std.specs.Prelude.{Some}
 use mathlib.Core.List.{List, [], ◌∷◌, ◌++◌, append-nil}
 use Prim.Native.Nat.{ℕ, ◌≤◌, ◌<◌}
 use native.Mathlib.Omega.{arith}
@@ -66,7 +66,7 @@ module _ {M : Type 0} where
       Left d = Moves d × BookKept (among n views) d.book
 
       -- ---- deliver: the message of the carrier view's order, where 16 and 43 are not due
-      taken : p < n → (v : View) (q : Member) (m : MessageOf M) → b.carrier.view ≡ some v → Next w p v q m
+      taken : p < n → (v : View) (q : Member) (m : MessageOf M) → b.carrier.view ≡ Some v → Next w p v q m
           → b.carrier.taken < max_ordered → length (delivered q m b).held.opens ≤ max_open → Left (record { book = delivered q m b; answer = ok })
       taken lt v q m c h t o = (
         took-moves weight s k.own p firm lt v c (entry q m) h.0 h.1,

@@ -1,6 +1,6 @@
 -- A book's share of what is kept, in parts, so that a step of one member speaks only of the parts that it changes; and between the parts and a sound book.
 use mathlib.Core.Path.{◌≡◌}
-use mathlib.Core.Option.{some}
+use Rattle.std.specs.Prelude.{Some}
 use Prim.Native.Nat.{◌≤◌, ◌<◌}
 use lib.ListN.{length}
 use Rattle.views.specs.declared.View.{View}
@@ -17,7 +17,7 @@ module _ {M : Type 0} where
     pub short : length c.inward ≤ max_ordered
     pub tolds-short : (q : Member) → q < s.members → c.tolds q ≤ max_ordered
     pub taken_in : c.taken ≤ s.limit c.view
-    pub known : (v : View) → c.view ≡ some v → s.known v
+    pub known : (v : View) → c.view ≡ Some v → s.known v
     pub from : ItemsFrom s.members c.inward
 
   pub record ClientSound (s : Setting) (c : AtClientOf M) : Type 0 where
@@ -25,7 +25,7 @@ module _ {M : Type 0} where
     pub handed-in : c.handed ≤ limit_at c.view c.inward
     pub told_in : c.told ≤ limit_at c.view c.inward
     pub reported-in : c.reported ≤ limit_at c.view c.inward
-    pub known : (v : View) → c.view ≡ some v → s.known v
+    pub known : (v : View) → c.view ≡ Some v → s.known v
     pub from : ItemsFrom s.members c.inward
 
   -- what 4 asks of a book, in parts

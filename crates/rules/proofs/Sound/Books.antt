@@ -2,7 +2,7 @@
 -- tests. A setting says which views are known, so that a group and a member by itself share the facts and all that follows from them.
 use mathlib.Core.Path.{◌≡◌, refl}
 use mathlib.Core.Bool.{true}
-use mathlib.Core.Option.{Option, some}
+use Rattle.std.specs.Prelude.{Option, Some}
 use mathlib.Core.List.{List, ◌∷◌}
 use Prim.Native.Nat.{ℕ, ◌+◌, ◌≤◌, ◌<◌}
 use lib.Dec.{leb}
@@ -60,8 +60,8 @@ module _ {M : Type 0} where
     pub reported-in : b.client.reported ≤ limit_at b.client.view b.client.inward
     pub opens-rise : rises_above (id_of b.held.settled) b.held.opens ≡ true
     pub held-known : (w : View) → In w (b.held.settled ∷ b.held.opens) → s.known w
-    pub carrier-known : (v : View) → b.carrier.view ≡ some v → s.known v
-    pub client-known : (v : View) → b.client.view ≡ some v → s.known v
+    pub carrier-known : (v : View) → b.carrier.view ≡ Some v → s.known v
+    pub client-known : (v : View) → b.client.view ≡ Some v → s.known v
     pub inward-from : ItemsFrom s.members b.client.inward
     pub arrived-from : ItemsFrom s.members b.carrier.inward
 
@@ -122,8 +122,8 @@ module _ {M : Type 0} where
     pub count : book_counts s.members (s.limit b.carrier.view) b ≡ true
     pub rise : rises_above (id_of b.held.settled) b.held.opens ≡ true
     pub held : (w : View) → In w (b.held.settled ∷ b.held.opens) → s.known w
-    pub carrier : (v : View) → b.carrier.view ≡ some v → s.known v
-    pub client : (v : View) → b.client.view ≡ some v → s.known v
+    pub carrier : (v : View) → b.carrier.view ≡ Some v → s.known v
+    pub client : (v : View) → b.client.view ≡ Some v → s.known v
     pub inward : all (item_from_member s.members) b.client.inward ≡ true
     pub arrived : all (item_from_member s.members) b.carrier.inward ≡ true
 

@@ -2,7 +2,7 @@
 use mathlib.Core.Path.{◌≡◌, refl}
 use mathlib.Core.Logic.{⊎_elim}
 use mathlib.Core.Bool.{Bool, true, false}
-use mathlib.Core.Option.{some}
+use Rattle.std.specs.Prelude.{Some}
 use mathlib.Core.List.{List, [], ◌∷◌, ◌++◌}
 use Prim.Native.Nat.{ℕ, ◌+◌, ◌≤◌, ◌<◌}
 use native.Mathlib.Omega.{arith}
@@ -22,9 +22,9 @@ use Rattle.rules.proofs.Sound.BookParts.{CarrierSound, ClientSound, PartsSound, 
 module _ {M : Type 0} where
   -- v is the carrier view of b, in whose order a message is left
   pub record Left (s : Setting) (b : BookOf M) (v : View) : Type 0 where
-    pub carries : b.carrier.view ≡ some v
-    pub left : b.carrier.taken < s.limit (some v)
-    pub short : s.limit (some v) ≤ max_ordered
+    pub carries : b.carrier.view ≡ Some v
+    pub left : b.carrier.taken < s.limit (Some v)
+    pub short : s.limit (Some v) ≤ max_ordered
 
   module _ (s : Setting) (b : BookOf M) (v : View) (f : Left s b v) (k : PartsSound s b) where
     left_at : b.carrier.taken + 1 ≤ s.limit b.carrier.view

@@ -10,8 +10,7 @@ use lib.Dec.{ltb}
 use lib.ListN.{length}
 use borrow.Author.Tests.{ltb-true}
 use Rattle.views.specs.declared.View.{View}
-use Rattle.views.specs.declared.list.Lookup.{Lookup}
-use Rattle.views.specs.declared.list.Lookup.TheVariants.{Found, Missing}
+use Rattle.std.specs.Prelude.{Option, Some, None}
 use Rattle.views.specs.Limits.{max_views, max_open}
 use Rattle.views.specs.Lists.{id_of, is_rising, rises_above, find_of, insert_of, union_of, above_of}
 use Rattle.views.proofs.SetLaws.{known}
@@ -39,9 +38,9 @@ module _ (Known : View → Type 0) where
   held-well : (v : View) (l : List View) → Known v → ((w : View) → In w l → Known w) → rises_above (id_of v) l ≡ true → HeldWell Known (record { settled = v; opens = l })
   held-well v l i f r = record { rises = r; known = λ w j. ⊎_elim (λ (e : w ≡ v). rw e i) (λ (k : In w l). f w k) (in-cons j) }
 
-  own-known : (x : View) (l : List View) (o : Lookup) → find_of (id_of x) l ≡ o → Known x → ((w : View) → In w l → Known w) → Known (own_or x o)
-  own-known x l (Found v) e i f = f v (find-in (id_of x) l v e).0
-  own-known x l Missing e i f = i
+  own-known : (x : View) (l : List View) (o : Option View) → find_of (id_of x) l ≡ o → Known x → ((w : View) → In w l → Known w) → Known (own_or x o)
+  own-known x l (Some v) e i f = f v (find-in (id_of x) l v e).0
+  own-known x l None e i f = i
 
   settled-known : (x : View) (h : Held) → Known x → HeldSound Known h → Known (settled_by x h)
   unfolding settled_by

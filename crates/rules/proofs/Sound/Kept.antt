@@ -1,7 +1,7 @@
 -- What every accepted step of a group keeps: sound records, no client view above the carrier view, nothing queued in a view that is not made.
 use mathlib.Core.Path.{◌≡◌, refl}
 use mathlib.Core.Logic.{◌≢◌}
-use mathlib.Core.Option.{Option, none, some}
+use Rattle.std.specs.Prelude.{Option, None, Some}
 use mathlib.Core.List.{List, []}
 use Prim.Native.Nat.{◌≤◌, ◌<◌}
 use native.Mathlib.Omega.{arith}
@@ -49,8 +49,8 @@ module _ {M : Type 0} where
   book-kept s h p i = parts-of (in_group s) (s.books p) (h.sound.book p i) (h.sound.outgoing p i) (h.below p i)
 
   order-longer : (s t : GroupOf M) → ((g : Identifier) → length (s.order g) ≤ length (t.order g)) → (o : Option View) → length (order_at s o) ≤ length (order_at t o)
-  order-longer s t h none = omega arith
-  order-longer s t h (some v) = h (id_of v)
+  order-longer s t h None = omega arith
+  order-longer s t h (Some v) = h (id_of v)
 
   -- a book that is sound in a group is so in one with the same members, no view less and no order shorter
   pub book-moves : (s t : GroupOf M) (b : BookOf M) → s.members ≡ t.members → Within s.views t.views → ((g : Identifier) → length (s.order g) ≤ length (t.order g))

@@ -3,7 +3,7 @@
 use mathlib.Core.Path.{◌≡◌, refl, sym}
 use mathlib.Core.Logic.{⊎_elim}
 use mathlib.Core.Bool.{Bool, true, false, cond, not}
-use mathlib.Core.Option.{none, some}
+use Rattle.std.specs.Prelude.{None, Some}
 use mathlib.Core.List.{List, []}
 use Prim.Native.Nat.{ℕ, suc, ◌≤◌, ◌<◌}
 use native.Mathlib.Omega.{arith}
@@ -26,7 +26,7 @@ use Rattle.rules.proofs.Sound.HeldLaws.{held-sound, opened-well, collected-sound
 use Rattle.rules.proofs.Sound.QueueLaws.{queue-snoc, queue-one, queue-first, next-below, next-taken, limit-le, limit-at}
 use Rattle.rules.proofs.Sound.BookParts.{BookKept, Keeps}
 
-first-view : (S : ℕ) (c : Bool) (v : View) → cond c (some (first_view S)) none ≡ some v → first_view S ≡ v
+first-view : (S : ℕ) (c : Bool) (v : View) → cond c (Some (first_view S)) None ≡ Some v → first_view S ≡ v
 first-view S true v e = cc
 first-view S false v e = let z : ◌≡◌ {A = ℕ} 0 1 = cc in absurd (omega arith)
 
@@ -37,7 +37,7 @@ module _ {M : Type 0} where
     pub fresh_kept : (S : ℕ) (p : Member) → s.known (first_view S) → BookKept s (fresh {M = M} S p)
     unfolding fresh rises_above
     fresh_kept S p f =
-        let first : (v : View) → cond (has S p) (some (first_view S)) none ≡ some v → s.known v = λ v e. rw (← (first-view S (has S p) v e)) f in
+        let first : (v : View) → cond (has S p) (Some (first_view S)) None ≡ Some v → s.known v = λ v e. rw (← (first-view S (has S p) v e)) f in
         record {
           held = record {
             short = omega arith;
@@ -118,7 +118,7 @@ module _ {M : Type 0} where
     -- ---- attempt
 
     -- if it leaves at most 31 views open
-    pub attempted-kept : (v : View) (b : BookOf M) → b.carrier.view ≡ some v → rank b.client.view ≤ id_of v → length (opened v b.held).opens ≤ max_open
+    pub attempted-kept : (v : View) (b : BookOf M) → b.carrier.view ≡ Some v → rank b.client.view ≤ id_of v → length (opened v b.held).opens ≤ max_open
         → BookKept s b → BookKept s (attempted v b)
     unfolding attempted
     attempted-kept v b c l o k =
@@ -145,7 +145,7 @@ module _ {M : Type 0} where
 
     -- what holds of each book that an attempt can leave
     pub attempts-hold : {P : DoneOf M → Type 0} (weight : Member → ℕ) (n : ℕ) (p : Member) (b : BookOf M)
-        → ((v : View) → b.carrier.view ≡ some v → rank b.client.view ≤ id_of v → P (record { book = attempted v b; answer = event (attempt p v) }))
+        → ((v : View) → b.carrier.view ≡ Some v → rank b.client.view ≤ id_of v → P (record { book = attempted v b; answer = event (attempt p v) }))
         → Holds P (attempts weight n p b)
     unfolding attempts
     attempts-hold weight n p b f =

@@ -1,7 +1,7 @@
 -- Queues and positions: an entry more at the end, the first one gone, the next one past a position, a position's limit.
 use mathlib.Core.Path.{◌≡◌, ap}
 use mathlib.Core.Logic.{◌⊎◌, inl, inr, ⊎_elim}
-use mathlib.Core.Option.{Option, none, some}
+use Rattle.std.specs.Prelude.{Option, None, Some}
 use mathlib.Core.List.{List, [], ◌∷◌, ◌++◌}
 use Prim.Native.Nat.{ℕ, zero, suc, ◌+◌, ◌≤◌, ◌<◌}
 use native.Mathlib.Omega.{arith}
@@ -68,12 +68,12 @@ next-taken n m l x rest e = omega (arith, next-below n (take m l) x rest e, leng
 -- ---- a position's limit
 
 pub limit-le : {A : Type 0} (o : Option View) (l : List A) → limit_at o l ≤ length l
-limit-le none l = omega arith
-limit-le (some v) l = omega arith
+limit-le None l = omega arith
+limit-le (Some v) l = omega arith
 
-pub limit-at : {A : Type 0} (o : Option View) (v : View) (l : List A) → o ≡ some v → limit_at o l ≡ length l
+pub limit-at : {A : Type 0} (o : Option View) (v : View) (l : List A) → o ≡ Some v → limit_at o l ≡ length l
 limit-at o v l e = rw e
 
 pub limit-snoc : {A : Type 0} (o : Option View) (l : List A) (x : A) → limit_at o l ≤ limit_at o (l ++ (x ∷ []))
-limit-snoc none l x = omega arith
-limit-snoc (some v) l x = omega (arith, length-snoc l x)
+limit-snoc None l x = omega arith
+limit-snoc (Some v) l x = omega (arith, length-snoc l x)

@@ -1,24 +1,18 @@
--- `book_sound::entries_at::entries_sound` meets its contract: the entries before the i-th are sound, so the answer is that of the rest.
-use mathlib.Core.Path.{sym, ◌∙◌}
-use Prim.Native.Nat.{◌+◌, ◌-◌, ◌*◌}
-use native.Mathlib.Omega.{arith}
-use Rattle.slots.specs.Slots.{slot_size}
+-- `book_sound::entries_at::entries_sound` meets its contract: it asks every entry.
+use Rattle.std.proofs.Common.{◌∙◌, rules, arith, refl}
+use borrow.Author.Tests.{tests}
+use Rattle.std.proofs.lemmas.Iterator.{YieldsList-from_range, serves_from_Range}
+use Rattle.std.proofs.lemmas.Iterator.Search.{all_from_yields_List}
 use Rattle.slots.proofs.Lists.{slots_at}
 use Rattle.book_sound.specs.EntryParts.{entry_sound}
-use Rattle.book_sound.proofs.EntryWalks.{entries-start, entries-turn, entries-end}
+use Rattle.book_sound.proofs.EntryWalks.{all-entries}
 use Rattle.book_sound.proofs.entries_at.entries_sound.Goals as goal
 
-pub loop-i-init : goal.loop-i-init
-loop-i-init c = (omega arith, entries-start c.args.b.now c.args.at c.args.count (entry_sound c.args.n))
-
-pub entry_sound-requires : goal.entry_sound-requires
-entry_sound-requires c = (omega arith, slots_at c.args.b.now c.args.at c.args.count c.loop-i.i (omega arith) c.requires.1)
-
-pub returns-then-not-entry_sound : goal.returns-then-not-entry_sound
-returns-then-not-entry_sound c = sym (c.loop-i.invariant.1 ∙ entries-turn c.args.b.now c.args.at c.args.count c.loop-i.i (omega arith) (entry_sound c.args.n) ∙ rw (sym c.entry_sound.ensures ∙ c.if-not-entry_sound.true))
-
-pub loop-i-preserved : goal.loop-i-preserved
-loop-i-preserved c = (omega arith, c.loop-i.invariant.1 ∙ entries-turn c.args.b.now c.args.at c.args.count c.loop-i.i (omega arith) (entry_sound c.args.n) ∙ rw (sym c.entry_sound.ensures ∙ c.if-not-entry_sound.false))
+pub all-requires-clause-callable : goal.all-requires-clause-callable
+all-requires-clause-callable c =
+    serves_from_Range (λ x q k. search (rules, tests)) (λ x low high. let fits = slots_at c.args.b.now c.args.at c.args.count x high c.requires.1 in search (rules, tests))
 
 pub returns : goal.returns
-returns c = sym (c.loop-i.invariant.1 ∙ entries-end c.args.b.now (c.args.at + slot_size * c.loop-i.i) (c.args.count - c.loop-i.i) (omega arith) (entry_sound c.args.n))
+returns c =
+    all_from_yields_List _ _ _ _ c.all.ensures.ran (YieldsList-from_range 0 c.args.count c.args.count refl (omega arith)) (λ x b q k. search (rules, tests))
+    ∙ all-entries c.args.b.now c.args.at c.args.count (entry_sound c.args.n)

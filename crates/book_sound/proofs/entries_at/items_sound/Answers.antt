@@ -1,30 +1,28 @@
--- `book_sound::entries_at::items_sound` meets its contract: the highest of the senders before the i-th item is a member where each of them is.
-use mathlib.Core.Path.{◌≡◌, ap, ◌∙◌}
-use Prim.Native.Nat.{ℕ}
-use native.Mathlib.Omega.{arith}
-use lib.Dec.{ltb}
+-- `book_sound::entries_at::items_sound` meets its contract: the highest of the senders before this one is a member where each of them is.
+use Rattle.std.proofs.Common.{◌≡◌, ◌∙◌, ap, arith, ◌+◌, ◌<◌}
 use lib.ListN.{get_or}
-use Rattle.book_sound.proofs.EntryWalks.{senders_below, senders-start, senders-above, senders-among, senders-end}
+use Rattle.std.proofs.lemmas.List.Edits.{length-between, get_or-between}
+use Rattle.book_sound.proofs.EntryWalks.{senders_below, senders-start, senders-max, senders-end}
 use Rattle.book_sound.proofs.entries_at.items_sound.Goals as goal
-use Rattle.book_sound.proofs.entries_at.items_sound.Goals.{then-highest-sender, else-highest-sender}
 
-pub loop-i-init : goal.loop-i-init
-loop-i-init c = let a = c.args in (omega arith, senders-start a.b.now a.c a.n (omega arith))
+pub loop-sender-init : goal.loop-sender-init
+loop-sender-init c = senders-start c.args.b.now c.args.c c.args.n (omega arith)
 
-pub loop-i-preserved : goal.loop-i-preserved
-loop-i-preserved c =
-    let a = c.args in
-    let l = c.loop-i in (
-      omega arith,
-      elim c.if-highest-sender.branch [
-        | then-highest-sender w ↦ ap (λ (x : ℕ). ltb x a.n) w.highest-is ∙ senders-above a.b.now a.c a.n l.highest l.i l.invariant.1 w.if-highest-sender.true
-        | else-highest-sender w ↦ ap (λ (x : ℕ). ltb x a.n) w.highest-is ∙ senders-among a.b.now a.c a.n l.highest l.i l.invariant.1 w.if-highest-sender.false
-      ],
-    )
+pub loop-sender-preserved : goal.loop-sender-preserved
+loop-sender-preserved c =
+    let b = c.args.b.now in
+    let i = c.loop-sender.sender-index in
+    let from = c.args.c + 1 in
+    let long = length-between b from (from + get_or b c.args.c 0) (omega arith) in
+    let few : i < get_or b c.args.c 0 = omega (arith, c.loop-sender-test.true, long) in
+    let here = get_or-between b from (from + get_or b c.args.c 0) i 0 (omega arith) in
+    senders-max b c.args.c c.args.n c.loop-sender.highest i _ c.max-highest.result c.loop-sender.invariant here c.max-highest.ensures
 
 pub returns : goal.returns
 returns c =
-    let a = c.args in
-    let l = c.loop-i in
-    let e : l.i ≡ get_or a.b.now a.c 0 = omega arith in
-    l.invariant.1 ∙ ap (senders_below a.b.now a.c a.n) e ∙ senders-end a.b.now a.c a.n
+    let b = c.args.b.now in
+    let i = c.loop-sender.sender-index in
+    let from = c.args.c + 1 in
+    let long = length-between b from (from + get_or b c.args.c 0) (omega arith) in
+    let all : i ≡ get_or b c.args.c 0 = omega (arith, c.loop-sender-test.false, c.loop-sender.auto.sender-index-end, long) in
+    c.loop-sender.invariant ∙ ap (senders_below b c.args.c c.args.n) all ∙ senders-end b c.args.c c.args.n

@@ -1,45 +1,51 @@
--- `book_sound::record::record_sound` meets its contract: each way out rewrites the definition with the tests that led to it.
-use mathlib.Core.Path.{sym, ap, ◌∙◌}
-use mathlib.Core.List.{List}
-use Prim.Native.Nat.{ℕ}
-use borrow.Author.Tests.{le-leb, lt-leb}
+-- `book_sound::record::record_sound` meets its contract: it asks the parts of the definition in their order.
+use Rattle.std.proofs.Common.{arith, sym, refl, ◌∙◌, ◌≡◌, Bool}
+use Rattle.std.proofs.lemmas.Grind.{common_steps}
 use lib.Dec.{leb}
 use lib.ListN.{get_or}
-use Rattle.views.specs.Limits.{max_ordered}
+use Rattle.views.specs.Sets.{both}
+use Rattle.views.specs.Limits.{max_members, max_ordered}
 use Rattle.rules.specs.Member.{every}
 use Rattle.book_bytes.specs.Records.{record_in}
-use Rattle.book_sound.proofs.Tests.{record-are}
+use Rattle.book_sound.specs.Parts.{taken_fits, positions_fit, views_sound}
+use Rattle.book_sound.proofs.Tests.{both-then, both-else, record-asked}
 use Rattle.book_sound.proofs.record.record_sound.Goals as goal
+use Rattle.book_sound.proofs.record.record_sound.Goals.{then-contains, else-contains, then-tolds_fit, else-tolds_fit, then-taken_fits, else-taken_fits}
 
-pub returns-then-n-lt1 : goal.returns-then-n-lt1
-returns-then-n-lt1 c = sym (record-are c.args.n (record_in c.args.b.now) c.args.own c.args.new ∙ rw (lt-leb _ _ c.if-n-lt1.true))
-
-pub returns-then-n-gt-MEMBERS : goal.returns-then-n-gt-MEMBERS
-returns-then-n-gt-MEMBERS c = sym (record-are c.args.n (record_in c.args.b.now) c.args.own c.args.new ∙ rw (le-leb _ _ c.if-n-lt1.false, lt-leb _ _ c.if-n-gt-MEMBERS.true))
-
-pub returns-then-not-tolds_fit : goal.returns-then-not-tolds_fit
+pub returns-then-positions_fit : goal.returns-then-positions_fit
 unfolding record_in
-returns-then-not-tolds_fit c =
+returns-then-positions_fit c =
     let a = c.args in
-    sym (record-are a.n (record_in a.b.now) a.own a.new ∙ rw (le-leb _ _ c.if-n-lt1.false, le-leb _ _ c.if-n-gt-MEMBERS.false, sym (c.tolds_fit.ensures ∙ ap (λ (t : List ℕ). every a.n (λ (q : ℕ). leb (get_or t q 0) max_ordered)) c.load_tolds-tolds.ensures) ∙ c.if-not-tolds_fit.true))
+    let every-told : Bool = every a.n (λ q. leb (get_or (record_in a.b.now).tolds q 0) max_ordered) in
+    let takes : Bool = taken_fits (record_in a.b.now) a.own a.new in
+    let stands : Bool = positions_fit (record_in a.b.now) a.own in
+    let in-range : c.contains.result ≡ both (leb 1 a.n) (leb a.n max_members) = grind (arith, common_steps) in
+    let told : c.if-contains.value ≡ both c.contains.result every-told =
+    elim c.if-contains.branch [ then-contains w ↦ both-then w.if-contains.true (w.value-is ∙ w.tolds_fit.ensures ∙ rw w.load_tolds.ensures) | else-contains w ↦ both-else every-told w.if-contains.false w.value-is ]
+    in
+    let taken : c.if-tolds_fit.value ≡ both c.if-contains.value takes =
+    elim c.if-tolds_fit.branch [ then-tolds_fit w ↦ both-then w.if-tolds_fit.true (w.value-is ∙ w.taken_fits.ensures) | else-tolds_fit w ↦ both-else takes w.if-tolds_fit.false w.value-is ]
+    in
+    let positions : c.if-taken_fits.value ≡ both c.if-tolds_fit.value stands =
+    elim c.if-taken_fits.branch [ then-taken_fits w ↦ both-then w.if-taken_fits.true (w.value-is ∙ w.positions_fit.ensures) | else-taken_fits w ↦ both-else stands w.if-taken_fits.false w.value-is ]
+    in
+    both-then c.if-positions_fit.true c.views_sound.ensures ∙ sym (record-asked a.n (record_in a.b.now) a.own a.new ∙ rw (← in-range, ← told, ← taken, ← positions))
 
-pub returns-then-not-taken_fits : goal.returns-then-not-taken_fits
+pub returns-else-positions_fit : goal.returns-else-positions_fit
 unfolding record_in
-returns-then-not-taken_fits c =
+returns-else-positions_fit c =
     let a = c.args in
-    let early = c in
-    sym (record-are a.n (record_in a.b.now) a.own a.new ∙ rw (le-leb _ _ early.if-n-lt1.false, le-leb _ _ early.if-n-gt-MEMBERS.false, sym (c.tolds_fit.ensures ∙ ap (λ (t : List ℕ). every a.n (λ (q : ℕ). leb (get_or t q 0) max_ordered)) early.load_tolds-tolds.ensures) ∙ c.if-not-tolds_fit.false, sym c.taken_fits.ensures ∙ c.if-not-taken_fits.true))
-
-pub returns-then-not-positions_fit : goal.returns-then-not-positions_fit
-unfolding record_in
-returns-then-not-positions_fit c =
-    let a = c.args in
-    let early = c in
-    sym (record-are a.n (record_in a.b.now) a.own a.new ∙ rw (le-leb _ _ early.if-n-lt1.false, le-leb _ _ early.if-n-gt-MEMBERS.false, sym (early.tolds_fit.ensures ∙ ap (λ (t : List ℕ). every a.n (λ (q : ℕ). leb (get_or t q 0) max_ordered)) early.load_tolds-tolds.ensures) ∙ early.if-not-tolds_fit.false, sym c.taken_fits.ensures ∙ c.if-not-taken_fits.false, sym c.positions_fit.ensures ∙ c.if-not-positions_fit.true))
-
-pub returns : goal.returns
-unfolding record_in
-returns c =
-    let a = c.args in
-    let early = c in
-    c.views_sound.ensures ∙ sym (record-are a.n (record_in a.b.now) a.own a.new ∙ rw (le-leb _ _ early.if-n-lt1.false, le-leb _ _ early.if-n-gt-MEMBERS.false, sym (early.tolds_fit.ensures ∙ ap (λ (t : List ℕ). every a.n (λ (q : ℕ). leb (get_or t q 0) max_ordered)) early.load_tolds-tolds.ensures) ∙ early.if-not-tolds_fit.false, sym early.taken_fits.ensures ∙ c.if-not-taken_fits.false, sym c.positions_fit.ensures ∙ c.if-not-positions_fit.false))
+    let every-told : Bool = every a.n (λ q. leb (get_or (record_in a.b.now).tolds q 0) max_ordered) in
+    let takes : Bool = taken_fits (record_in a.b.now) a.own a.new in
+    let stands : Bool = positions_fit (record_in a.b.now) a.own in
+    let in-range : c.contains.result ≡ both (leb 1 a.n) (leb a.n max_members) = grind (arith, common_steps) in
+    let told : c.if-contains.value ≡ both c.contains.result every-told =
+    elim c.if-contains.branch [ then-contains w ↦ both-then w.if-contains.true (w.value-is ∙ w.tolds_fit.ensures ∙ rw w.load_tolds.ensures) | else-contains w ↦ both-else every-told w.if-contains.false w.value-is ]
+    in
+    let taken : c.if-tolds_fit.value ≡ both c.if-contains.value takes =
+    elim c.if-tolds_fit.branch [ then-tolds_fit w ↦ both-then w.if-tolds_fit.true (w.value-is ∙ w.taken_fits.ensures) | else-tolds_fit w ↦ both-else takes w.if-tolds_fit.false w.value-is ]
+    in
+    let positions : c.if-taken_fits.value ≡ both c.if-tolds_fit.value stands =
+    elim c.if-taken_fits.branch [ then-taken_fits w ↦ both-then w.if-taken_fits.true (w.value-is ∙ w.positions_fit.ensures) | else-taken_fits w ↦ both-else stands w.if-taken_fits.false w.value-is ]
+    in
+    both-else (views_sound a.n (record_in a.b.now)) c.if-positions_fit.false refl ∙ sym (record-asked a.n (record_in a.b.now) a.own a.new ∙ rw (← in-range, ← told, ← taken, ← positions))

@@ -6,4 +6,4 @@ pub returns : goal.returns
 returns c =
     let early = c in
     let start = early in
-    enter-done start.args.b.now _ _ start.args.v start.requires early.store_seat.ensures c.clear.ensures
+    enter-done start.args.b.now _ _ start.args.v start.requires early.store_seat.ensures (c.fill.ensures.after (λ y e. e))

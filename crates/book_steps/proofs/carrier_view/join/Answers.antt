@@ -1,5 +1,6 @@
 -- `book_steps::carrier_view::join` meets its contract: the verdict on the carrier view that was loaded is the rule's.
 use native.Mathlib.Omega.{arith}
+use Rattle.std.proofs.lemmas.Result.{err_from_is_err_and}
 use Rattle.book_steps.proofs.Committed.{sound-size, sound-layout}
 use Rattle.book_steps.proofs.JoinLaws.{join-refused, join-accepted}
 use Rattle.book_steps.proofs.carrier_view.join.Goals as goal
@@ -18,8 +19,10 @@ announce-requires c =
 pub enter-requires : goal.enter-requires
 enter-requires c = omega (arith, c.announce.auto.b, sound-size _ c.requires)
 
-pub returns-in-Refused : goal.returns-in-Refused
-returns-in-Refused c = join-refused _ _ _ c.load_seat-carrier.ensures _ c.join-verdict.ensures _ _ c.in-Refused.is c.refuse.ensures
+pub returns-in_err-join : goal.returns-in_err-join
+returns-in_err-join c =
+    let p = err_from_is_err_and c.from_residual.result c.from_residual.ensures.1 in
+    rw (p.1, p.2) (join-refused _ _ _ c.load_seat-carrier.ensures _ c.in_err-join.ensures)
 
-pub returns-in-Accepted : goal.returns-in-Accepted
-returns-in-Accepted c = join-accepted _ _ _ c.load_seat-carrier.ensures _ c.join-verdict.ensures c.in-Accepted.is _ c.no_event.ensures _ _ c.announce.ensures c.enter.ensures
+pub returns : goal.returns
+returns c = join-accepted _ _ _ c.load_seat-carrier.ensures c.in_ok-join.ensures _ _ c.announce.ensures c.enter.ensures

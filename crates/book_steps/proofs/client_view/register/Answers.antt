@@ -1,5 +1,6 @@
 -- `book_steps::client_view::register` meets its contract: the verdict is the rule's, and the message is said where it accepts.
 use native.Mathlib.Omega.{arith}
+use Rattle.std.proofs.lemmas.Result.{err_from_is_err_and}
 use Rattle.book_steps.proofs.Committed.{sound-size}
 use Rattle.book_steps.proofs.SpeakLaws.{register-refused, register-fits, register-done}
 use Rattle.book_steps.proofs.client_view.register.Goals as goal
@@ -14,13 +15,15 @@ pub bounds-b-1 : goal.bounds-b-1
 bounds-b-1 c = omega (arith, sound-size _ c.requires)
 
 pub say-requires : goal.say-requires
-say-requires c = (omega (arith, sound-size _ c.requires), register-fits _ _ c.load_current-h.ensures _ c.register-verdict.ensures _ c.spoken-m.ensures c.in-Accepted.is)
+say-requires c = (omega (arith, sound-size _ c.requires), register-fits _ _ c.load_current-h.ensures c.in_ok-register.ensures _ c.spoken.ensures)
 
 pub bounds-b-19 : goal.bounds-b-19
 bounds-b-19 c = omega (arith, sound-size _ c.requires, c.say.auto.b)
 
-pub returns-in-Refused : goal.returns-in-Refused
-returns-in-Refused c = register-refused _ _ c.load_current-h.ensures _ c.register-verdict.ensures _ _ c.in-Refused.is c.refuse.ensures
+pub returns-in_err-register : goal.returns-in_err-register
+returns-in_err-register c =
+    let p = err_from_is_err_and c.from_residual.result c.from_residual.ensures.1 in
+    rw (p.1, p.2) (register-refused _ _ c.load_current-h.ensures _ c.in_err-register.ensures)
 
-pub returns-in-Accepted : goal.returns-in-Accepted
-returns-in-Accepted c = register-done _ _ c.load_current-h.ensures _ c.register-verdict.ensures c.in-Accepted.is _ c.spoken-m.ensures _ c.in_client-e.ensures _ c.say.ensures
+pub returns : goal.returns
+returns c = register-done _ _ c.load_current-h.ensures c.in_ok-register.ensures _ c.spoken.ensures _ c.say.ensures

@@ -1,5 +1,6 @@
 -- `book_steps::client_view::send` meets its contract: the verdict is the rule's, and the message is said where it accepts.
 use native.Mathlib.Omega.{arith}
+use Rattle.std.proofs.lemmas.Result.{err_from_is_err_and}
 use Rattle.book_steps.proofs.Committed.{sound-size}
 use Rattle.book_steps.proofs.SpeakLaws.{send-refused, send-fits, send-done}
 use Rattle.book_steps.proofs.client_view.send.Goals as goal
@@ -14,10 +15,12 @@ pub bounds-b-1 : goal.bounds-b-1
 bounds-b-1 c = omega (arith, sound-size _ c.requires)
 
 pub say-requires : goal.say-requires
-say-requires c = (omega (arith, sound-size _ c.requires), send-fits _ _ c.load_current-h.ensures _ c.send-verdict.ensures _ _ c.spoken-m.ensures c.in-Accepted.is)
+say-requires c = (omega (arith, sound-size _ c.requires), send-fits _ _ c.load_current-h.ensures c.args.entry c.in_ok-send.ensures _ c.spoken.ensures)
 
-pub returns-in-Refused : goal.returns-in-Refused
-returns-in-Refused c = send-refused _ _ c.load_current-h.ensures _ c.send-verdict.ensures _ _ _ c.in-Refused.is c.refuse.ensures
+pub returns-in_err-send : goal.returns-in_err-send
+returns-in_err-send c =
+    let p = err_from_is_err_and c.from_residual.result c.from_residual.ensures.1 in
+    rw (p.1, p.2) (send-refused _ _ c.load_current-h.ensures c.args.entry _ c.in_err-send.ensures)
 
-pub returns-in-Accepted : goal.returns-in-Accepted
-returns-in-Accepted c = send-done _ _ c.load_current-h.ensures _ c.send-verdict.ensures _ c.in-Accepted.is _ c.spoken-m.ensures _ c.in_client-e.ensures _ c.say.ensures
+pub returns : goal.returns
+returns c = send-done _ _ c.load_current-h.ensures c.args.entry c.in_ok-send.ensures _ c.spoken.ensures _ c.say.ensures

@@ -2,8 +2,9 @@
 use mathlib.Core.Path.{refl}
 use Prim.Native.Nat.{◌+◌}
 use native.Mathlib.Omega.{arith}
+use Rattle.std.proofs.lemmas.Result.{err_from_is_err_and}
 use Rattle.book_steps.proofs.Committed.{sound-size, sound-layout}
-use Rattle.book_steps.proofs.TakeLaws.{set-ready, took-carried, took-registered, took-told}
+use Rattle.book_steps.proofs.TakeLaws.{set-ready, took-carried, took-client, took-registered, took-told, took-reply, over-reply}
 use Rattle.book_steps.proofs.messages.deliver.Goals as goal
 
 pub inform-requires : goal.inform-requires
@@ -24,13 +25,18 @@ count-requires c =
     set-ready s.args.b.now _ (omega (arith, sound-size _ s.requires.0), s.requires.1) (26 + s.args.e.sender.0) c.in-Told.k (omega arith) refl
 
 pub returns-in-Client : goal.returns-in-Client
-returns-in-Client c = took-carried _ _ _ _ _ _ _ c.in-Client.is c.receive.ensures
+returns-in-Client c = took-reply _ _ _ _ (took-carried _ _ _ _ _ _ _ c.in-Client.is (took-client _ _ _ _ c.receive.ensures))
 
-pub returns-in-Info : goal.returns-in-Info
-returns-in-Info c = took-carried _ _ _ _ _ _ _ c.in-Info.is c.inform.ensures
+pub returns-in_ok-inform-in-Info : goal.returns-in_ok-inform-in-Info
+returns-in_ok-inform-in-Info c = took-reply _ _ _ _ (took-carried _ _ _ _ _ _ _ c.in-Info.is c.in_ok-inform-in-Info.ensures)
+
+pub returns-in_err-inform-in-Info : goal.returns-in_err-inform-in-Info
+returns-in_err-inform-in-Info c =
+    let p = err_from_is_err_and c.from_residual.result c.from_residual.ensures.1 in
+    rw (p.1, p.2) (over-reply _ _ _ _ _ (took-carried _ _ _ _ _ _ _ c.in-Info.is c.in_err-inform-in-Info.ensures))
 
 pub returns-in-Registered : goal.returns-in-Registered
-returns-in-Registered c = let note = c.note in took-carried _ _ _ _ _ _ _ c.in-Registered.is (took-registered _ _ _ note.ensures.0 _ note.ensures.1)
+returns-in-Registered c = took-reply _ _ _ _ (took-carried _ _ _ _ _ _ _ c.in-Registered.is (took-registered _ _ _ c.note.ensures))
 
 pub returns-in-Told : goal.returns-in-Told
-returns-in-Told c = let count = c.count in took-carried _ _ _ _ _ _ _ c.in-Told.is (took-told _ _ _ count.ensures.0 _ _ count.ensures.1)
+returns-in-Told c = took-reply _ _ _ _ (took-carried _ _ _ _ _ _ _ c.in-Told.is (took-told _ _ _ _ c.count.ensures))

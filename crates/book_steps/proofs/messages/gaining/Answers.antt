@@ -7,5 +7,5 @@ use Rattle.book_steps.proofs.messages.gaining.Goals as goal
 pub returns-then-same_view : goal.returns-then-same_view
 returns-then-same_view c = gaining-is _ _ _ true _ c.load_seat-client.ensures c.load_seat-carrier.ensures (sym c.if-same_view.true ∙ c.same_view.ensures) c.inward.ensures
 
-pub returns : goal.returns
-returns c = gaining-is _ _ _ false _ c.load_seat-client.ensures c.load_seat-carrier.ensures (sym c.if-same_view.false ∙ c.same_view.ensures) c.inward-2.ensures
+pub returns-else-same_view : goal.returns-else-same_view
+returns-else-same_view c = gaining-is _ _ _ false _ c.load_seat-client.ensures c.load_seat-carrier.ensures (sym c.if-same_view.false ∙ c.same_view.ensures) c.inward-else-same_view.ensures

@@ -11,8 +11,8 @@ note-requires c =
 
 pub returns-then-b-eq0 : goal.returns-then-b-eq0
 returns-then-b-eq0 c =
-    let note = c.note in
-    inform-short _ _ _ _ _ _ _ _ _ _ c.if-n-eq1.true c.if-b-eq0.true c.load_view-x.ensures c.load_view-own.ensures c.later-settled.ensures _ c.store_view.ensures note.ensures.0 note.ensures.1
+    inform-short _ _ _ _ _ _ _ _ _ c.if-n-eq1.true c.if-b-eq0.true
+    c.load_view-x.ensures c.load_view-own.ensures c.later-settled.ensures _ c.store_view.ensures c.note.ensures
 
 pub returns : goal.returns
-returns c = inform-long _ _ _ _ _ _ _ _ c.requires.6 c.load_view-x.ensures c.learn.ensures
+returns c = inform-long _ _ _ _ _ _ _ c.requires.6 c.load_view-x.ensures _ c.learn.ensures

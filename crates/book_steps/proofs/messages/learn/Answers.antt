@@ -12,7 +12,7 @@ pub returns-then-opens-gt-OPEN : goal.returns-then-opens-gt-OPEN
 returns-then-opens-gt-OPEN c =
     let s = c in
     let e = held-merged _ _ _ _ _ _ _ s.requires.2 c.settled_by-settled.ensures c.merge-merged.ensures in
-    over-info s.args.q.0 _ _ _ _ e _ c.if-opens-gt-OPEN.true c.refuse.ensures
+    over-info s.args.q.0 _ _ _ _ e c.if-opens-gt-OPEN.true
 
 pub note-requires : goal.note-requires
 note-requires c =
@@ -24,5 +24,5 @@ pub returns : goal.returns
 returns c =
     let s = c in
     let e = held-merged _ _ _ _ _ _ _ s.requires.2 c.settled_by-settled.ensures c.merge-merged.ensures in
-    let note = c.note in
-    took-info s.args.q.0 _ _ _ _ e _ c.if-opens-gt-OPEN.false note.ensures.0 _ (note.ensures.1 ∙ ap (λ (z : List ℕ). one_more (noted infos_at s.args.q.0 z)) c.store_held.ensures)
+    took-info s.args.q.0 _ _ _ _ e c.if-opens-gt-OPEN.false _
+    (c.note.ensures ∙ ap (λ (z : List ℕ). one_more (noted infos_at s.args.q.0 z)) c.store_held.ensures)

@@ -13,4 +13,4 @@ pub returns : goal.returns
 unfolding noted
 returns c =
     let a = c.args in
-    (c.count.ensures.0, c.count.ensures.1 ∙ ap (λ (x : ℕ). one_more (set a.b.now a.at x)) c.with_member.ensures)
+    c.count.ensures ∙ ap (λ (x : ℕ). one_more (set a.b.now a.at x)) c.with_member.ensures

@@ -3,10 +3,10 @@ use mathlib.Core.Path.{ap, ◌∙◌}
 use Prim.Native.Nat.{ℕ}
 use native.Mathlib.Omega.{arith}
 use Rattle.slots.specs.Changes.{gained}
-use Rattle.book_steps.specs.Acts.{one_more}
+use Rattle.book_steps.specs.Acts.{one_more, take_bytes}
 use Rattle.book_steps.proofs.Committed.{sound-size, sound-layout}
 use Rattle.book_steps.proofs.RoomLaws.{gaining-fits, gain-room}
-use Rattle.book_steps.proofs.TakeLaws.{gained-ready, took-client}
+use Rattle.book_steps.proofs.TakeLaws.{gained-ready}
 use Rattle.book_steps.proofs.messages.receive.Goals as goal
 
 pub gaining-c-requires : goal.gaining-c-requires
@@ -25,7 +25,7 @@ count-requires c =
     gained-ready _ _ (omega (arith, sound-size _ pre.0), pre.1) _ _ _ (rw c.gaining-c.ensures (omega arith)) c.gain.ensures
 
 pub returns : goal.returns
+unfolding take_bytes
 returns c =
     let a = c.args in
-    let count = c.count in
-    took-client a.q.0 _ _ count.ensures.0 _ a.x (count.ensures.1 ∙ ap one_more (c.gain.ensures ∙ ap (λ (z : ℕ). gained a.b.now z a.q.0 a.x) c.gaining-c.ensures))
+    c.count.ensures ∙ ap one_more (c.gain.ensures ∙ ap (λ (z : ℕ). gained a.b.now z a.q.0 a.x) c.gaining-c.ensures)

@@ -7,4 +7,4 @@ pub returns : goal.returns
 returns c =
     let a = c.args in
     join-narrowed a.book.now _ _ a.view a.set
-    (gives-call _ _ _ _ _ _ (rw c.narrow.ensures at c.join-r.ensures) c.code.ensures)
+    (gives-call _ _ _ _ _ _ (rw c.narrow.ensures at c.join.ensures) c.code.ensures)

@@ -5,4 +5,4 @@ use Rattle.dvs.proofs.CheckLaws.{admitted-checks}
 use Rattle.dvs.proofs.checks.dvs_check.Goals as goal
 
 pub returns : goal.returns
-returns c = c.code.ensures ∙ ap code_of (c.admit-v.ensures ∙ admitted-checks _)
+returns c = c.code.ensures ∙ ap code_of (c.admit.ensures ∙ admitted-checks _)

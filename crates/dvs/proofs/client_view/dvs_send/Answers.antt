@@ -8,4 +8,4 @@ returns-then-event-ne-EVENT c = shows-unsized _ _ _ _ _ c.if-event-ne-EVENT.true
 pub returns : goal.returns
 returns c =
     let early = c in
-    shows-call _ _ _ _ _ _ _ _ early.if-event-ne-EVENT.false early.send-r.ensures c.answer.ensures
+    shows-call _ _ _ _ _ _ _ _ early.if-event-ne-EVENT.false early.send.ensures c.answer.ensures

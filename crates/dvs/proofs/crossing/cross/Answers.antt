@@ -16,4 +16,4 @@ returns c =
     let c15 = c9 in
     let a = c15.args in
     crosses-call (ranges a.list.now a.books.now a.queues.now) a.hold a.set _ _ _ _ _ _ _
-    c9.if-count-ne-LENGTH.false c8.narrow.ensures c6.query-r.ensures c.measure.ensures
+    c9.if-count-ne-LENGTH.false c8.narrow.ensures c6.query-found.ensures c.measure.ensures

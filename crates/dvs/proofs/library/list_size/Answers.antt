@@ -1,13 +1,18 @@
--- `dvs::library::list_size` meets its contract: no view, too many, or a length.
+-- `dvs::library::list_size` meets its contract: a length, or no view or too many.
+use mathlib.Core.Path.{◌≡◌, sym, ◌∙◌}
 use native.Mathlib.Omega.{arith}
-use Rattle.dvs.proofs.LibraryLaws.{list-none, list-many, list-some}
+use Rattle.std.proofs.Common.{rules}
+use Rattle.views.specs.Limits.{max_views}
+use Rattle.rules.specs.Sound.{within}
+use Rattle.dvs.proofs.LibraryLaws.{list-none, list-some}
 use Rattle.dvs.proofs.library.list_size.Goals as goal
 
-pub returns-then-views-lt1 : goal.returns-then-views-lt1
-returns-then-views-lt1 c = list-none c.args.views c.if-views-lt1.true
+pub returns-then-contains : goal.returns-then-contains
+returns-then-contains c =
+    let e : c.contains.result ≡ within 1 c.args.views max_views = search rules in
+    list-some c.args.views (sym e ∙ c.if-contains.true) _ (omega arith)
 
-pub returns-then-views-gt-VIEWS : goal.returns-then-views-gt-VIEWS
-returns-then-views-gt-VIEWS c = list-many c.args.views c.if-views-gt-VIEWS.true
-
-pub returns : goal.returns
-returns c = list-some c.args.views _ (omega arith) (omega arith) (omega arith)
+pub returns-else-contains : goal.returns-else-contains
+returns-else-contains c =
+    let e : c.contains.result ≡ within 1 c.args.views max_views = search rules in
+    list-none c.args.views (sym e ∙ c.if-contains.false)

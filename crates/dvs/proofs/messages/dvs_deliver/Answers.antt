@@ -7,4 +7,4 @@ pub returns : goal.returns
 returns c =
     let a = c.args in
     deliver-narrowed a.book.now _ _ a.bytes.now a.sender
-    (gives-call _ _ _ _ _ _ (rw c.narrow.ensures at c.deliver-r.ensures) c.code.ensures)
+    (gives-call _ _ _ _ _ _ (rw c.narrow.ensures at c.deliver.ensures) c.code.ensures)

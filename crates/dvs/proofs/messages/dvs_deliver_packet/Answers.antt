@@ -12,4 +12,4 @@ pub returns : goal.returns
 returns c =
     let a = c.args in
     packet-narrowed a.book.now _ _ a.bytes.now a.delivery.now _ a.sender
-    (delivers-call _ _ _ _ _ _ _ _ c.if-delivery-ne-DELIVERY.false (rw c.narrow.ensures at c.deliver-r.ensures) c.account.ensures)
+    (delivers-call _ _ _ _ _ _ _ _ c.if-delivery-ne-DELIVERY.false (rw c.narrow.ensures at c.deliver.ensures) c.account.ensures)

@@ -8,4 +8,4 @@ returns-then-length-ne-LENGTH c = passes-unsized _ _ _ _ c.if-length-ne-LENGTH.t
 pub returns : goal.returns
 returns c =
     let early = c in
-    passes-call _ _ _ _ _ _ _ _ early.if-length-ne-LENGTH.false early.pass-r.ensures c.measure.ensures
+    passes-call _ _ _ _ _ _ _ _ early.if-length-ne-LENGTH.false early.pass.ensures c.measure.ensures

@@ -12,4 +12,4 @@ returns-then-length-ne-LENGTH c =
 pub returns : goal.returns
 returns c =
     let a = c.args in
-    front-call a.bytes.now a.message.now a.length.now c.if-message-ne-RECORD.false _ _ _ _ c.if-length-ne-LENGTH.false c.read_front-f.ensures c.measure.ensures
+    front-call a.bytes.now a.message.now a.length.now c.if-message-ne-RECORD.false _ _ _ _ c.if-length-ne-LENGTH.false c.read_front.ensures c.measure.ensures

@@ -15,10 +15,10 @@ returns-then-not-known c =
     let early = c in
     writes-unknown _ _ _ early.if-message-ne-RECORD.false early.if-length-ne-LENGTH.false _ (sym c.known.ensures ∙ not-true _ c.if-not-known.true-raw) c.refused-then-not-known.ensures
 
-pub write-r-requires : goal.write-r-requires
-write-r-requires c = (c.if-message-ne-RECORD.false, sym c.known.ensures ∙ not-false _ c.if-not-known.false-raw)
+pub write-requires : goal.write-requires
+write-requires c = (c.if-message-ne-RECORD.false, sym c.known.ensures ∙ not-false _ c.if-not-known.false-raw)
 
 pub returns : goal.returns
 returns c =
     let early = c in
-    writes-call _ _ _ early.if-message-ne-RECORD.false early.if-length-ne-LENGTH.false _ _ _ _ (sym early.known.ensures ∙ not-false _ early.if-not-known.false-raw) early.write-r.ensures c.measure.ensures
+    writes-call _ _ _ early.if-message-ne-RECORD.false early.if-length-ne-LENGTH.false _ _ _ _ (sym early.known.ensures ∙ not-false _ early.if-not-known.false-raw) early.write.ensures c.measure.ensures

@@ -7,4 +7,4 @@ pub returns : goal.returns
 returns c =
     let a = c.args in
     run-narrowed (ranges a.list.now a.books.now a.queues.now) _ a.steps.now a.answers.now _ _ a.members a.first_set
-    (runs_call _ _ _ _ _ _ _ _ _ (rw (c.narrow.ensures, c.narrow-2.ensures) at c.run-v.ensures) c.code.ensures)
+    (runs_call _ _ _ _ _ _ _ _ _ (rw (c.narrow.ensures, c.narrow-2.ensures) at c.run.ensures) c.code.ensures)

@@ -3,4 +3,4 @@ use Rattle.dvs.proofs.RunNarrowing.{goes-call}
 use Rattle.dvs.proofs.runs.dvs_group_steps.Goals as goal
 
 pub returns : goal.returns
-returns c = goes-call _ _ _ _ _ _ _ c.go_on-v.ensures c.code.ensures
+returns c = goes-call _ _ _ _ _ _ _ c.go_on.ensures c.code.ensures

@@ -9,4 +9,4 @@ pub returns : goal.returns
 returns c =
     let a = c.args in
     start-narrowed a.book.now _ _ a.members a.first_set a.own
-    (gives-start (start_call (narrowed 0 a.members) (narrowed 0 a.first_set) (narrowed 255 a.own) a.book.now) _ _ _ _ _ (rw (c.narrow.ensures, c.narrow-2.ensures, c.narrow-3.ensures) at c.start-r.ensures) c.code.ensures)
+    (gives-start (start_call (narrowed 0 a.members) (narrowed 0 a.first_set) (narrowed 255 a.own) a.book.now) _ _ _ _ _ (rw (c.narrow.ensures, c.narrow-2.ensures, c.narrow-3.ensures) at c.start.ensures) c.code.ensures)

@@ -7,4 +7,4 @@ pub returns : goal.returns
 returns c =
     let a = c.args in
     begin-narrowed (record { list = c.args.list.now; books = c.args.books.now; queues = c.args.queues.now }) _ _ a.members a.first_set
-    (begins-call _ _ _ _ _ _ (rw (c.narrow.ensures, c.narrow-2.ensures) at c.start-v.ensures) c.code.ensures)
+    (begins-call _ _ _ _ _ _ (rw (c.narrow.ensures, c.narrow-2.ensures) at c.start.ensures) c.code.ensures)

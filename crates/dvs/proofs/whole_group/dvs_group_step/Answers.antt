@@ -12,4 +12,4 @@ pub returns : goal.returns
 returns c =
     let a = c.args in
     steps-call (record { list = c.args.list.now; books = c.args.books.now; queues = c.args.queues.now }) _ (record { kind = a.kind; first = a.first; second = a.second }) _ _ _ _ c.if-event-ne-EVENT.false
-    (step-narrowed (record { list = c.args.list.now; books = c.args.books.now; queues = c.args.queues.now }) _ a.kind a.first a.second _ (rw c.narrow.ensures at c.step-r.ensures)) c.answer.ensures
+    (step-narrowed (record { list = c.args.list.now; books = c.args.books.now; queues = c.args.queues.now }) _ a.kind a.first a.second _ (rw c.narrow.ensures at c.step.ensures)) c.answer.ensures

@@ -1,13 +1,12 @@
 use native.Mathlib.Omega.{arith}
-use mathlib.Core.Logic.{inl, inr, ⊎_elim}
+use mathlib.Core.Logic.{inl, inr}
 use Rattle.group.specs.StepCalls.{asked}
 use Rattle.group.proofs.OwnLaws.{desk, attempt-went, register-went, send-went, hand-went, tell-went, safe-went, collect-went}
 use Rattle.group_bytes.specs.Groups.{Ranges}
 use Rattle.group_bytes.proofs.RangesLaws.{RangesBytes}
 use Rattle.group.proofs.OperandLaws.{by-member, by-set}
-use Rattle.group.proofs.CarrierLaws.{create-went, join-went, pass-went, order-went, deliver-went, unknown-went, past-twelve}
+use Rattle.group.proofs.CarrierLaws.{create-went, join-went, pass-went, order-went, deliver-went, unknown-went}
 use Rattle.group.proofs.step.dispatch.Goals as goal
-use Rattle.group.proofs.step.dispatch.Goals.{in-0-1, in_default-1}
 
 pub register-requires : goal.register-requires
 register-requires c =
@@ -134,5 +133,10 @@ pub returns-in-0 : goal.returns-in-0
 returns-in-0 c =
     let a = c.args in
     let r : Ranges = record { list = a.list.now; books = a.all.now; queues = a.queues.now } in
-    unknown-went r c.requires (asked a.kind a.first a.second)
-    (elim c.in-0-1.branch [ in-0-1 w ↦ inl (omega arith) | in_default-1 w ↦ inr (omega arith) ]) _ c.refuse.ensures
+    unknown-went r c.requires (asked a.kind a.first a.second) (inl (omega arith))
+
+pub returns-in-0-2 : goal.returns-in-0-2
+returns-in-0-2 c =
+    let a = c.args in
+    let r : Ranges = record { list = a.list.now; books = a.all.now; queues = a.queues.now } in
+    unknown-went r c.requires (asked a.kind a.first a.second) (inr (omega arith))

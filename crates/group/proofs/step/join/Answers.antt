@@ -6,8 +6,8 @@ use Rattle.group_steps.proofs.Rows.{ranged}
 use Rattle.group.proofs.OperandLaws.{join-wide}
 use Rattle.group.proofs.step.join.Goals as goal
 
-pub no_view-why-requires : goal.no_view-why-requires
-no_view-why-requires c =
+pub no_view-requires : goal.no_view-requires
+no_view-requires c =
     let s = c in
     let r : Ranges = record { list = s.args.list.now; books = s.args.all.now; queues = s.args.queues.now } in
     omega (arith, (ranged r s.requires).books)
@@ -17,4 +17,4 @@ returns-then-x-ge-IDENTIFIERS c =
     let s = c in
     let r : Ranges = record { list = s.args.list.now; books = s.args.all.now; queues = s.args.queues.now } in
     let bytes : AreBytes r.list = λ j. omega (arith, c.type_inv.list j) in
-    join-wide r bytes s.args.p.0 s.args.x c.if-x-ge-IDENTIFIERS.true c.no_view-why.result c.no_view-why.ensures _ c.refuse.ensures
+    join-wide r bytes s.args.p.0 s.args.x c.if-x-ge-IDENTIFIERS.true c.no_view.result c.no_view.ensures

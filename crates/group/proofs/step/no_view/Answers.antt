@@ -7,6 +7,6 @@ pub returns-then-all-p : goal.returns-then-all-p
 unfolding no_view
 returns-then-all-p c = rw (le-ltb _ _ c.if-all-p.true)
 
-pub returns : goal.returns
+pub returns-else-all-p : goal.returns-else-all-p
 unfolding no_view
-returns c = rw (lt-ltb _ _ c.if-all-p.false)
+returns-else-all-p c = rw (lt-ltb _ _ c.if-all-p.false)

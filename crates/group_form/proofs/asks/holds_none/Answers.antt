@@ -9,12 +9,12 @@ returns-then-settled-id c =
     let a = c.args in
     settled-held a.b.now a.id.0 _ c.load_held-h.ensures c.if-settled-id.true
 
-pub returns-in-Found : goal.returns-in-Found
-returns-in-Found c =
+pub returns-in-Some : goal.returns-in-Some
+returns-in-Some c =
     let a = c.args in
-    ap is_missing (sym c.in-Found.is) ∙ open-held a.b.now a.id.0 _ c.load_held-h.ensures c.if-settled-id.false _ c.find-found.ensures
+    ap is_missing (sym c.in-Some.is) ∙ open-held a.b.now a.id.0 _ c.load_held-h.ensures c.if-settled-id.false _ c.find-found.ensures
 
-pub returns-in-Missing : goal.returns-in-Missing
-returns-in-Missing c =
+pub returns-in-None : goal.returns-in-None
+returns-in-None c =
     let a = c.args in
-    ap is_missing (sym c.in-Missing.is) ∙ open-held a.b.now a.id.0 _ c.load_held-h.ensures c.if-settled-id.false _ c.find-found.ensures
+    ap is_missing (sym c.in-None.is) ∙ open-held a.b.now a.id.0 _ c.load_held-h.ensures c.if-settled-id.false _ c.find-found.ensures

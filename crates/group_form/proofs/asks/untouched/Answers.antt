@@ -1,34 +1,34 @@
 -- `group_form::asks::untouched` meets its contract: the three questions in turn.
 use mathlib.Core.Path.{◌≡◌, sym, ap, ◌∙◌}
-use mathlib.Core.Bool.{true}
+use mathlib.Core.Bool.{true, true≢false}
 use Prim.Native.Nat.{ℕ}
-use native.Mathlib.Omega.{arith}
-use borrow.Author.Tests.{eq-eqb, ne_eqb, not-true, not-false}
+use borrow.Author.Tests.{eq-eqb, ne_eqb}
 use lib.Dec.{eqb}
 use lib.ListN.{get_or}
 use Rattle.group_bytes.specs.Places.{order_at}
 use Rattle.group_form.specs.Parts.{untouched_at}
 use Rattle.group_form.proofs.asks.untouched.Goals as goal
+use Rattle.group_form.proofs.asks.untouched.Goals.{then-queues-order_at-eq0, else-queues-order_at-eq0}
 
-pub bounds-queues-at : goal.bounds-queues-at
-bounds-queues-at c = let pre = c.requires in omega (arith, pre.2, pre.3, c.order_at-at.ensures)
-
-pub returns-then-queues-at-ne0 : goal.returns-then-queues-at-ne0
+pub returns-then-none_wait : goal.returns-then-none_wait
 unfolding untouched_at
-returns-then-queues-at-ne0 c =
+returns-then-none_wait c =
     let q = c.args.queues.now in
-    rw (ne_eqb _ 0 (λ e. c.if-queues-at-ne0.true (ap (λ (k : ℕ). get_or q k 0) c.order_at-at.ensures ∙ e)))
+    elim c.if-queues-order_at-eq0.branch [
+      | then-queues-order_at-eq0 w ↦
+          let empty : eqb (get_or q (order_at c.args.i) 0) 0 ≡ true = eq-eqb _ 0 (ap (λ (k : ℕ). get_or q k 0) (sym c.order_at.ensures) ∙ w.if-queues-order_at-eq0.true) in
+          rw (empty, sym w.none_wait.ensures ∙ sym w.value-is ∙ c.if-none_wait.true) c.none_hold.ensures
+      | else-queues-order_at-eq0 w ↦ absurd (true≢false (sym c.if-none_wait.true ∙ w.value-is ∙ ne_eqb _ _ w.if-queues-order_at-eq0.false))
+    ]
 
-pub returns-then-not-none_wait : goal.returns-then-not-none_wait
+pub returns-else-none_wait : goal.returns-else-none_wait
 unfolding untouched_at
-returns-then-not-none_wait c =
-    let a = c.args in
-    let empty : eqb (get_or a.queues.now (order_at a.i) 0) 0 ≡ true = eq-eqb _ 0 (ap (λ (k : ℕ). get_or a.queues.now k 0) (sym c.order_at-at.ensures) ∙ c.if-queues-at-ne0.false) in
-    rw (empty, sym c.none_wait.ensures ∙ not-true _ c.if-not-none_wait.true-raw)
-
-pub returns : goal.returns
-unfolding untouched_at
-returns c =
-    let a = c.args in
-    let empty : eqb (get_or a.queues.now (order_at a.i) 0) 0 ≡ true = eq-eqb _ 0 (ap (λ (k : ℕ). get_or a.queues.now k 0) (sym c.order_at-at.ensures) ∙ c.if-queues-at-ne0.false) in
-    rw (empty, sym c.none_wait.ensures ∙ not-false _ c.if-not-none_wait.false-raw) c.none_hold.ensures
+returns-else-none_wait c =
+    let q = c.args.queues.now in
+    elim c.if-queues-order_at-eq0.branch [
+      | then-queues-order_at-eq0 w ↦
+          let empty : eqb (get_or q (order_at c.args.i) 0) 0 ≡ true = eq-eqb _ 0 (ap (λ (k : ℕ). get_or q k 0) (sym c.order_at.ensures) ∙ w.if-queues-order_at-eq0.true) in
+          rw (empty, sym w.none_wait.ensures ∙ sym w.value-is ∙ c.if-none_wait.false) c.if-none_wait.false
+      | else-queues-order_at-eq0 w ↦
+          rw (ne_eqb _ 0 (λ e. w.if-queues-order_at-eq0.false (ap (λ (k : ℕ). get_or q k 0) c.order_at.ensures ∙ e))) c.if-none_wait.false
+    ]

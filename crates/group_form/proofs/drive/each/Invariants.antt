@@ -1,19 +1,13 @@
 -- `group_form::drive::each` meets its contract. The invariant: the steps of the servers below p are done, and what they left leads to where all of them lead.
 use mathlib.Core.Path.{◌≡◌}
 use mathlib.Core.Bool.{true}
-use Prim.Native.Nat.{◌-◌}
-use lib.ListN.{length}
-use Rattle.views.specs.Limits.{max_members}
 use Rattle.group_bytes.specs.Groups.{ranges}
 use Rattle.group.specs.StaysSoundParts.{StaysSound}
 use Rattle.group_form.proofs.Driving.{Eaches}
 use Rattle.group_form.proofs.drive.each.Given as goal
 
 abbrev pub invariant-loop-p : goal.invariant-loop-p
-invariant-loop-p l =
-    Eaches (ranges l.initial.list l.initial.all l.initial.queues) l.kind l.k l.v (ranges l.list l.all l.queues) l.p
-    × (length l.list ≡ length l.initial.list) × (length l.all ≡ length l.initial.all) × (length l.queues ≡ length l.initial.queues)
-    × (l.known ≡ true → StaysSound (ranges l.list l.all l.queues))
-
-abbrev pub decreases-loop-p : goal.decreases-loop-p
-decreases-loop-p l = max_members - l.p
+invariant-loop-p l = record {
+  left : Eaches (ranges l.initial.list l.initial.all l.initial.queues) l.kind l.k l.v (ranges l.list l.all l.queues) l.p;
+  stays : l.known ≡ true → StaysSound (ranges l.list l.all l.queues);
+}

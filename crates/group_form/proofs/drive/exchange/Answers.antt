@@ -1,4 +1,5 @@
 -- `group_form::drive::exchange` meets its contract: passes, orders, then of each server as many deliveries as there are ones in the set.
+use Rattle.std.proofs.lemmas.Result.{err_from_is_err_and}
 use native.Mathlib.Omega.{arith}
 use lib.Count.{ones-le}
 use Rattle.views.specs.Limits.{max_members}
@@ -6,34 +7,29 @@ use Rattle.rules.specs.Forming.{exchange_steps}
 use Rattle.group_form.proofs.Driving.{drove-stops, drove-then, servers-ones}
 use Rattle.group_form.proofs.drive.exchange.Goals as goal
 
-pub returns-in_default : goal.returns-in_default
+pub returns-in_err-each : goal.returns-in_err-each
 unfolding exchange_steps
-returns-in_default c = drove-stops c.each-passed.ensures c.in_default.is _
+returns-in_err-each c =
+    let p = err_from_is_err_and c.from_residual.result c.from_residual.ensures.1 in
+    rw (p.1, p.2) (drove-stops c.each.ensures c.in_err-each.was _)
 
-pub each-ordered-requires : goal.each-ordered-requires
-each-ordered-requires c k = c.each-passed.ensures.stays (c.requires k)
+pub each-requires-2 : goal.each-requires-2
+each-requires-2 c k = c.each.ensures.stays (c.requires k)
 
-pub returns-in_default-ordered : goal.returns-in_default-ordered
+pub returns-in_err-each-2 : goal.returns-in_err-each-2
 unfolding exchange_steps
-returns-in_default-ordered c =
-    let one = c in
-    drove-then one.each-passed.ensures one.in-Accepted.is
-    (drove-stops c.each-ordered.ensures c.in_default-ordered.is _)
+returns-in_err-each-2 c =
+    let p = err_from_is_err_and c.from_residual-in_err-each-2.result c.from_residual-in_err-each-2.ensures.1 in
+    rw (p.1, p.2) (drove-then c.each.ensures c.in_ok-each.was (drove-stops c.each-2.ensures c.in_err-each-2.was _))
 
 pub overflow_cast-k : goal.overflow_cast-k
 overflow_cast-k c = omega (arith, ones-le max_members _ c.struct_known-1.given.1.0.fits)
 
-pub each-requires : goal.each-requires
-each-requires c k = c.each-ordered.ensures.stays (c.each-passed.ensures.stays (c.requires k))
+pub each-requires-3 : goal.each-requires-3
+each-requires-3 c k = c.each-2.ensures.stays (c.each.ensures.stays (c.requires k))
 
 pub returns : goal.returns
 unfolding exchange_steps
 returns c =
-    let k = c in
-    let two = k in
-    let one = two in
-    let v = one.args.v in
-    rw (servers-ones v k.struct_known-1.given.1.0.fits)
-    (drove-then one.each-passed.ensures one.in-Accepted.is
-    (drove-then two.each-ordered.ensures two.in-Accepted-ordered.is
-    c.each.ensures))
+    rw (servers-ones c.args.v c.struct_known-1.given.1.0.fits)
+    (drove-then c.each.ensures c.in_ok-each.was (drove-then c.each-2.ensures c.in_ok-each-2.was c.each-3.ensures))

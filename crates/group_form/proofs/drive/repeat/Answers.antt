@@ -1,8 +1,6 @@
 -- `group_form::drive::repeat` meets its contract. The invariant: i of the steps are done, and what they left leads to where all of them lead.
-use mathlib.Core.Path.{refl}
-use Prim.Native.Nat.{◌-◌}
+use Rattle.std.proofs.lemmas.Result.{err_from_is_err_and}
 use native.Mathlib.Omega.{arith}
-use borrow.Author.Rules.{rules}
 use Rattle.group_bytes.specs.Groups.{ranges}
 use Rattle.group_bytes.specs.Promises.{Given}
 use Rattle.group.specs.StepCalls.{asked}
@@ -13,38 +11,35 @@ use Rattle.group_form.proofs.drive.repeat.Goals as goal
 pub loop-i-init : goal.loop-i-init
 loop-i-init c =
     let a = c.args in
-    (repeats-begin (ranges a.list.now a.all.now a.queues.now) (asked a.kind a.p.0 a.id.0) a.k, refl, refl, refl, c.requires)
+    record { left = repeats-begin (ranges a.list.now a.all.now a.queues.now) (asked a.kind a.p.0 a.id.0) a.k; stays = c.requires }
 
-pub next-x-requires : goal.next-x-requires
-next-x-requires c k = sound-now _ (c.loop-i.invariant.4 k)
+pub next-requires : goal.next-requires
+next-requires c k = sound-now _ (c.loop-i.invariant.stays k)
 
-pub returns-in_default : goal.returns-in_default
-returns-in_default c =
+pub returns-in_err-next : goal.returns-in_err-next
+returns-in_err-next c =
     let a = c.args in
     let l = c.loop-i in
-    let x = c in
-    let went = x.next-x.ensures in
-    let given : Given (asked a.kind a.p.0 a.id.0) = record { first = omega (arith, x.struct_known-1.given.0.fits); second = omega (arith, x.struct_known-in-loop-i-1.given.0.fits) } in
-    repeats-stop (ranges a.list.now a.all.now a.queues.now) (asked a.kind a.p.0 a.id.0) a.k (ranges l.list l.all l.queues) l.i
-    l.invariant.0 _ _ (omega arith) given went c.in_default.is
+    let given : Given (asked a.kind a.p.0 a.id.0) = record { first = omega arith; second = omega arith } in
+    let p = err_from_is_err_and c.from_residual.result c.from_residual.ensures.1 in
+    rw (p.1, p.2)
+    (repeats-stop (ranges a.list.now a.all.now a.queues.now) (asked a.kind a.p.0 a.id.0) a.k (ranges l.list l.all l.queues) l._i
+    l.invariant.left _ _ (omega arith) given c.next.ensures c.in_err-next.was)
 
 pub loop-i-preserved : goal.loop-i-preserved
 loop-i-preserved c =
     let a = c.args in
     let l = c.loop-i in
-    let x = c in
-    let went = x.next-x.ensures in
-    let given : Given (asked a.kind a.p.0 a.id.0) = record { first = omega (arith, x.struct_known-1.given.0.fits); second = omega (arith, x.struct_known-in-loop-i-1.given.0.fits) } in (
-      repeats-go (ranges a.list.now a.all.now a.queues.now) (asked a.kind a.p.0 a.id.0) a.k (ranges l.list l.all l.queues) l.i
-          l.invariant.0 _ _ (omega arith) given went c.in-Accepted.is,
-      search rules,
-      search rules,
-      search rules,
-      (λ k. went-stays _ _ _ _ given went (l.invariant.4 k)),
-    )
+    let went = c.next.ensures in
+    let given : Given (asked a.kind a.p.0 a.id.0) = record { first = omega arith; second = omega arith } in
+    record {
+      left = repeats-go (ranges a.list.now a.all.now a.queues.now) (asked a.kind a.p.0 a.id.0) a.k (ranges l.list l.all l.queues) l._i
+          l.invariant.left _ _ (omega arith) given went c.in_ok-next.was;
+      stays = λ k. went-stays _ _ _ _ given went (l.invariant.stays k);
+    }
 
 pub returns : goal.returns
 returns c =
     let a = c.args in
     let l = c.loop-i in
-    repeats-end (ranges a.list.now a.all.now a.queues.now) (asked a.kind a.p.0 a.id.0) a.k (ranges l.list l.all l.queues) l.i l.invariant.0 (omega arith)
+    repeats-end (ranges a.list.now a.all.now a.queues.now) (asked a.kind a.p.0 a.id.0) a.k (ranges l.list l.all l.queues) l._i l.invariant.left (omega arith)

@@ -1,30 +1,27 @@
 -- `group_form::drive::round` meets its contract: one kind of step, an exchange, then the other kind.
+use Rattle.std.proofs.lemmas.Result.{err_from_is_err_and}
 use Rattle.rules.specs.Forming.{round_steps}
 use Rattle.group_form.proofs.Driving.{drove-stops, drove-then}
 use Rattle.group_form.proofs.drive.round.Goals as goal
 
-pub returns-in_default : goal.returns-in_default
+pub returns-in_err-each : goal.returns-in_err-each
 unfolding round_steps
-returns-in_default c = drove-stops c.each-begun.ensures c.in_default.is _
+returns-in_err-each c =
+    let p = err_from_is_err_and c.from_residual.result c.from_residual.ensures.1 in
+    rw (p.1, p.2) (drove-stops c.each.ensures c.in_err-each.was _)
 
-pub exchange-exchanged-requires : goal.exchange-exchanged-requires
-exchange-exchanged-requires c k = c.each-begun.ensures.stays (c.requires k)
+pub exchange-requires : goal.exchange-requires
+exchange-requires c k = c.each.ensures.stays (c.requires k)
 
-pub returns-in_default-exchanged : goal.returns-in_default-exchanged
+pub returns-in_err-exchange : goal.returns-in_err-exchange
 unfolding round_steps
-returns-in_default-exchanged c =
-    let one = c in
-    drove-then one.each-begun.ensures one.in-Accepted.is
-    (drove-stops c.exchange-exchanged.ensures c.in_default-exchanged.is _)
+returns-in_err-exchange c =
+    let p = err_from_is_err_and c.from_residual-in_err-exchange.result c.from_residual-in_err-exchange.ensures.1 in
+    rw (p.1, p.2) (drove-then c.each.ensures c.in_ok-each.was (drove-stops c.exchange.ensures c.in_err-exchange.was _))
 
-pub each-requires : goal.each-requires
-each-requires c k = c.exchange-exchanged.ensures.stays (c.each-begun.ensures.stays (c.requires k))
+pub each-requires-2 : goal.each-requires-2
+each-requires-2 c k = c.exchange.ensures.stays (c.each.ensures.stays (c.requires k))
 
 pub returns : goal.returns
 unfolding round_steps
-returns c =
-    let two = c in
-    let one = two in
-    drove-then one.each-begun.ensures one.in-Accepted.is
-    (drove-then two.exchange-exchanged.ensures two.in-Accepted-exchanged.is
-    c.each.ensures)
+returns c = drove-then c.each.ensures c.in_ok-each.was (drove-then c.exchange.ensures c.in_ok-exchange.was c.each-2.ensures)

@@ -1,23 +1,31 @@
--- `group_listed::list::counts_fit` meets its contract: each way out rewrites the definition with the tests that led to it.
-use mathlib.Core.Path.{sym, ◌∙◌}
-use borrow.Author.Tests.{le-leb, lt-leb}
-use Rattle.group_listed.proofs.CreateLaws.{counts-are}
+-- `group_listed::list::counts_fit` meets its contract: the three ranges are the definition's.
+use mathlib.Core.Path.{◌≡◌, sym, ◌∙◌}
+use Rattle.std.proofs.Common.{rules}
+use Rattle.views.specs.Limits.{max_members, max_views}
+use Rattle.rules.specs.Sound.{within}
+use Rattle.group_listed.proofs.CreateLaws.{members-out, room-out, made-last}
 use Rattle.group_listed.proofs.list.counts_fit.Goals as goal
+use Rattle.group_listed.proofs.list.counts_fit.Goals.{then-contains, else-contains}
 
-pub returns-then-members-lt1 : goal.returns-then-members-lt1
-returns-then-members-lt1 c = let a = c.args in sym (counts-are a.members a.room a.made ∙ rw (lt-leb _ _ c.if-members-lt1.true))
+pub returns-then-contains-2 : goal.returns-then-contains-2
+returns-then-contains-2 c =
+    let a = c.args in
+    let members : c.contains.result ≡ within 1 a.members max_members = search rules in
+    let made : c.contains-then-contains-2.result ≡ within 1 a.made a.room = search rules in
+    elim c.if-contains.branch [
+      | then-contains w ↦
+          let room : w.contains-then-contains.result ≡ within 1 a.room max_views = search rules in
+          made ∙ made-last a.members a.room a.made (sym members ∙ w.if-contains.true) (sym room ∙ sym w.value-is ∙ c.if-contains-2.true)
+      | else-contains w ↦ absurd cc
+    ]
 
-pub returns-then-members-gt-MEMBERS : goal.returns-then-members-gt-MEMBERS
-returns-then-members-gt-MEMBERS c = let a = c.args in sym (counts-are a.members a.room a.made ∙ rw (le-leb _ _ c.if-members-lt1.false, lt-leb _ _ c.if-members-gt-MEMBERS.true))
-
-pub returns-then-room-lt1 : goal.returns-then-room-lt1
-returns-then-room-lt1 c = let a = c.args in sym (counts-are a.members a.room a.made ∙ rw (le-leb _ _ c.if-members-lt1.false, le-leb _ _ c.if-members-gt-MEMBERS.false, lt-leb _ _ c.if-room-lt1.true))
-
-pub returns-then-room-gt-VIEWS : goal.returns-then-room-gt-VIEWS
-returns-then-room-gt-VIEWS c = let a = c.args in sym (counts-are a.members a.room a.made ∙ rw (le-leb _ _ c.if-members-lt1.false, le-leb _ _ c.if-members-gt-MEMBERS.false, le-leb _ _ c.if-room-lt1.false, lt-leb _ _ c.if-room-gt-VIEWS.true))
-
-pub returns-then-made-lt1 : goal.returns-then-made-lt1
-returns-then-made-lt1 c = let a = c.args in sym (counts-are a.members a.room a.made ∙ rw (le-leb _ _ c.if-members-lt1.false, le-leb _ _ c.if-members-gt-MEMBERS.false, le-leb _ _ c.if-room-lt1.false, le-leb _ _ c.if-room-gt-VIEWS.false, lt-leb _ _ c.if-made-lt1.true))
-
-pub returns : goal.returns
-returns c = let a = c.args in sym (counts-are a.members a.room a.made ∙ rw (le-leb _ _ c.if-members-lt1.false, le-leb _ _ c.if-members-gt-MEMBERS.false, le-leb _ _ c.if-room-lt1.false, le-leb _ _ c.if-room-gt-VIEWS.false, le-leb _ _ c.if-made-lt1.false))
+pub returns-else-contains-2 : goal.returns-else-contains-2
+returns-else-contains-2 c =
+    let a = c.args in
+    let members : c.contains.result ≡ within 1 a.members max_members = search rules in
+    elim c.if-contains.branch [
+      | then-contains w ↦
+          let room : w.contains-then-contains.result ≡ within 1 a.room max_views = search rules in
+          c.if-contains-2.false ∙ room-out a.members a.room a.made (sym members ∙ w.if-contains.true) (sym room ∙ sym w.value-is ∙ c.if-contains-2.false)
+      | else-contains w ↦ c.if-contains-2.false ∙ members-out a.members a.room a.made (sym members ∙ w.if-contains.false)
+    ]

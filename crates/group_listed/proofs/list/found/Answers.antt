@@ -5,4 +5,4 @@ use Rattle.group_listed.proofs.list.found.Goals as goal
 
 -- src/create.rt:41:1
 pub returns : goal.returns
-returns c = c.find.ensures ∙ ap (find_of c.args.id.0) c.first-views.ensures
+returns c = c.find.ensures ∙ ap (find_of c.args.id.0) c.first.ensures

@@ -1,38 +1,14 @@
--- `group_listed::list::sets_fit` meets its contract: every set before i fits, so the answer is that of what is left.
-use mathlib.Core.Path.{refl, sym, ◌∙◌}
-use Prim.Native.Nat.{◌-◌}
-use native.Mathlib.Omega.{arith}
-use lib.ListN.{drop_of_length-le}
-use Rattle.views.specs.Lists.{list_of}
-use Rattle.views.proofs.PlaceLaws.{length-used}
-use Rattle.rules.specs.Member.{all}
-use Rattle.group_listed.proofs.CreateLaws.{not-fit, fit_on}
+-- `group_listed::list::sets_fit` meets its contract: what the library says of all is what the rules say.
+use mathlib.Core.Path.{◌∙◌}
+use Rattle.std.proofs.Common.{rules, take}
+use Rattle.std.proofs.lemmas.Iterator.{YieldsList-from_slice}
+use Rattle.std.proofs.lemmas.Iterator.Search.{all_from_yields_List}
+use Rattle.rules.specs.Sound.{set_fits}
+use Rattle.group_listed.proofs.CreateLaws.{all-used}
 use Rattle.group_listed.proofs.list.sets_fit.Goals as goal
 
-pub loop-i-init : goal.loop-i-init
-loop-i-init c =
-    let l = c.args.l in (
-      c.used-n.ensures ∙ sym (length-used l.count l.at c.well_formed.0.1.1.1.0.1.0.1),
-      omega (arith, c.used-n.ensures),
-      omega arith,
-      refl,
-    )
-
-pub returns-then-not-fits : goal.returns-then-not-fits
-returns-then-not-fits c =
-    let l = c.loop-i in
-    let a = c.args in
-    sym (l.invariant.3 ∙ not-fit a.l.count a.l.at l.i (omega arith) a.members (sym c.fits.ensures ∙ c.if-not-fits.true))
-
-pub loop-i-preserved : goal.loop-i-preserved
-loop-i-preserved c =
-    let l = c.loop-i in
-    let a = c.args in
-    (l.invariant.0, l.invariant.1, omega arith, l.invariant.3 ∙ fit_on a.l.count a.l.at l.i (omega arith) a.members (sym c.fits.ensures ∙ c.if-not-fits.false))
-
 pub returns : goal.returns
-unfolding all
 returns c =
-    let l = c.loop-i in
-    let list = c.args.l in
-    sym (l.invariant.3 ∙ rw (drop_of_length-le (list_of list) {i = l.i} (omega arith)))
+    let l = c.args.l in
+    all_from_yields_List (set_fits c.args.members) _ _ _ c.all.ensures.ran (YieldsList-from_slice (take c.used-n.result l.at) cc) (λ x b q k. search rules)
+    ∙ all-used (set_fits c.args.members) l c.used-n.result c.well_formed.0.1.1.1.0.1.0.1 c.used-n.ensures

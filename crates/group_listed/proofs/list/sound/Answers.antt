@@ -9,12 +9,12 @@ returns-then-not-counts_fit c =
     let z : length c.args.l.at ≡ 32 = c.well_formed.0.1.1.1.0.1.0.1 in
     counts-unfit c.args.members c.args.made c.args.l z (sym c.counts_fit.ensures ∙ c.if-not-counts_fit.true)
 
-pub returns-then-not-rising : goal.returns-then-not-rising
-returns-then-not-rising c =
+pub returns-else-rising : goal.returns-else-rising
+returns-else-rising c =
     let z : length c.args.l.at ≡ 32 = c.well_formed.0.1.1.1.0.1.0.1 in
-    not-rising c.args.members c.args.made c.args.l z (sym c.counts_fit.ensures ∙ c.if-not-counts_fit.false) c.first-views.result c.first-views.ensures (sym c.rising.ensures ∙ c.if-not-rising.true)
+    c.if-rising.false ∙ not-rising c.args.members c.args.made c.args.l z (sym c.counts_fit.ensures ∙ c.if-not-counts_fit.false) c.first-views.result c.first-views.ensures (sym c.rising.ensures ∙ c.if-rising.false)
 
-pub returns : goal.returns
-returns c =
+pub returns-then-rising : goal.returns-then-rising
+returns-then-rising c =
     let z : length c.args.l.at ≡ 32 = c.well_formed.0.1.1.1.0.1.0.1 in
-    c.sets_fit.ensures ∙ rising-sets c.args.members c.args.made c.args.l z (sym c.counts_fit.ensures ∙ c.if-not-counts_fit.false) c.first-views.result c.first-views.ensures (sym c.rising.ensures ∙ c.if-not-rising.false)
+    c.sets_fit.ensures ∙ rising-sets c.args.members c.args.made c.args.l z (sym c.counts_fit.ensures ∙ c.if-not-counts_fit.false) c.first-views.result c.first-views.ensures (sym c.rising.ensures ∙ c.if-rising.true)

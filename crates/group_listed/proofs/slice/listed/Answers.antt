@@ -1,6 +1,6 @@
-use Rattle.group_listed.proofs.SliceLaws.{gathered-whole}
+-- `group_listed::slice::listed` meets its contract: the first views copied over unused places are the list in its places.
+use Rattle.group_listed.proofs.SliceLaws.{placed-copied}
 use Rattle.group_listed.proofs.slice.listed.Goals as goal
 
--- from the first place on all of them
 pub returns : goal.returns
-returns c = let e = gathered-whole c.args.list.now in cc
+returns c = placed-copied c.args.list.now c.min-n.result c.min-n.ensures c.copy_from_slice.new.self c.copy_from_slice.ensures.after

@@ -1,28 +1,30 @@
 -- `group_run::turns::each` meets its contract. The invariant: i steps are done, and what they left leads to where all of them lead.
-use mathlib.Core.Path.{refl}
-use borrow.Author.Rules.{rules}
 use native.Mathlib.Omega.{arith}
 use Rattle.group_bytes.specs.Groups.{ranges}
 use Rattle.group.proofs.StaysSoundLaws.{sound-now}
-use Rattle.group_run.proofs.Turning.{under-begins, under-turns, under-ends}
+use Rattle.group_run.proofs.Turning.{turned, under-begins, under-turns, under-ends}
 use Rattle.group_run.proofs.turns.each.Goals as goal
 
 pub loop-i-init : goal.loop-i-init
 loop-i-init c =
-    let o = c in
-    (under-begins o.args.known (ranges o.args.list.now o.args.all.now o.args.queues.now) o.args.steps.now o.args.answers.now o.requires.0 o.requires.1, refl, refl, refl)
+    let a = c.args in
+    under-begins a.known (ranges a.list.now a.all.now a.queues.now) a.steps.now a.answers.now c.requires.0 c.requires.1
 
-pub one-requires : goal.one-requires
-one-requires c = let u = c.loop-i.invariant.0 in ((λ k. sound-now _ (u.stays k)), omega arith, omega (arith, u.room))
+pub ask-x-requires : goal.ask-x-requires
+ask-x-requires c = ((λ k. sound-now _ (c.loop-i.invariant.stays k)), omega arith)
+
+pub put-requires : goal.put-requires
+put-requires c = omega (arith, c.loop-i.invariant.room)
 
 pub loop-i-preserved : goal.loop-i-preserved
 loop-i-preserved c =
-    let o = c in
+    let a = c.args in
     let l = c.loop-i in
-    (under-turns o.args.known (ranges o.args.list.now o.args.all.now o.args.queues.now) o.args.steps.now (ranges l.list l.all l.queues) l.answers l.i l.invariant.0 _ _ (omega arith) c.one.ensures, search rules, search rules, search rules)
+    under-turns a.known (ranges a.list.now a.all.now a.queues.now) a.steps.now (ranges l.list l.all l.queues) l.answers l.i l.invariant _ _ (omega arith)
+    (turned _ _ _ _ _ _ _ c.ask-x.ensures c.put.ensures)
 
 pub returns : goal.returns
 returns c =
-    let o = c in
+    let a = c.args in
     let l = c.loop-i in
-    under-ends o.args.known (ranges o.args.list.now o.args.all.now o.args.queues.now) o.args.steps.now (ranges l.list l.all l.queues) l.answers l.i l.invariant.0 (omega arith)
+    under-ends a.known (ranges a.list.now a.all.now a.queues.now) a.steps.now (ranges l.list l.all l.queues) l.answers l.i l.invariant (omega arith)

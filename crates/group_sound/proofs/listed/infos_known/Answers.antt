@@ -1,32 +1,31 @@
--- `group_sound::listed::infos_known` meets its contract: the entries before the i-th are known, so the answer is that of the rest.
-use mathlib.Core.Path.{sym, ◌∙◌}
-use Prim.Native.Nat.{◌+◌, ◌-◌, ◌*◌}
-use native.Mathlib.Omega.{arith}
-use borrow.Author.Tests.{not-true, not-false}
+-- `group_sound::listed::infos_known` meets its contract: the slots are asked in turn.
+use Rattle.std.proofs.Common.{refl, ◌≡◌, ◌∙◌, ◌≤◌, ◌+◌, ◌*◌, length, true, rules, arith}
+use borrow.Author.Tests.{tests}
+use Rattle.std.proofs.lemmas.Iterator.{serves_from_Range, YieldsList-from_range}
+use Rattle.std.proofs.lemmas.Iterator.Search.{all_from_yields_List}
 use Rattle.wire.specs.Reader.{views_in}
-use Rattle.slots.specs.Slots.{slot_size}
+use Rattle.slots.specs.Slots.{slot_size, entry_in, slot_fits}
 use Rattle.slots.proofs.Lists.{slots_at}
 use Rattle.group_sound.specs.Parts.{info_known}
-use Rattle.book_sound.proofs.EntryWalks.{entries-start, entries-turn, entries-end}
+use Rattle.group_sound.proofs.Walks.{entries_listed}
 use Rattle.group_sound.proofs.listed.infos_known.Goals as goal
 
-pub loop-i-init : goal.loop-i-init
-loop-i-init c = (omega arith, entries-start c.args.b.now c.args.at c.args.count (info_known (views_in c.args.list.now 0 c.args.made)))
-
-pub overflow_mul-i : goal.overflow_mul-i
-overflow_mul-i c = omega (arith, c.requires.1)
-
-pub overflow_add-at : goal.overflow_add-at
-overflow_add-at c = omega (arith, c.requires.1)
-
-pub info_known-requires : goal.info_known-requires
-info_known-requires c = (c.requires.0, omega (arith, c.requires.1), c.requires.2, slots_at c.args.b.now c.args.at c.args.count c.loop-i.i (omega arith) c.requires.3)
-
-pub returns-then-not-info_known : goal.returns-then-not-info_known
-returns-then-not-info_known c = sym (c.loop-i.invariant.1 ∙ entries-turn c.args.b.now c.args.at c.args.count c.loop-i.i (omega arith) (info_known (views_in c.args.list.now 0 c.args.made)) ∙ rw (sym c.info_known.ensures ∙ not-true _ c.if-not-info_known.true-raw))
-
-pub loop-i-preserved : goal.loop-i-preserved
-loop-i-preserved c = (omega arith, c.loop-i.invariant.1 ∙ entries-turn c.args.b.now c.args.at c.args.count c.loop-i.i (omega arith) (info_known (views_in c.args.list.now 0 c.args.made)) ∙ rw (sym c.info_known.ensures ∙ not-false _ c.if-not-info_known.false-raw))
+pub all-requires : goal.all-requires
+all-requires c = record {
+  can = tt;
+  finite = tt;
+  callable = serves_from_Range (λ x q k. search rules)
+      (λ x lo hi.
+      let a = c.args in
+      let within : a.at + slot_size * x + slot_size ≤ length a.b.now = omega (arith, c.requires.1) in
+      let fits : slot_fits a.b.now (a.at + slot_size * x) ≡ true = slots_at a.b.now a.at a.count x hi c.requires.3 in
+      search rules);
+}
 
 pub returns : goal.returns
-returns c = sym (c.loop-i.invariant.1 ∙ entries-end c.args.b.now (c.args.at + slot_size * c.loop-i.i) (c.args.count - c.loop-i.i) (omega arith) (info_known (views_in c.args.list.now 0 c.args.made)))
+returns c =
+    let a = c.args in
+    let known = info_known (views_in a.list.now 0 a.made) in
+    all_from_yields_List (λ i. known (entry_in a.b.now (a.at + slot_size * i))) _ _ _ c.all.ensures.ran
+    (YieldsList-from_range 0 a.count a.count refl (omega arith)) (λ x b q k. search (rules, tests))
+    ∙ entries_listed a.b.now a.at known a.count

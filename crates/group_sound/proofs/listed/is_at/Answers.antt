@@ -1,14 +1,15 @@
 -- `group_sound::listed::is_at` meets its contract: with no place the view is not listed, and at its place it is if the set is its own.
-use mathlib.Core.Path.{sym}
+use mathlib.Core.Path.{sym, ◌∙◌}
+use borrow.Author.Tests.{le-ltb}
 use Rattle.group_sound.proofs.ListedLaws.{view-nowhere, view-there}
 use Rattle.group_sound.proofs.listed.is_at.Goals as goal
 
-pub returns-then-made-i : goal.returns-then-made-i
-returns-then-made-i c =
-    let e = c in
-    sym (view-nowhere e.args.list.now e.args.made e.args.v e.args.i e.requires.2 c.if-made-i.true)
+pub returns-then-i-made : goal.returns-then-i-made
+returns-then-i-made c =
+    let a = c.args in
+    view-there a.list.now a.made a.v a.i c.requires.2 c.requires.1 c.if-i-made.true
 
-pub returns : goal.returns
-returns c =
-    let e = c in
-    view-there e.args.list.now e.args.made e.args.v e.args.i e.requires.2 e.requires.1 c.if-made-i.false
+pub returns-else-i-made : goal.returns-else-i-made
+returns-else-i-made c =
+    let a = c.args in
+    le-ltb _ _ c.if-i-made.false ∙ sym (view-nowhere a.list.now a.made a.v a.i c.requires.2 c.if-i-made.false)

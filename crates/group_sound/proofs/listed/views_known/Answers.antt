@@ -1,7 +1,8 @@
 -- `group_sound::listed::views_known` meets its contract: the views before the i-th stand before place j of the list, so the answer is that of the rest of
 -- both.
 use mathlib.Core.Path.{◌≡◌, sym, ap, ◌∙◌}
-use Prim.Native.Nat.{◌+◌, ◌-◌, ◌<◌}
+use mathlib.Core.Logic.{⊎_elim}
+use Prim.Native.Nat.{◌+◌, ◌<◌}
 use native.Mathlib.Omega.{arith}
 use Rattle.views.specs.declared.View.{View}
 use Rattle.views.specs.Lists.{id_of}
@@ -40,17 +41,12 @@ load_view-w-requires c = omega (arith, c.requires.0)
 
 pub returns-then-v-w-2 : goal.returns-then-v-w-2
 returns-then-v-w-2 c =
-    let early = c in
-    let e = early in
-    let l = early.loop-i in
-    sym (l.invariant.1 ∙ walk-stop e.args.list.now e.args.made e.args.b.now e.args.from e.args.count l.j l.i (omega arith) (omega arith) e.requires.2 _ _ early.load_view-v.ensures early.load_view-w.ensures c.if-v-w.true (λ w. c.if-v-w-2.true (ap id_of w)))
-
-pub returns-then-v-w-3 : goal.returns-then-v-w-3
-returns-then-v-w-3 c =
-    let early = c in
-    let e = early in
-    let l = early.loop-i in
-    sym (l.invariant.1 ∙ walk-stop e.args.list.now e.args.made e.args.b.now e.args.from e.args.count l.j l.i (omega arith) (omega arith) e.requires.2 _ _ early.load_view-v.ensures early.load_view-w.ensures c.if-v-w.true (λ w. c.if-v-w-3.true (ap (λ (x : View). x.set) w)))
+    let a = c.args in
+    let l = c.loop-i in
+    let v = c.load_view-v in
+    let w = c.load_view-w in
+    let other : v.result ≡ w.result → ⊥ = λ e. ⊎_elim (λ h. h (ap id_of e)) (λ h. h.1 (ap (λ (x : View). x.set) e)) c.then-v-w-2.either in
+    sym (l.invariant.1 ∙ walk-stop a.list.now a.made a.b.now a.from a.count l.j l.i (omega arith) (omega arith) c.requires.2 _ _ v.ensures w.ensures c.if-v-w.true other)
 
 pub overflow_add-i : goal.overflow_add-i
 overflow_add-i c = omega (arith, c.loop-i-test.true, c.ranges.count)

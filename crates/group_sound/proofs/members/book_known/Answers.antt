@@ -1,7 +1,7 @@
 -- `group_sound::members::book_known` meets its contract: a layout that fits has every part within the bytes, and each is tested where it lies.
 use mathlib.Core.Path.{sym, ap, ◌∙◌}
 use native.Mathlib.Omega.{arith}
-use borrow.Author.Tests.{not-true, not-false}
+use Rattle.std.proofs.lemmas.Grind.{common_steps}
 use Rattle.wire.specs.Reader.{views_in}
 use Rattle.rules.specs.Sound.{listed}
 use Rattle.book_bytes.specs.Places.{outgoing_at}
@@ -20,14 +20,6 @@ load_view-settled-requires c =
     let l = layout-says b (fits-layout b o.requires.1) in
     omega (arith, l.size)
 
-pub returns-then-not-is_at : goal.returns-then-not-is_at
-returns-then-not-is_at c =
-    let o = c in
-    let views = views_in o.args.list.now 0 o.args.made in
-    let b = o.args.b.now in
-    let known = book-in views o.args.queues.now b (layout-says b (fits-layout b o.requires.1)).opens (opens-rise b o.requires.1) in
-    sym (known ∙ rw (sym (c.is_at.ensures ∙ ap (listed views) c.load_view-settled.ensures) ∙ not-true _ c.if-not-is_at.true-raw))
-
 pub opens_known-requires : goal.opens_known-requires
 opens_known-requires c =
     let o = c in
@@ -35,28 +27,12 @@ opens_known-requires c =
     let l = layout-says b (fits-layout b o.requires.1) in
     (o.requires.0, omega (arith, l.size), o.requires.3, l.opens)
 
-pub returns-then-not-opens_known : goal.returns-then-not-opens_known
-returns-then-not-opens_known c =
-    let o = c in
-    let views = views_in o.args.list.now 0 o.args.made in
-    let b = o.args.b.now in
-    let known = book-in views o.args.queues.now b (layout-says b (fits-layout b o.requires.1)).opens (opens-rise b o.requires.1) in
-    sym (known ∙ rw (sym (c.is_at.ensures ∙ ap (listed views) c.load_view-settled.ensures) ∙ not-false _ c.if-not-is_at.false-raw, sym c.opens_known.ensures ∙ not-true _ c.if-not-opens_known.true-raw))
-
 pub seats_known-requires : goal.seats_known-requires
 seats_known-requires c =
     let o = c in
     let b = o.args.b.now in
     let l = layout-says b (fits-layout b o.requires.1) in
     (o.requires.0, omega (arith, l.size), o.requires.2, o.requires.3, c.place-i.ensures)
-
-pub returns-then-not-seats_known : goal.returns-then-not-seats_known
-returns-then-not-seats_known c =
-    let o = c in
-    let views = views_in o.args.list.now 0 o.args.made in
-    let b = o.args.b.now in
-    let known = book-in views o.args.queues.now b (layout-says b (fits-layout b o.requires.1)).opens (opens-rise b o.requires.1) in
-    sym (known ∙ rw (sym (c.is_at.ensures ∙ ap (listed views) c.load_view-settled.ensures) ∙ not-false _ c.if-not-is_at.false-raw, sym c.opens_known.ensures ∙ not-false _ c.if-not-opens_known.false-raw, sym c.seats_known.ensures ∙ not-true _ c.if-not-seats_known.true-raw))
 
 pub bounds-b-191 : goal.bounds-b-191
 bounds-b-191 c =
@@ -66,7 +42,7 @@ bounds-b-191 c =
     omega (arith, l.size)
 
 pub overflow_cast-b : goal.overflow_cast-b
-overflow_cast-b c = omega (arith, c.shared_slice_known-4-1.given outgoing_at)
+overflow_cast-b c = omega (arith, c.type_inv.b outgoing_at)
 
 pub infos_known-requires : goal.infos_known-requires
 infos_known-requires c =
@@ -75,11 +51,21 @@ infos_known-requires c =
     let l = layout-says b (fits-layout b o.requires.1) in
     (o.requires.0, omega (arith, l.size, l.outgoing), o.requires.3, l.slots)
 
-pub returns : goal.returns
-returns c =
-    let o = c in
-    let views = views_in o.args.list.now 0 o.args.made in
-    let b = o.args.b.now in
-    let known = book-in views o.args.queues.now b (layout-says b (fits-layout b o.requires.1)).opens (opens-rise b o.requires.1) in
-    c.infos_known.ensures ∙ known-listed views (outgoing_in b) (infos-rise b o.requires.1)
-    ∙ sym (known ∙ rw (sym (c.is_at.ensures ∙ ap (listed views) c.load_view-settled.ensures) ∙ not-false _ c.if-not-is_at.false-raw, sym c.opens_known.ensures ∙ not-false _ c.if-not-opens_known.false-raw, sym c.seats_known.ensures ∙ not-false _ c.if-not-seats_known.false-raw))
+pub returns-then-seats_known : goal.returns-then-seats_known
+returns-then-seats_known c =
+    let a = c.args in
+    let views = views_in a.list.now 0 a.made in
+    let b = a.b.now in
+    let known = book-in views a.queues.now b (layout-says b (fits-layout b c.requires.1)).opens (opens-rise b c.requires.1) in
+    let settled = c.is_at.ensures ∙ ap (listed views) c.load_view-settled.ensures in
+    let infos = known-listed views (outgoing_in b) (infos-rise b c.requires.1) in
+    c.infos_known.ensures ∙ infos ∙ sym (known ∙ grind (arith, common_steps, settled))
+
+pub returns-else-seats_known : goal.returns-else-seats_known
+returns-else-seats_known c =
+    let a = c.args in
+    let views = views_in a.list.now 0 a.made in
+    let b = a.b.now in
+    let known = book-in views a.queues.now b (layout-says b (fits-layout b c.requires.1)).opens (opens-rise b c.requires.1) in
+    let settled = c.is_at.ensures ∙ ap (listed views) c.load_view-settled.ensures in
+    rw known (grind (arith, common_steps, settled))

@@ -1,52 +1,52 @@
 -- `group_sound::members::seats_known` meets its contract: each way out is one of the definition's tests.
 use mathlib.Core.Path.{sym, ◌∙◌}
 use native.Mathlib.Omega.{arith}
-use borrow.Author.Tests.{not-true, not-false}
+use borrow.Author.Tests.{not-true, not-false, ne_eqb, leb-true, leb-false}
 use Rattle.wire.specs.Reader.{views_in}
 use Rattle.wire.proofs.ReaderLaws.{length-views_in}
 use Rattle.rules.proofs.TestLaws.{listed_in}
 use Rattle.group_bytes.proofs.PlaceLaws.{place_in}
 use Rattle.group_sound.proofs.SeatLaws.{none-taken, none-known, carrier-unlisted, carrier-taken, carrier-known}
 use Rattle.group_sound.proofs.members.seats_known.Goals as goal
+use Rattle.group_sound.proofs.members.seats_known.Goals.{then-is_at, else-is_at}
 
-pub returns-then-taken-gt0 : goal.returns-then-taken-gt0
-returns-then-taken-gt0 c =
+pub returns-then-taken-eq0 : goal.returns-then-taken-eq0
+returns-then-taken-eq0 c =
     let a = c.args in
     let views = views_in a.list.now 0 a.made in
-    let e = c.load_seat-carrier.ensures in
-    none-taken views a.queues.now a.b.now _ e (not-true _ c.if-not-carrier.true) c.if-taken-gt0.true
+    none-known views a.queues.now a.b.now _ c.load_seat-carrier.ensures (not-true _ c.if-not-carrier.true) (omega (arith, c.if-taken-eq0.true)) _ c.client_listed.ensures
 
-pub returns-then-not-carrier : goal.returns-then-not-carrier
-returns-then-not-carrier c =
+pub returns-else-taken-eq0 : goal.returns-else-taken-eq0
+returns-else-taken-eq0 c =
     let a = c.args in
     let views = views_in a.list.now 0 a.made in
-    let e = c.load_seat-carrier.ensures in
-    none-known views a.queues.now a.b.now _ e (not-true _ c.if-not-carrier.true) (omega (arith, c.if-taken-gt0.false)) _ c.client_listed.ensures
-
-pub returns-then-not-is_at : goal.returns-then-not-is_at
-returns-then-not-is_at c =
-    let a = c.args in
-    let views = views_in a.list.now 0 a.made in
-    let e = c.load_seat-carrier.ensures in
-    carrier-unlisted views a.queues.now a.b.now _ e (not-false _ c.if-not-carrier.false) (sym c.is_at.ensures ∙ not-true _ c.if-not-is_at.true-raw)
+    let some = c.if-taken-eq0.false in
+    ne_eqb _ _ some ∙ none-taken views a.queues.now a.b.now _ c.load_seat-carrier.ensures (not-true _ c.if-not-carrier.true) (omega (arith, some))
 
 pub bounds-queues-j : goal.bounds-queues-j
 bounds-queues-j c =
-    let o = c in
-    let views = views_in o.args.list.now 0 o.args.made in
-    let here = listed_in views _ (sym c.is_at.ensures ∙ not-false _ c.if-not-is_at.false-raw) in
-    omega (arith, place_in _ views here, length-views_in o.args.list.now 0 o.args.made, c.place_near-j.ensures, o.requires.2)
-
-pub returns-then-queues-j : goal.returns-then-queues-j
-returns-then-queues-j c =
     let a = c.args in
     let views = views_in a.list.now 0 a.made in
-    let e = c.load_seat-carrier.ensures in
-    carrier-taken views a.queues.now a.b.now _ e (not-false _ c.if-not-carrier.false) (sym c.is_at.ensures ∙ not-false _ c.if-not-is_at.false-raw) _ c.place_near-j.ensures c.if-queues-j.true
+    let here = listed_in views _ (sym c.is_at.ensures ∙ c.if-is_at.true) in
+    omega (arith, place_in _ views here, length-views_in a.list.now 0 a.made, c.place_near-j.ensures, c.requires.2)
 
-pub returns : goal.returns
-returns c =
+pub returns-then-taken-queues : goal.returns-then-taken-queues
+returns-then-taken-queues c =
     let a = c.args in
     let views = views_in a.list.now 0 a.made in
-    let e = c.load_seat-carrier.ensures in
-    carrier-known views a.queues.now a.b.now _ e (not-false _ c.if-not-carrier.false) (sym c.is_at.ensures ∙ not-false _ c.if-not-is_at.false-raw) _ c.place_near-j.ensures (omega (arith, c.if-queues-j.false)) _ c.client_listed-2.ensures
+    let there = not-false _ c.if-not-carrier.false in
+    elim c.if-is_at.branch [
+      | then-is_at w ↦ carrier-known views a.queues.now a.b.now _ c.load_seat-carrier.ensures there (sym c.is_at.ensures ∙ w.if-is_at.true) _ c.place_near-j.ensures (leb-true _ _ (sym w.value-is ∙ c.if-taken-queues.true)) _ c.client_listed-then-taken-queues.ensures
+      | else-is_at w ↦ cc
+    ]
+
+pub returns-else-taken-queues : goal.returns-else-taken-queues
+returns-else-taken-queues c =
+    let a = c.args in
+    let views = views_in a.list.now 0 a.made in
+    let there = not-false _ c.if-not-carrier.false in
+    c.if-taken-queues.false
+    ∙ elim c.if-is_at.branch [
+      | then-is_at w ↦ carrier-taken views a.queues.now a.b.now _ c.load_seat-carrier.ensures there (sym c.is_at.ensures ∙ w.if-is_at.true) _ c.place_near-j.ensures (leb-false _ _ (sym w.value-is ∙ c.if-taken-queues.false))
+      | else-is_at w ↦ carrier-unlisted views a.queues.now a.b.now _ c.load_seat-carrier.ensures there (sym c.is_at.ensures ∙ w.if-is_at.false)
+    ]

@@ -6,7 +6,6 @@ use Prim.Native.Nat.{ℕ}
 use borrow.Author.Tests.{lt-ltb, le-ltb, lt-leb, le-leb}
 use lib.Dec.{ltb, leb}
 use Rattle.views.specs.Sets.{both}
-use Rattle.group_sound.specs.OrderParts.{head_fits}
 use Rattle.group_sound.proofs.OrderLaws.{fault_of, last-unmet, last-met, head-asked}
 use Rattle.group_sound.proofs.orders.fault.Goals as goal
 use Rattle.group_sound.proofs.orders.fault.Goals.{then-kind-eq-TOLD, else-kind-eq-TOLD, then-n-sender, else-n-sender, then-kind-lt-CLIENT, else-kind-lt-CLIENT, then-kind-gt-TOLD, else-kind-gt-TOLD, then-told-lt1, else-told-lt1}

@@ -2,7 +2,6 @@
 use mathlib.Core.Path.{sym, ◌∙◌}
 use Prim.Native.Nat.{◌+◌}
 use native.Mathlib.Omega.{arith}
-use borrow.Author.Tests.{not-true, not-false}
 use Rattle.wire.specs.Reader.{views_in}
 use Rattle.group_sound.proofs.OrderLaws.{info-within, info-crowded, info-single, info-asked, no-info}
 use Rattle.group_sound.proofs.orders.info_known.Goals as goal
@@ -22,20 +21,20 @@ returns-then-n-eq1 c =
     let a = c.args in
     c.view_listed.ensures ∙ info-single a.q.now a.c (views_in a.list.now 0 a.made) a.k c.if-q-c-ne-INFO.false c.if-n-eq1.true
 
-pub returns-then-not-views_allowed : goal.returns-then-not-views_allowed
-returns-then-not-views_allowed c =
+pub returns-else-views_allowed : goal.returns-else-views_allowed
+returns-else-views_allowed c =
     let a = c.args in
-    sym (info-crowded a.q.now a.c (views_in a.list.now 0 a.made) a.k c.if-q-c-ne-INFO.false
-    (sym c.views_allowed.ensures ∙ not-true _ c.if-not-views_allowed.true-raw))
+    c.if-views_allowed.false ∙ sym (info-crowded a.q.now a.c (views_in a.list.now 0 a.made) a.k c.if-q-c-ne-INFO.false
+    (sym c.views_allowed.ensures ∙ c.if-views_allowed.false))
 
 pub views_known-requires : goal.views_known-requires
 views_known-requires c =
     let e = c in
-    let t = info-within _ (sym c.views_allowed.ensures ∙ not-false _ c.if-not-views_allowed.false-raw) in
+    let t = info-within _ (sym c.views_allowed.ensures ∙ c.if-views_allowed.true) in
     (e.requires.0, omega (arith, t.1, e.requires.1, e.requires.2), e.requires.3, omega (arith, t.0))
 
-pub returns : goal.returns
-returns c =
+pub returns-then-views_allowed : goal.returns-then-views_allowed
+returns-then-views_allowed c =
     let a = c.args in
     c.views_known.ensures ∙ info-asked a.q.now a.c (views_in a.list.now 0 a.made) a.k c.if-q-c-ne-INFO.false
-    (sym c.views_allowed.ensures ∙ not-false _ c.if-not-views_allowed.false-raw)
+    (sym c.views_allowed.ensures ∙ c.if-views_allowed.true)

@@ -1,7 +1,7 @@
 -- `group_sound::orders::order_sound` meets its contract: the count, then the heads, then the infos.
 use mathlib.Core.Path.{sym, ap, ◌∙◌}
 use native.Mathlib.Omega.{arith}
-use borrow.Author.Tests.{not-true, not-false, le-leb, lt-leb}
+use borrow.Author.Tests.{le-leb, lt-leb}
 use lib.ListN.{get_or}
 use Rattle.wire.specs.Reader.{views_in}
 use Rattle.rules.specs.Member.{every}
@@ -17,13 +17,13 @@ returns-then-count-gt-ORDERED c =
     let views = views_in a.list.now 0 a.made in
     rw (order-asked a.q.now a.c views a.n (list-fits a.n views e.requires.2), lt-leb _ _ c.if-count-gt-ORDERED.true)
 
-pub returns-then-not-h : goal.returns-then-not-h
-returns-then-not-h c =
+pub returns-else-h : goal.returns-else-h
+returns-else-h c =
     let e = c in
     let a = e.args in
     let views = views_in a.list.now 0 a.made in
-    let unfit = sym c.heads-h.ensures.0 ∙ not-true _ c.if-not-h.true in
-    rw (order-asked a.q.now a.c views a.n (list-fits a.n views e.requires.2), le-leb _ _ c.if-count-gt-ORDERED.false, unfit)
+    let unfit = sym c.heads-h.ensures.0 ∙ c.if-h.false in
+    c.if-h.false ∙ rw (order-asked a.q.now a.c views a.n (list-fits a.n views e.requires.2), le-leb _ _ c.if-count-gt-ORDERED.false, unfit)
 
 pub infos_known-requires : goal.infos_known-requires
 infos_known-requires c =
@@ -33,11 +33,11 @@ infos_known-requires c =
     let few = infos-few a.q.now a.c (get_or a.q.now a.c 0) in
     (e.requires.0, e.requires.1, omega (arith, few, c.heads-h.ensures.1, c.if-count-gt-ORDERED.false), list-rises a.n views e.requires.2)
 
-pub returns : goal.returns
-returns c =
+pub returns-then-h : goal.returns-then-h
+returns-then-h c =
     let e = c in
     let a = e.args in
     let views = views_in a.list.now 0 a.made in
-    let fit = sym c.heads-h.ensures.0 ∙ not-false _ c.if-not-h.false in
+    let fit = sym c.heads-h.ensures.0 ∙ c.if-h.true in
     rw (order-asked a.q.now a.c views a.n (list-fits a.n views e.requires.2), le-leb _ _ c.if-count-gt-ORDERED.false, fit)
     (c.infos_known.ensures ∙ ap (λ k. every k (infos_known views a.q.now a.c)) c.heads-h.ensures.1)

@@ -9,12 +9,12 @@ use Rattle.group_sound.specs.Parts.{queue_sound}
 use Rattle.group_sound.proofs.Walks.{known-are}
 use Rattle.group_sound.proofs.tables.queue_sound.Goals as goal
 
-pub returns-then-q-at-gt-WAITING : goal.returns-then-q-at-gt-WAITING
+pub returns-then-q-at-le-WAITING : goal.returns-then-q-at-le-WAITING
 unfolding queue_sound
-returns-then-q-at-gt-WAITING c = sym (stopped _ 0 (lt-leb _ _ c.if-q-at-gt-WAITING.true))
-
-pub returns : goal.returns
-unfolding queue_sound
-returns c =
+returns-then-q-at-le-WAITING c =
     let a = c.args in
-    c.entries_known.ensures ∙ known-are (views_in a.list.now 0 a.made) a.n a.q.now (a.at + 1) (get_or a.q.now a.at 0) ∙ sym (four _ _ _ _ ∙ rw (le-leb _ _ c.if-q-at-gt-WAITING.false))
+    c.entries_known.ensures ∙ known-are (views_in a.list.now 0 a.made) a.n a.q.now (a.at + 1) (get_or a.q.now a.at 0) ∙ sym (four _ _ _ _ ∙ rw (le-leb _ _ c.if-q-at-le-WAITING.true))
+
+pub returns-else-q-at-le-WAITING : goal.returns-else-q-at-le-WAITING
+unfolding queue_sound
+returns-else-q-at-le-WAITING c = let over = lt-leb _ _ c.if-q-at-le-WAITING.false in over ∙ sym (stopped _ 0 over)

@@ -1,27 +1,25 @@
--- `group_sound::tables::tables_sound` meets its contract: the queues of the views before the i-th are sound.
-use mathlib.Core.Path.{sym, ◌∙◌}
-use Prim.Native.Nat.{◌-◌}
-use native.Mathlib.Omega.{arith}
-use borrow.Author.Tests.{not-true, not-false}
+-- `group_sound::tables::tables_sound` meets its contract: every table is asked.
+use Rattle.std.proofs.Common.{refl, ◌∙◌, ◌≤◌, ◌+◌, length, rules, arith}
+use borrow.Author.Tests.{tests}
+use Rattle.std.proofs.lemmas.Iterator.{serves_from_Range, YieldsList-from_range}
+use Rattle.std.proofs.lemmas.Iterator.Search.{all_from_yields_List}
 use Rattle.wire.specs.Reader.{views_in}
-use Rattle.rules.proofs.Truth.{every-stop}
+use Rattle.group_bytes.specs.Places.{order_at}
 use Rattle.group_sound.specs.Parts.{table_sound}
-use Rattle.group_sound.proofs.Walks.{below_none, below_more, below_end}
+use Rattle.group_sound.proofs.Walks.{every_listed}
 use Rattle.group_sound.proofs.tables.tables_sound.Goals as goal
 
-pub loop-i-init : goal.loop-i-init
-loop-i-init c = below_none (table_sound (views_in c.args.list.now 0 c.args.made) c.args.n c.args.q.now)
-
-pub table_sound-requires : goal.table_sound-requires
-table_sound-requires c = (c.requires.0, omega (arith, c.requires.1), c.requires.2, c.requires.3)
-
-pub returns-then-not-table_sound : goal.returns-then-not-table_sound
-returns-then-not-table_sound c = sym (every-stop c.args.made (table_sound (views_in c.args.list.now 0 c.args.made) c.args.n c.args.q.now) c.loop-i.i (omega arith) (sym c.table_sound.ensures ∙ not-true _ c.if-not-table_sound.true-raw))
-
-pub loop-i-preserved : goal.loop-i-preserved
-loop-i-preserved c =
-    let a = c.args in
-    below_more (table_sound (views_in a.list.now 0 a.made) a.n a.q.now) c.loop-i.i c.loop-i.invariant (sym c.table_sound.ensures ∙ not-false _ c.if-not-table_sound.false-raw)
+pub all-requires : goal.all-requires
+all-requires c = record {
+  can = tt;
+  finite = tt;
+  callable = serves_from_Range (λ x q k. search rules)
+      (λ x lo hi. let h : order_at (x + 1) ≤ length c.args.q.now = omega (arith, c.requires.1) in search rules);
+}
 
 pub returns : goal.returns
-returns c = sym (below_end c.args.made (table_sound (views_in c.args.list.now 0 c.args.made) c.args.n c.args.q.now) c.loop-i.i (omega arith) c.loop-i.invariant)
+returns c =
+    let a = c.args in
+    let test = table_sound (views_in a.list.now 0 a.made) a.n a.q.now in
+    all_from_yields_List test _ _ _ c.all.ensures.ran (YieldsList-from_range 0 a.made a.made refl (omega arith)) (λ x b q k. search (rules, tests))
+    ∙ every_listed test a.made

@@ -1,17 +1,25 @@
+-- `group_steps::carrier_view::collect` meets its contract: 6, or the step on the part of the books that is the member's.
 use mathlib.Core.Path.{refl}
-use Prim.Native.Nat.{◌+◌, ◌-◌, ◌*◌}
+use Prim.Native.Nat.{◌+◌, ◌-◌}
 use native.Mathlib.Omega.{arith}
+use Rattle.std.proofs.lemmas.Result.{err_from_is_err_and}
 use Rattle.book_bytes.specs.Places.{book_size}
-use Rattle.group_steps.proofs.OwnStepLaws.{desk-refused, desk-sound, desk-done}
+use Rattle.group_steps.proofs.OwnStepLaws.{part-room, part-sound, own-refused, own-done}
 use Rattle.group_steps.proofs.carrier_view.collect.Goals as goal
 
-pub returns-then-all-p : goal.returns-then-all-p
-returns-then-all-p c =
-    let a = c.args in
-    desk-refused a.all.now a.p.0 _ _ _ c.if-all-p.true c.refuse.ensures
+pub overflow_add-a : goal.overflow_add-a
+overflow_add-a c = omega (arith, part-room _ _ c.in_ok-a.ensures c.requires, c.requires.size)
+
+pub slice_bounds-collect-end : goal.slice_bounds-collect-end
+slice_bounds-collect-end c = part-room _ _ c.in_ok-a.ensures c.requires
 
 pub collect-requires : goal.collect-requires
-collect-requires c = desk-sound c.args.all.now c.args.p.0 c.requires c.if-all-p.false (book_size * c.args.p.0 + book_size - book_size * c.args.p.0) (omega arith)
+collect-requires c = part-sound _ _ c.in_ok-a.ensures (c.in_ok-a.a + book_size - c.in_ok-a.a) (omega arith) c.requires
+
+pub returns-in_err-a : goal.returns-in_err-a
+returns-in_err-a c =
+    let e = err_from_is_err_and c.from_residual.result c.from_residual.ensures.1 in
+    rw (e.1, e.2) (own-refused _ _ _ _ _ c.in_err-a.ensures)
 
 pub returns : goal.returns
-returns c = desk-done c.args.all.now c.args.p.0 _ _ _ c.if-all-p.false (book_size * c.args.p.0 + book_size - book_size * c.args.p.0) (omega arith) _ _ c.collect.ensures refl
+returns c = own-done _ _ _ _ _ c.in_ok-a.ensures (c.in_ok-a.a + book_size - c.in_ok-a.a) (omega arith) _ _ c.collect.ensures refl

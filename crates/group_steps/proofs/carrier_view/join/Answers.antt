@@ -15,7 +15,7 @@ pub returns-then-all-p : goal.returns-then-all-p
 returns-then-all-p c =
     let s = c in
     let r : Ranges = record { list = s.args.list.now; books = s.args.all.now; queues = s.args.queues.now } in
-    join-no-member r s.args.p.0 s.args.id.0 c.if-all-p.true _ c.refuse.ensures
+    join-no-member r s.args.p.0 s.args.id.0 c.if-all-p.true
 
 pub bounds-queues-0 : goal.bounds-queues-0
 bounds-queues-0 c =
@@ -33,7 +33,7 @@ pub returns-then-made-i : goal.returns-then-made-i
 returns-then-made-i c =
     let s = c in
     let r : Ranges = record { list = s.args.list.now; books = s.args.all.now; queues = s.args.queues.now } in
-    join-no-view r s.args.p.0 s.args.id.0 c.if-all-p.false (omega (arith, c.place-i.ensures, c.if-made-i.true)) _ c.refuse-then-made-i.ensures
+    join-no-view r s.args.p.0 s.args.id.0 c.if-all-p.false (omega (arith, c.place-i.ensures, c.if-made-i.true))
 
 pub enter-requires : goal.enter-requires
 enter-requires c =

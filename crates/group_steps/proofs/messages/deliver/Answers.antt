@@ -1,46 +1,61 @@
 -- `group_steps::messages::deliver` meets its contract: no member, no carrier view, or what is next.
 use mathlib.Core.Path.{◌≡◌, sym, ap, ◌∙◌}
-use Prim.Native.Nat.{◌+◌, ◌-◌, ◌*◌}
+use Prim.Native.Nat.{◌+◌, ◌-◌}
 use native.Mathlib.Omega.{arith}
 use borrow.Author.Tests.{not-true, not-false}
+use Rattle.std.proofs.lemmas.Result.{err_from_is_err_and}
 use Rattle.book_bytes.specs.declared.Seat.{Seat}
 use Rattle.book_bytes.specs.Places.{carrier_at, book_size}
 use Rattle.book_bytes.specs.Records.{seat_in}
 use Rattle.group_bytes.specs.Places.{book_bytes}
 use Rattle.group_bytes.specs.Groups.{Ranges}
 use Rattle.group_steps.proofs.Rows.{ranged}
-use Rattle.group_steps.proofs.DeliverLaws.{part-seat, deliver-no-member, deliver-no-carrier}
+use Rattle.group_steps.proofs.OwnStepLaws.{place-found, part-room, part-is}
+use Rattle.group_steps.proofs.JoinLaws.{desk-of}
+use Rattle.group_steps.proofs.DeliverLaws.{deliver-no-member, deliver-no-carrier}
 use Rattle.group_steps.proofs.messages.deliver.Goals as goal
 
-pub bounds-all-0 : goal.bounds-all-0
-bounds-all-0 c =
-    let s = c in
-    let r : Ranges = record { list = s.args.list.now; books = s.args.all.now; queues = s.args.queues.now } in
-    omega (arith, (ranged r s.requires).books)
+pub book_at-requires : goal.book_at-requires
+book_at-requires c =
+    let r : Ranges = record { list = c.args.list.now; books = c.args.all.now; queues = c.args.queues.now } in
+    omega (arith, (ranged r c.requires).books)
 
-pub returns-then-all-p : goal.returns-then-all-p
-returns-then-all-p c =
-    let s = c in
-    let r : Ranges = record { list = s.args.list.now; books = s.args.all.now; queues = s.args.queues.now } in
-    deliver-no-member r s.args.p.0 c.if-all-p.true _ c.refuse.ensures
+pub overflow_add-a : goal.overflow_add-a
+overflow_add-a c =
+    let a = c.args in
+    let r : Ranges = record { list = a.list.now; books = a.all.now; queues = a.queues.now } in
+    omega (arith, part-room a.all.now a.p.0 c.in_ok-a.ensures (desk-of r c.requires a.p.0), (ranged r c.requires).books)
 
 pub slice_bounds-load_seat-end : goal.slice_bounds-load_seat-end
 slice_bounds-load_seat-end c =
-    let s = c in
-    let r : Ranges = record { list = s.args.list.now; books = s.args.all.now; queues = s.args.queues.now } in
-    let fits = ranged r s.requires in
-    omega (arith, fits.books, fits.members.1)
+    let a = c.args in
+    let r : Ranges = record { list = a.list.now; books = a.all.now; queues = a.queues.now } in
+    part-room a.all.now a.p.0 c.in_ok-a.ensures (desk-of r c.requires a.p.0)
+
+pub returns-in_err-a : goal.returns-in_err-a
+returns-in_err-a c =
+    let a = c.args in
+    let r : Ranges = record { list = a.list.now; books = a.all.now; queues = a.queues.now } in
+    let e = err_from_is_err_and c.from_residual.result c.from_residual.ensures.1 in
+    rw (e.1, e.2) (deliver-no-member r a.p.0 _ c.in_err-a.ensures)
 
 pub returns-then-not-seat : goal.returns-then-not-seat
 returns-then-not-seat c =
-    let s = c in
-    let r : Ranges = record { list = s.args.list.now; books = s.args.all.now; queues = s.args.queues.now } in
-    let seat : c.load_seat-seat.result ≡ seat_in (book_bytes s.args.all.now s.args.p.0) carrier_at = c.load_seat-seat.ensures ∙ part-seat s.args.all.now s.args.p.0 c.if-all-p.false (book_size * s.args.p.0 + book_size - book_size * s.args.p.0) (omega arith) in
-    deliver-no-carrier r s.args.p.0 s.requires c.if-all-p.false (sym (ap (λ (x : Seat). x.there) seat) ∙ not-true _ c.if-not-seat.true) _ c.refuse-then-not-seat.ensures
+    let a = c.args in
+    let r : Ranges = record { list = a.list.now; books = a.all.now; queues = a.queues.now } in
+    let found = c.in_ok-a.ensures in
+    let part = part-is a.all.now a.p.0 found (c.in_ok-a.a + book_size - c.in_ok-a.a) (omega arith) in
+    let seat : c.load_seat-seat.result ≡ seat_in (book_bytes a.all.now a.p.0) carrier_at = c.load_seat-seat.ensures ∙ ap (λ b. seat_in b carrier_at) part in
+    deliver-no-carrier r a.p.0 c.requires (place-found a.all.now a.p.0 found).0 (sym (ap (λ (x : Seat). x.there) seat) ∙ not-true _ c.if-not-seat.true)
 
 pub next-requires : goal.next-requires
 next-requires c =
-    let s = c in
-    let r : Ranges = record { list = s.args.list.now; books = s.args.all.now; queues = s.args.queues.now } in
-    let seat : c.load_seat-seat.result ≡ seat_in (book_bytes s.args.all.now s.args.p.0) carrier_at = c.load_seat-seat.ensures ∙ part-seat s.args.all.now s.args.p.0 c.if-all-p.false (book_size * s.args.p.0 + book_size - book_size * s.args.p.0) (omega arith) in
-    (s.requires, c.if-all-p.false, sym (ap (λ (x : Seat). x.there) seat) ∙ not-false _ c.if-not-seat.false, ap (λ (x : Seat). x.view.id) seat)
+    let a = c.args in
+    let found = c.in_ok-a.ensures in
+    let part = part-is a.all.now a.p.0 found (c.in_ok-a.a + book_size - c.in_ok-a.a) (omega arith) in
+    let seat : c.load_seat-seat.result ≡ seat_in (book_bytes a.all.now a.p.0) carrier_at = c.load_seat-seat.ensures ∙ ap (λ b. seat_in b carrier_at) part in (
+      c.requires,
+      (place-found a.all.now a.p.0 found).0,
+      sym (ap (λ (x : Seat). x.there) seat) ∙ not-false _ c.if-not-seat.false,
+      ap (λ (x : Seat). x.view.id) seat,
+    )

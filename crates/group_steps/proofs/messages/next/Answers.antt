@@ -32,7 +32,7 @@ pub returns-then-queues-c : goal.returns-then-queues-c
 returns-then-queues-c c =
     let s = c in
     let r : Ranges = record { list = s.args.list.now; books = s.args.all.now; queues = s.args.queues.now } in
-    next-none r s.args.p.0 s.requires.0 s.requires.1 s.requires.2 s.args.g s.requires.3 c.order_of-c.result c.order_of-c.ensures c.if-queues-c.true _ c.refuse.ensures
+    next-none r s.args.p.0 s.requires.0 s.requires.1 s.requires.2 s.args.g s.requires.3 c.order_of-c.result c.order_of-c.ensures c.if-queues-c.true
 
 pub overflow_cast-k-2 : goal.overflow_cast-k-2
 overflow_cast-k-2 c = let s = c in omega (arith, c.slice_known-2-1.given (book_size * s.args.p.0 + taken_at))

@@ -10,7 +10,7 @@ bounds-b-0 c = omega (arith, sound-size _ c.requires)
 pub returns-then-not-set_fits : goal.returns-then-not-set_fits
 returns-then-not-set_fits c =
     let a = c.args in
-    join-unfit a.b.now a.v _ c.set_fits.ensures c.if-not-set_fits.true-raw _ c.refuse.ensures
+    join-unfit a.b.now a.v _ c.set_fits.ensures c.if-not-set_fits.true-raw
 
 pub returns : goal.returns
 returns c =

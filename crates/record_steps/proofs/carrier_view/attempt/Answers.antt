@@ -8,33 +8,30 @@ use Rattle.views.proofs.VerdictLaws.{need-met, need-unmet}
 use Rattle.record_steps.proofs.RowLaws.{refused-by, accepted-by, attempt-row}
 use Rattle.record_steps.proofs.carrier_view.attempt.Goals as goal
 
-pub returns-then-not-at : goal.returns-then-not-at
+pub returns-then-not-h : goal.returns-then-not-h
 unfolding attempt_turn
-returns-then-not-at c =
+returns-then-not-h c =
     let a = c.args in
-    c.refuse.ensures
-    ∙ refused-by _ _ _
+    refused-by _ _
     (attempt-row 0 a.h [] [] [] one a.n
-    ∙ need-unmet _ _ (not-true _ c.if-not-at.true))
+    ∙ need-unmet _ _ (not-true _ c.if-not-h.true))
 
 pub returns-then-not-above : goal.returns-then-not-above
 unfolding attempt_turn
 returns-then-not-above c =
     let a = c.args in
-    c.refuse-then-not-above.ensures
-    ∙ refused-by _ _ _
+    refused-by _ _
     (attempt-row 0 a.h [] [] [] one a.n
-    ∙ need-met _ _ (not-false _ c.if-not-at.false)
+    ∙ need-met _ _ (not-false _ c.if-not-h.false)
     ∙ need-unmet _ _ (sym c.above.ensures ∙ c.if-not-above.true))
 
 pub returns-then-not-all_noted : goal.returns-then-not-all_noted
 unfolding attempt_turn
 returns-then-not-all_noted c =
     let a = c.args in
-    c.refuse-then-not-all_noted.ensures
-    ∙ refused-by _ _ _
+    refused-by _ _
     (attempt-row 0 a.h [] [] [] one a.n
-    ∙ need-met _ _ (not-false _ c.if-not-at.false)
+    ∙ need-met _ _ (not-false _ c.if-not-h.false)
     ∙ need-met _ _ (sym c.above.ensures ∙ c.if-not-above.false)
     ∙ need-unmet _ _ (sym c.all_noted.ensures ∙ c.if-not-all_noted.true))
 
@@ -42,10 +39,9 @@ pub returns-then-not-passes_all : goal.returns-then-not-passes_all
 unfolding attempt_turn
 returns-then-not-passes_all c =
     let a = c.args in
-    c.refuse-then-not-passes_all.ensures
-    ∙ refused-by _ _ _
+    refused-by _ _
     (attempt-row 0 a.h [] [] [] one a.n
-    ∙ need-met _ _ (not-false _ c.if-not-at.false)
+    ∙ need-met _ _ (not-false _ c.if-not-h.false)
     ∙ need-met _ _ (sym c.above.ensures ∙ c.if-not-above.false)
     ∙ need-met _ _ (sym c.all_noted.ensures ∙ c.if-not-all_noted.false)
     ∙ need-unmet _ _ (sym c.passes_all.ensures ∙ c.if-not-passes_all.true))
@@ -55,9 +51,9 @@ unfolding attempt_turn
 returns c =
     let a = c.args in
     rw c.attempted.ensures
-    (accepted-by _ _
+    (accepted-by _
     (attempt-row 0 a.h [] [] [] one a.n
-    ∙ need-met _ _ (not-false _ c.if-not-at.false)
+    ∙ need-met _ _ (not-false _ c.if-not-h.false)
     ∙ need-met _ _ (sym c.above.ensures ∙ c.if-not-above.false)
     ∙ need-met _ _ (sym c.all_noted.ensures ∙ c.if-not-all_noted.false)
     ∙ need-met _ _ (sym c.passes_all.ensures ∙ c.if-not-passes_all.false)))

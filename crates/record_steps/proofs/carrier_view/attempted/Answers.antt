@@ -4,4 +4,4 @@ use Rattle.record_steps.proofs.carrier_view.attempted.Goals as goal
 
 pub returns : goal.returns
 unfolding attempted_at
-returns c = rw c.opened_to-now_open.ensures
+returns c = rw c.opened_to.ensures

@@ -9,19 +9,19 @@ use Rattle.views.proofs.VerdictLaws.{need-met, need-unmet}
 use Rattle.record_steps.proofs.RowLaws.{items-length, hand-row}
 use Rattle.record_steps.proofs.client_view.hand.Goals as goal
 
-pub returns-then-not-client : goal.returns-then-not-client
+pub returns-then-not-h : goal.returns-then-not-h
 unfolding hand_verdict
-returns-then-not-client c =
+returns-then-not-h c =
     sym
     (hand-row 0 (unheld c.args.h) [] (items_of c.args.own) []
-    ∙ need-unmet _ _ (not-true _ c.if-not-client.true))
+    ∙ need-unmet _ _ (not-true _ c.if-not-h.true))
 
 pub returns-then-own-h : goal.returns-then-own-h
 unfolding hand_verdict
 returns-then-own-h c =
     sym
     (hand-row 0 (unheld c.args.h) [] (items_of c.args.own) []
-    ∙ need-met _ _ (not-false _ c.if-not-client.false)
+    ∙ need-met _ _ (not-false _ c.if-not-h.false)
     ∙ need-unmet _ _ (le-ltb c.args.h.handed.0 (length (items_of c.args.own)) (omega (arith, items-length c.args.own, c.if-own-h.true))))
 
 pub returns : goal.returns
@@ -29,5 +29,5 @@ unfolding hand_verdict
 returns c =
     sym
     (hand-row 0 (unheld c.args.h) [] (items_of c.args.own) []
-    ∙ need-met _ _ (not-false _ c.if-not-client.false)
+    ∙ need-met _ _ (not-false _ c.if-not-h.false)
     ∙ need-met _ _ (lt-ltb c.args.h.handed.0 (length (items_of c.args.own)) (omega (arith, items-length c.args.own, c.if-own-h.false))))

@@ -8,19 +8,19 @@ use Rattle.views.proofs.VerdictLaws.{need-met, need-unmet}
 use Rattle.record_steps.proofs.RowLaws.{register-row}
 use Rattle.record_steps.proofs.client_view.register.Goals as goal
 
-pub returns-then-not-client : goal.returns-then-not-client
+pub returns-then-not-h : goal.returns-then-not-h
 unfolding register_verdict
-returns-then-not-client c =
+returns-then-not-h c =
     sym
     (register-row 0 (unheld c.args.h) (entries_of c.args.out) [] []
-    ∙ need-unmet _ _ (not-true _ c.if-not-client.true))
+    ∙ need-unmet _ _ (not-true _ c.if-not-h.true))
 
 pub returns-then-h : goal.returns-then-h
 unfolding register_verdict
 returns-then-h c =
     sym
     (register-row 0 (unheld c.args.h) (entries_of c.args.out) [] []
-    ∙ need-met _ _ (not-false _ c.if-not-client.false)
+    ∙ need-met _ _ (not-false _ c.if-not-h.false)
     ∙ need-unmet _ _ (ap not c.if-h.true))
 
 pub returns-then-not-has_room : goal.returns-then-not-has_room
@@ -28,7 +28,7 @@ unfolding register_verdict room_for
 returns-then-not-has_room c =
     sym
     (register-row 0 (unheld c.args.h) (entries_of c.args.out) [] []
-    ∙ need-met _ _ (not-false _ c.if-not-client.false)
+    ∙ need-met _ _ (not-false _ c.if-not-h.false)
     ∙ need-met _ _ (ap not c.if-h.false)
     ∙ need-unmet _ _ (sym c.has_room.ensures ∙ c.if-not-has_room.true))
 
@@ -37,6 +37,6 @@ unfolding register_verdict room_for
 returns c =
     sym
     (register-row 0 (unheld c.args.h) (entries_of c.args.out) [] []
-    ∙ need-met _ _ (not-false _ c.if-not-client.false)
+    ∙ need-met _ _ (not-false _ c.if-not-h.false)
     ∙ need-met _ _ (ap not c.if-h.false)
     ∙ need-met _ _ (sym c.has_room.ensures ∙ c.if-not-has_room.false))

@@ -7,19 +7,19 @@ use Rattle.views.proofs.VerdictLaws.{need-met, need-unmet}
 use Rattle.record_steps.proofs.RowLaws.{send-row}
 use Rattle.record_steps.proofs.client_view.send.Goals as goal
 
-pub returns-then-not-client : goal.returns-then-not-client
+pub returns-then-not-h : goal.returns-then-not-h
 unfolding send_verdict
-returns-then-not-client c =
+returns-then-not-h c =
     sym
     (send-row 0 (unheld c.args.h) (entries_of c.args.out) [] [] 0
-    ∙ need-unmet _ _ (not-true _ c.if-not-client.true))
+    ∙ need-unmet _ _ (not-true _ c.if-not-h.true))
 
 pub returns-then-not-has_room : goal.returns-then-not-has_room
 unfolding send_verdict room_for
 returns-then-not-has_room c =
     sym
     (send-row 0 (unheld c.args.h) (entries_of c.args.out) [] [] 0
-    ∙ need-met _ _ (not-false _ c.if-not-client.false)
+    ∙ need-met _ _ (not-false _ c.if-not-h.false)
     ∙ need-unmet _ _ (sym c.has_room.ensures ∙ c.if-not-has_room.true))
 
 pub returns : goal.returns
@@ -27,5 +27,5 @@ unfolding send_verdict room_for
 returns c =
     sym
     (send-row 0 (unheld c.args.h) (entries_of c.args.out) [] [] 0
-    ∙ need-met _ _ (not-false _ c.if-not-client.false)
+    ∙ need-met _ _ (not-false _ c.if-not-h.false)
     ∙ need-met _ _ (sym c.has_room.ensures ∙ c.if-not-has_room.false))

@@ -2,12 +2,13 @@
 use borrow.Author.Tests.{lt-ltb, le-ltb}
 use Rattle.views.specs.Lists.{find_of}
 use Rattle.rules.specs.Member.{settled_by}
+use Rattle.views.proofs.OrderLaws.{lt-holds, lt-fails}
 use Rattle.record_steps.proofs.messages.later.Goals as goal
 
-pub returns-then-own-x : goal.returns-then-own-x
+pub returns-then-lt : goal.returns-then-lt
 unfolding settled_by find_of
-returns-then-own-x c = rw (lt-ltb _ _ c.if-own-x.true)
+returns-then-lt c = rw (lt-ltb _ _ (lt-holds _ _ c.lt.ensures c.if-lt.true))
 
-pub returns : goal.returns
+pub returns-else-lt : goal.returns-else-lt
 unfolding settled_by
-returns c = rw (le-ltb _ _ c.if-own-x.false)
+returns-else-lt c = rw (le-ltb _ _ (lt-fails _ _ c.lt.ensures c.if-lt.false))

@@ -4,4 +4,4 @@ use Rattle.slots.proofs.order.append.Goals as goal
 
 pub returns : goal.returns
 unfolding ordered
-returns c = rw c.store.ensures
+returns c = rw (c.store.ensures, c.from.ensures)

@@ -1,21 +1,35 @@
 -- The number so far, with the digits that are left behind it, is the number of the word.
 use mathlib.Core.Path.{sym, ap, ◌∙◌}
-use Prim.Native.Nat.{ℕ, ◌+◌}
+use Prim.Native.Nat.{ℕ, ◌+◌, ◌-◌}
 use native.Mathlib.Omega.{arith}
-use lib.ListN.{drop}
+use lib.ListN.{length, take, drop, length-drop}
+use lib.Seq.{take_all}
 use Rattle.test_script.specs.ParseParts.{word_number, number_from}
 use Rattle.test_script.proofs.ParseLaws.{word-le, number-end, number-turn, number-none}
 use Rattle.test_script.proofs.parse.number.Goals as goal
 
-pub loop-i-init : goal.loop-i-init
+pub slice_bounds-c-items-count : goal.slice_bounds-c-items-count
+slice_bounds-c-items-count c = omega (arith, c.word.ensures, word-le c.args.n c.args.line.now)
+
+pub slice_bounds-c-items-start : goal.slice_bounds-c-items-start
+slice_bounds-c-items-start c = omega (arith, c.word.ensures, word-le c.args.n c.args.line.now)
+
+pub loop-c-init : goal.loop-c-init
 unfolding word_number
-loop-i-init c = (omega (arith, c.word-i.ensures, word-le c.args.n c.args.line.now), ap (λ (k : ℕ). number_from 0 (drop k c.args.line.now)) (sym c.word-i.ensures))
+loop-c-init c =
+    let s = c.args.line.now in
+    let e = take_all (length s - c.word.result) (drop c.word.result s) (omega (arith, length-drop c.word.result s)) in
+    rw (e, c.word.ensures)
 
 pub returns-then-c-eq32 : goal.returns-then-c-eq32
-returns-then-c-eq32 c = sym (c.loop-i.invariant.1 ∙ number-end c.loop-i.x c.args.line.now c.loop-i.i (omega arith) c.if-c-eq32.true)
+returns-then-c-eq32 c = sym (c.loop-c.invariant ∙ number-end c.loop-c.x _ c.loop-c.c-index c.loop-c-test.true c.if-c-eq32.true)
 
-pub loop-i-preserved : goal.loop-i-preserved
-loop-i-preserved c = (omega arith, c.loop-i.invariant.1 ∙ number-turn c.loop-i.x c.args.line.now c.loop-i.i (omega arith) c.if-c-eq32.false ∙ ap (λ (k : ℕ). number_from k (drop (c.loop-i.i + 1) c.args.line.now)) (sym c.push-x.ensures))
+pub loop-c-preserved : goal.loop-c-preserved
+loop-c-preserved c =
+    let s = take (length c.args.line.now - c.word.result) (drop c.word.result c.args.line.now) in
+    c.loop-c.invariant
+    ∙ number-turn c.loop-c.x s c.loop-c.c-index c.loop-c-test.true c.if-c-eq32.false
+    ∙ ap (λ (k : ℕ). number_from k (drop (c.loop-c.c-index + 1) s)) (sym c.push-x.ensures)
 
-pub returns : goal.returns
-returns c = sym (c.loop-i.invariant.1 ∙ number-none c.loop-i.x c.args.line.now c.loop-i.i (omega arith))
+pub returns-after-loop-c : goal.returns-after-loop-c
+returns-after-loop-c c = sym (c.loop-c.invariant ∙ number-none c.loop-c.x _ c.loop-c.c-index c.loop-c-test.false)

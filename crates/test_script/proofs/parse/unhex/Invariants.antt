@@ -1,12 +1,8 @@
 -- The bytes that are stored, and those of the digits that are left, are the bytes of all digits.
-use Prim.Native.Nat.{◌-◌}
 use lib.ListN.{length, drop}
 use Rattle.test_script.specs.ParseParts.{unhexed}
 use Rattle.test_script.proofs.ParseLaws.{Halfway}
 use Rattle.test_script.proofs.parse.unhex.Given as goal
 
 abbrev pub invariant-loop-n : goal.invariant-loop-n
-invariant-loop-n l = Halfway (unhexed (length l.initial.bytes) (drop l.from l.line)) l.line l.initial.bytes l.bytes l.n l.i
-
-abbrev pub decreases-loop-n : goal.decreases-loop-n
-decreases-loop-n l = length l.initial.bytes - l.n
+invariant-loop-n l = Halfway (unhexed (length l.initial.bytes) (drop l.from l.line)) l.initial.bytes l.bytes l.n l.rest

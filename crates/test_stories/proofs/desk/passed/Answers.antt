@@ -3,10 +3,10 @@ use mathlib.Core.Path.{refl}
 use Rattle.test_stories.specs.DeskParts.{after_pass}
 use Rattle.test_stories.proofs.desk.passed.Goals as goal
 
-pub returns-in-Refused : goal.returns-in-Refused
+pub returns-in-Err : goal.returns-in-Err
 unfolding after_pass
-returns-in-Refused c = rw c.in-Refused.is refl
+returns-in-Err c = rw c.in-Err.is refl
 
-pub returns-in-Accepted : goal.returns-in-Accepted
+pub returns-in-Ok : goal.returns-in-Ok
 unfolding after_pass
-returns-in-Accepted c = rw c.in-Accepted.is refl
+returns-in-Ok c = rw c.in-Ok.is refl

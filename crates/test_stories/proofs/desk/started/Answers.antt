@@ -4,10 +4,10 @@ use Prim.Native.Nat.{ℕ}
 use Rattle.test_stories.specs.DeskParts.{with_own, after_start}
 use Rattle.test_stories.proofs.desk.started.Goals as goal
 
-pub returns-in-Refused : goal.returns-in-Refused
+pub returns-in-Err : goal.returns-in-Err
 unfolding after_start
-returns-in-Refused c = rw c.in-Refused.is refl
+returns-in-Err c = rw c.in-Err.is refl
 
-pub returns-in-Accepted : goal.returns-in-Accepted
+pub returns-in-Ok : goal.returns-in-Ok
 unfolding after_start
-returns-in-Accepted c = rw c.in-Accepted.is (ap (λ (x : ℕ). with_own c.args.d c.args.k x) c.byte.ensures)
+returns-in-Ok c = rw c.in-Ok.is (ap (λ (x : ℕ). with_own c.args.d c.args.k x) c.byte.ensures)

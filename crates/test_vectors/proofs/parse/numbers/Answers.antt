@@ -1,5 +1,4 @@
 -- The numbers read so far, with those of the bytes that are left, are the numbers of all bytes.
-use Prim.Native.Nat.{◌-◌}
 use native.Mathlib.Omega.{arith}
 use Rattle.test_vectors.proofs.LineLaws.{half-start, half-turn, half_full, half-end}
 use Rattle.test_vectors.proofs.parse.numbers.Goals as goal

@@ -1,11 +1,8 @@
 -- A view in its place at each turn, while there are places.
-use Prim.Native.Nat.{◌+◌, ◌-◌, ◌*◌, ◌≤◌}
+use Prim.Native.Nat.{◌+◌, ◌-◌, ◌*◌}
 use Rattle.test_vectors.specs.LineParts.{views_from}
 use Rattle.views.proofs.PlaceLaws.{Filling}
 use Rattle.test_vectors.proofs.parse.views.Given as goal
 
 abbrev pub invariant-loop-i : goal.invariant-loop-i
-invariant-loop-i l = (l.i ≤ 32) × (l.i ≤ l.n) × Filling (views_from l.xs 4 l.n) (views_from l.xs (4 + 2 * l.i) (l.n - l.i)) l.at l.i
-
-abbrev pub decreases-loop-i : goal.decreases-loop-i
-decreases-loop-i l = l.n - l.i
+invariant-loop-i l = Filling (views_from l.xs 4 l.n) (views_from l.xs (4 + 2 * l.i) (l.n - l.i)) l.at l.i

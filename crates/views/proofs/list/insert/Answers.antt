@@ -1,114 +1,98 @@
--- `views::list::insert` meets its contract: the places hold what is put together of the list up to i and, once a view that is not below v was met, of v;
--- what is left comes behind.
-use mathlib.Core.Path.{◌≡◌, sym, ◌∙◌}
-use mathlib.Core.Bool.{true, cond, true≢false}
-use mathlib.Core.List.{[], ◌∷◌}
-use Prim.Native.Nat.{◌+◌, ◌≤◌}
-use native.Mathlib.Omega.{arith}
-use lib.ListN.{get_or, drop, drop_of_length-le}
+-- `views::list::insert` meets its contract: the places hold what is put together of the views gone through and, once a view that is not below v was
+-- met, of v; what is left comes behind.
+use Rattle.std.proofs.Common.{◌≡◌, ◌+◌, ◌<◌, ◌≤◌, true, cond, [], ◌∷◌, get_or, take, drop, drop_of_length-le, sym, arith}
+use Rattle.std.proofs.lemmas.List.{length-take}
+use mathlib.Core.Bool.{true≢false}
+use Rattle.views.specs.declared.View.{View}
 use Rattle.views.specs.Lists.{insert_of, list_of, no_view}
-use Rattle.views.proofs.PlaceLaws.{Filling, filling-start, filling-more, filling-full, filling_skip, filling-end, length-used, drop-used}
+use Rattle.views.proofs.OrderLaws.{lt-holds, lt-fails, le-holds, le-fails}
+use Rattle.views.proofs.PlaceLaws.{Filling, filling-start, filling-more, filling-full, filling_skip, filling-end, take-used, drop_here}
 use Rattle.views.proofs.WalkLaws.{insert-on, insert-same, insert-here}
-use Rattle.views.proofs.list.insert.Goals.{then-ahead+then-v-w+then-v-w-2, then-ahead+then-v-w+else-v-w-2, then-ahead+else-v-w, else-ahead}
+use Rattle.views.proofs.list.insert.Goals.{then-ahead+then-le+then-lt, then-ahead+then-le+else-lt, else-ahead}
+use Rattle.views.proofs.list.insert.Goals.{else-ahead-via-then-ahead+else-le, else-ahead-via-else-ahead}
 use Rattle.views.proofs.list.insert.Goals.{then-k-lt-VIEWS, else-k-lt-VIEWS, then-k-lt-VIEWS-2, else-k-lt-VIEWS-2}
 use Rattle.views.proofs.list.insert.Goals as goal
 
--- before the list's view w is put in its place, v is in its own where w is the first that is above it
-abbrev Ready : goal.After-row_known-in-loop-i-1 → Type 0
-Ready c =
-    let l = c.loop-i in
-    let a = c.args in
-    let rest = drop (l.i + 1) (list_of a.list) in
-    (c.if-ahead.k ≤ l.i + 1) × (c.if-ahead.ahead ≡ true → c.if-ahead.k ≤ l.i)
-    × Filling (insert_of a.v (list_of a.list)) (get_or a.list.at l.i no_view ∷ cond c.if-ahead.ahead (insert_of a.v rest) rest) c.if-ahead.at c.if-ahead.k
+pub loop-w-init : goal.loop-w-init
+loop-w-init c = (omega arith, λ e. omega arith, filling-start (insert_of c.args.v (take c.used.result c.args.list.at)))
 
-ready : (c : goal.After-row_known-in-loop-i-1) → Ready c
-ready c =
-    let l = c.loop-i in
-    let a = c.args in
-    let v = a.v in
-    let w = get_or a.list.at l.i no_view in
-    let left = drop l.i (list_of a.list) in
-    let rest = drop (l.i + 1) (list_of a.list) in
-    let whole = insert_of v (list_of a.list) in
-    let front : left ≡ w ∷ rest = drop-used a.list.count a.list.at l.i (omega arith) in
-    let still : l.ahead ≡ true → l.k ≤ l.i = l.invariant.4 in
-    elim c.if-ahead.branch [
-      | then-ahead+then-v-w+then-v-w-2 u ↦
-          let e : cond l.ahead (insert_of v left) left ≡ v ∷ w ∷ rest = rw (u.if-ahead.true, front, insert-here v w rest u.if-v-w-2.true) in
-          rw (u.at-is, u.k-is, u.ahead-is) (
-            omega (arith, still u.if-ahead.true),
-            λ x. absurd (true≢false (sym x)),
-            filling-more whole (w ∷ rest) l.at l.k v (filling_skip whole _ _ l.at l.k e l.invariant.5) (omega (arith, still u.if-ahead.true)),
-          )
-      | then-ahead+then-v-w+else-v-w-2 u ↦
-          let e : cond l.ahead (insert_of v left) left ≡ w ∷ rest = rw (u.if-ahead.true, front, insert-same v w rest (omega (arith, u.if-v-w.true, u.if-v-w-2.false))) in
-          rw (u.at-is, u.k-is, u.ahead-is) (omega arith, λ x. absurd (true≢false (sym x)), filling_skip whole _ _ l.at l.k e l.invariant.5)
-      | then-ahead+else-v-w u ↦
-          let e : cond l.ahead (insert_of v left) left ≡ w ∷ insert_of v rest = rw (u.if-ahead.true, front, insert-on v w rest u.if-v-w.false) in
-          rw (u.at-is, u.k-is, u.ahead-is) (omega arith, λ x. still x, rw u.if-ahead.true (filling_skip whole _ _ l.at l.k e l.invariant.5))
-      | else-ahead u ↦
-          let e : cond l.ahead (insert_of v left) left ≡ w ∷ rest = rw (u.if-ahead.false, front) in
-          rw (u.at-is, u.k-is, u.ahead-is) (omega arith, λ x. still x, rw u.if-ahead.false (filling_skip whole _ _ l.at l.k e l.invariant.5))
-    ]
-
-pub loop-i-init : goal.loop-i-init
-loop-i-init c =
-    let a = c.args in (
-      c.used-n.ensures ∙ sym (length-used a.list.count a.list.at c.well_formed.0.1.1.1.0.1.0.1),
-      omega (arith, c.used-n.ensures),
-      omega arith,
-      omega arith,
-      λ e. omega arith,
-      filling-start (insert_of a.v (list_of a.list)),
-    )
-
-pub bounds-at-k : goal.bounds-at-k
-bounds-at-k c = let l = c.loop-i in omega (arith, l.invariant.4 c.if-ahead.true)
-
-pub overflow_add-k-in-loop-i : goal.overflow_add-k-in-loop-i
-overflow_add-k-in-loop-i c = let h = ready c in omega (arith, h.0)
-
-pub loop-i-preserved : goal.loop-i-preserved
-loop-i-preserved c =
-    let l = c.loop-i in
-    let a = c.args in
-    let h = ready c in
-    let whole = insert_of a.v (list_of a.list) in
-    let rest = drop (l.i + 1) (list_of a.list) in
-    let w = get_or a.list.at l.i no_view in
-    let behind = cond c.if-ahead.ahead (insert_of a.v rest) rest in
+pub loop-w-preserved : goal.loop-w-preserved
+loop-w-preserved c =
+    let l = c.loop-w in
+    let i = l.w-index in
+    let v = c.args.v in
+    let views = take c.used.result c.args.list.at in
+    let whole = insert_of v views in
+    let w = get_or views i no_view in
+    let rest = drop (i + 1) views in
+    let front : drop i views ≡ w ∷ rest = drop_here views i (omega arith) in
+    let few : i < 32 = omega (arith, length-take {A = View}) in
+    -- before w is put in its place, v is in its own where w is the first that is not below it
+    let ahead = c.if-ahead.ahead in
     let k = c.if-ahead.k in
-    let at = c.if-ahead.at in (
-      l.invariant.0,
-      l.invariant.1,
-      omega arith,
-      omega (arith, h.0),
-      λ x. omega (arith, h.1 x),
+    let at = c.if-ahead.at in
+    let behind = cond ahead (insert_of v rest) rest in
+    let ready : (k ≤ i + 1) × (ahead ≡ true → k ≤ i) × Filling whole (w ∷ behind) at k = elim c.if-ahead.branch [
+      | then-ahead+then-le+then-lt u ↦
+          let e : cond l.ahead (insert_of v (drop i views)) (drop i views) ≡ v ∷ w ∷ rest =
+          rw (u.if-ahead.true, front, insert-here v w rest (lt-holds _ _ u.lt.ensures u.if-lt.true)) in
+          rw (u.at-is, u.k-is, u.ahead-is) (
+            omega (arith, l.invariant.1 u.if-ahead.true),
+            λ x. absurd (true≢false (sym x)),
+            filling-more whole (w ∷ rest) l.at l.k v (filling_skip whole _ _ l.at l.k e l.invariant.2) (omega (arith, l.invariant.1 u.if-ahead.true)),
+          )
+      | then-ahead+then-le+else-lt u ↦
+          let e : cond l.ahead (insert_of v (drop i views)) (drop i views) ≡ w ∷ rest =
+          rw (
+            u.if-ahead.true,
+            front,
+            insert-same v w rest
+                (omega (arith, le-holds v.id.0 w.id.0 u.le.ensures u.if-le.true, lt-fails v.id.0 w.id.0 u.lt.ensures u.if-lt.false)),
+          ) in
+          rw (u.at-is, u.k-is, u.ahead-is) (omega arith, λ x. absurd (true≢false (sym x)), filling_skip whole _ _ l.at l.k e l.invariant.2)
+      | else-ahead t ↦ elim t.else-ahead.branch [
+        | else-ahead-via-then-ahead+else-le u ↦
+            let e : cond l.ahead (insert_of v (drop i views)) (drop i views) ≡ w ∷ insert_of v rest =
+            rw (u.if-ahead.true, front, insert-on v w rest (le-fails _ _ u.le.ensures u.if-le.false)) in
+            rw (t.at-is, t.k-is, t.ahead-is) (omega arith, l.invariant.1, rw u.if-ahead.true (filling_skip whole _ _ l.at l.k e l.invariant.2))
+        | else-ahead-via-else-ahead u ↦
+            let e : cond l.ahead (insert_of v (drop i views)) (drop i views) ≡ w ∷ rest = rw (u.if-ahead.false, front) in
+            rw (t.at-is, t.k-is, t.ahead-is) (omega arith, l.invariant.1, rw u.if-ahead.false (filling_skip whole _ _ l.at l.k e l.invariant.2))
+      ]
+    ] in (
+      omega (arith, ready.0),
+      λ x. omega (arith, ready.1 x),
       elim c.if-k-lt-VIEWS.branch [
-        | then-k-lt-VIEWS u ↦ rw u.at-is (filling-more whole behind at k w h.2 u.if-k-lt-VIEWS.true)
-        | else-k-lt-VIEWS u ↦ rw u.at-is (filling-full whole behind at k w h.2 u.if-k-lt-VIEWS.false)
+        | then-k-lt-VIEWS u ↦ rw u.at-is (filling-more whole behind at k w ready.2 u.if-k-lt-VIEWS.true)
+        | else-k-lt-VIEWS u ↦ rw u.at-is (filling-full whole behind at k w ready.2 u.if-k-lt-VIEWS.false)
       ],
     )
 
 pub returns-after-k-lt-VIEWS-2 : goal.returns-after-k-lt-VIEWS-2
 unfolding insert_of
 returns-after-k-lt-VIEWS-2 c =
-    let l = c.loop-i in
-    let a = c.args in
-    let whole = insert_of a.v (list_of a.list) in
-    let none : drop l.i (list_of a.list) ≡ [] = drop_of_length-le (list_of a.list) {i = l.i} (omega arith) in
-    let e : cond l.ahead (insert_of a.v (drop l.i (list_of a.list))) (drop l.i (list_of a.list)) ≡ a.v ∷ [] = rw (c.if-ahead-2.true, none) in
-    let f = filling_skip whole _ (a.v ∷ []) l.at l.k e l.invariant.5 in
-    elim c.if-k-lt-VIEWS-2.branch [
-      | then-k-lt-VIEWS-2 u ↦ rw u.at-is (filling-end whole _ (l.k + 1) (filling-more whole [] l.at l.k a.v f u.if-k-lt-VIEWS-2.true))
-      | else-k-lt-VIEWS-2 u ↦ rw u.at-is (filling-end whole _ (l.k + 1) (filling-full whole [] l.at l.k a.v f u.if-k-lt-VIEWS-2.false))
-    ]
+    let l = c.loop-w in
+    let v = c.args.v in
+    let list = c.args.list in
+    let views = take c.used.result list.at in
+    let whole = insert_of v views in
+    let same : views ≡ list_of list = rw c.used.ensures (take-used list.count list.at (omega arith)) in
+    let none : drop l.w-index views ≡ [] = drop_of_length-le views {i = l.w-index} (omega arith) in
+    let e : cond l.ahead (insert_of v (drop l.w-index views)) (drop l.w-index views) ≡ v ∷ [] = rw (c.if-ahead-2.true, none) in
+    let f = filling_skip whole _ (v ∷ []) l.at l.k e l.invariant.2 in
+    rw (← same)
+    (elim c.if-k-lt-VIEWS-2.branch [
+      | then-k-lt-VIEWS-2 u ↦ rw u.at-is (filling-end whole _ (l.k + 1) (filling-more whole [] l.at l.k v f u.if-k-lt-VIEWS-2.true))
+      | else-k-lt-VIEWS-2 u ↦ rw u.at-is (filling-end whole _ (l.k + 1) (filling-full whole [] l.at l.k v f u.if-k-lt-VIEWS-2.false))
+    ])
 
 pub returns-else-ahead-2 : goal.returns-else-ahead-2
 returns-else-ahead-2 c =
-    let l = c.loop-i in
-    let a = c.args in
-    let none : drop l.i (list_of a.list) ≡ [] = drop_of_length-le (list_of a.list) {i = l.i} (omega arith) in
-    let e : cond l.ahead (insert_of a.v (drop l.i (list_of a.list))) (drop l.i (list_of a.list)) ≡ [] = rw (c.if-ahead-2.false, none) in
-    filling-end (insert_of a.v (list_of a.list)) l.at l.k (filling_skip _ _ _ l.at l.k e l.invariant.5)
+    let l = c.loop-w in
+    let v = c.args.v in
+    let list = c.args.list in
+    let views = take c.used.result list.at in
+    let same : views ≡ list_of list = rw c.used.ensures (take-used list.count list.at (omega arith)) in
+    let none : drop l.w-index views ≡ [] = drop_of_length-le views {i = l.w-index} (omega arith) in
+    let e : cond l.ahead (insert_of v (drop l.w-index views)) (drop l.w-index views) ≡ [] = rw (c.if-ahead-2.false, none) in
+    rw (← same) (filling-end (insert_of v views) l.at l.k (filling_skip _ _ _ l.at l.k e l.invariant.2))

@@ -1,56 +1,44 @@
--- `views::list::prune` meets its contract: the places hold what is above the identifier of the list up to i, and what is left comes behind.
-use mathlib.Core.Path.{◌≡◌, sym, ap, ◌∙◌}
-use mathlib.Core.List.{[]}
-use native.Mathlib.Omega.{arith}
-use lib.ListN.{get_or, drop, drop_of_length-le}
+-- `views::list::prune` meets its contract: the places hold what is above the identifier of the views gone through, and what is left comes behind.
+use Rattle.std.proofs.Common.{◌≡◌, ◌<◌, [], length, get_or, take, drop, drop_of_length-le, ap, arith}
+use Rattle.std.proofs.lemmas.List.{length-take}
+use Rattle.views.specs.declared.View.{View}
 use Rattle.views.specs.Lists.{above_of, list_of, no_view}
-use Rattle.views.proofs.PlaceLaws.{filling-start, filling-more, filling_skip, filling-end, length-used}
+use Rattle.views.proofs.OrderLaws.{lt-holds, lt-fails}
+use Rattle.views.proofs.PlaceLaws.{filling-start, filling-more, filling_skip, filling-end, take-used}
 use Rattle.views.proofs.WalkLaws.{above-here, above_on}
-use Rattle.views.proofs.list.prune.Goals.{then-floor-v, else-floor-v}
+use Rattle.views.proofs.list.prune.Goals.{then-lt, else-lt}
 use Rattle.views.proofs.list.prune.Goals as goal
 
-pub loop-i-init : goal.loop-i-init
-loop-i-init c =
-    let a = c.args in (
-      c.used-n.ensures ∙ sym (length-used a.list.count a.list.at c.well_formed.0.1.1.1.0.1.0.1),
-      omega (arith, c.used-n.ensures),
-      omega arith,
-      omega arith,
-      filling-start (above_of a.floor.0 (list_of a.list)),
-    )
+pub loop-v-init : goal.loop-v-init
+loop-v-init c = (omega arith, filling-start (above_of c.args.floor.0 (take c.used.result c.args.list.at)))
 
-pub loop-i-preserved : goal.loop-i-preserved
-loop-i-preserved c =
-    let l = c.loop-i in
-    let a = c.args in
-    let g = a.floor.0 in
-    let whole = above_of g (list_of a.list) in
-    let rest = above_of g (drop l.i (list_of a.list)) in
-    let v = get_or a.list.at l.i no_view in
-    elim c.if-floor-v.branch [
-      | then-floor-v w ↦ (
-        l.invariant.0,
-        l.invariant.1,
-        omega arith,
-        omega arith,
-        rw (w.at-is, w.k-is)
-            (filling-more whole _ l.at l.k v
-            (filling_skip whole rest _ l.at l.k (above-here a.list.count a.list.at l.i (omega arith) g w.if-floor-v.true) l.invariant.4) (omega arith)),
-      )
-      | else-floor-v w ↦ (
-        l.invariant.0,
-        l.invariant.1,
-        omega arith,
-        omega arith,
-        rw (w.at-is, w.k-is) (filling_skip whole rest _ l.at l.k (above_on a.list.count a.list.at l.i (omega arith) g w.if-floor-v.false) l.invariant.4),
-      )
+pub loop-v-preserved : goal.loop-v-preserved
+loop-v-preserved c =
+    let l = c.loop-v in
+    let i = l.v-index in
+    let g = c.args.floor.0 in
+    let views = take c.used.result c.args.list.at in
+    let more : i < length views = omega arith in
+    let v = get_or views i no_view in
+    elim c.if-lt.branch [
+      | then-lt w ↦
+          rw (w.at-is, w.k-is) (
+            omega arith,
+            filling-more (above_of g views) _ l.at l.k v
+                (filling_skip _ _ _ l.at l.k (above-here views i more g (lt-holds _ _ c.lt.ensures w.if-lt.true)) l.invariant.1)
+                (omega (arith, length-take {A = View})),
+          )
+      | else-lt w ↦
+          rw (w.at-is, w.k-is) (omega arith, filling_skip _ _ _ l.at l.k (above_on views i more g (lt-fails _ _ c.lt.ensures w.if-lt.false)) l.invariant.1)
     ]
 
 pub returns : goal.returns
 unfolding above_of
 returns c =
-    let l = c.loop-i in
-    let a = c.args in
-    let g = a.floor.0 in
-    let none : above_of g (drop l.i (list_of a.list)) ≡ [] = ap (above_of g) (drop_of_length-le (list_of a.list) {i = l.i} (omega arith)) in
-    filling-end (above_of g (list_of a.list)) l.at l.k (filling_skip _ _ _ l.at l.k none l.invariant.4)
+    let l = c.loop-v in
+    let list = c.args.list in
+    let g = c.args.floor.0 in
+    let views = take c.used.result list.at in
+    let whole : views ≡ list_of list = rw c.used.ensures (take-used list.count list.at (omega arith)) in
+    let none : above_of g (drop l.v-index views) ≡ [] = ap (above_of g) (drop_of_length-le views {i = l.v-index} (omega arith)) in
+    rw (← whole) (filling-end (above_of g views) l.at l.k (filling_skip _ _ _ l.at l.k none l.invariant.1))

@@ -3,5 +3,5 @@ use mathlib.Core.Path.{◌∙◌, sym, ap}
 use Rattle.views.specs.Refusals.{code_of}
 use Rattle.views.proofs.refusal.code.Goals as goal
 
-pub returns-in-Refused : goal.returns-in-Refused
-returns-in-Refused c = c.number.ensures ∙ sym (ap code_of c.in-Refused.is)
+pub returns-in-Err : goal.returns-in-Err
+returns-in-Err c = c.number.ensures ∙ sym (ap code_of c.in-Err.is)

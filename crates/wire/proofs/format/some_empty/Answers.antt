@@ -1,36 +1,24 @@
--- The views before i have members, so the answer for the whole list is that for the rest.
-use mathlib.Core.Path.{◌≡◌, refl, sym, ◌∙◌}
-use Prim.Native.Nat.{min}
-use native.Mathlib.Omega.{arith}
-use borrow.Author.Tests.{eq-eqb, ne_eqb}
-use lib.ListN.{length, get_or, length-take, drop_of_length-le}
-use Rattle.views.specs.Lists.{no_view, list_of}
-use Rattle.wire.specs.Format.{some_empty}
-use Rattle.wire.proofs.FormatLaws.{empty-turn}
+-- What `any` asks of each view is the definition's test, and the places in use are those that the count has.
+use mathlib.Core.Path.{◌≡◌, ap, ◌∙◌}
+use Prim.Native.Nat.{ℕ, min}
+use borrow.Author.Tests.{tests}
+use lib.ListN.{length, take}
+use Rattle.std.proofs.Common.{rules}
+use Rattle.std.proofs.lemmas.Iterator.{YieldsList-from_slice}
+use Rattle.std.proofs.lemmas.Iterator.Search.{any_from_yields_List}
+use Rattle.std.proofs.lemmas.List.{take_min}
+use Rattle.views.specs.declared.View.{View}
+use Rattle.views.specs.Lists.{list_of}
+use Rattle.views.specs.Sets.{is_empty}
+use Rattle.wire.proofs.FormatLaws.{empty-any}
 use Rattle.wire.proofs.format.some_empty.Goals as goal
 
-pub loop-i-init : goal.loop-i-init
-loop-i-init c =
+pub returns : goal.returns
+returns c =
     let list = c.args.list in
     let z : length list.at ≡ 32 = c.well_formed.0.1.1.1.0.1.0.1 in
-    let l : length (list_of list) ≡ min list.count (length list.at) = length-take _ _ in
-    let u = c.used-n.ensures in
-    (omega arith, omega arith, refl)
-
-pub returns-then-v-eq0 : goal.returns-then-v-eq0
-returns-then-v-eq0 c =
-    let a = c.args in
-    let l = c.loop-i in
-    sym (l.invariant.2 ∙ rw (empty-turn a.list.count l.i a.list.at (omega (arith, length-take a.list.count a.list.at)) (omega arith), eq-eqb (get_or a.list.at l.i no_view).set 0 c.if-v-eq0.true))
-
-pub loop-i-preserved : goal.loop-i-preserved
-loop-i-preserved c =
-    let a = c.args in
-    let l = c.loop-i in
-    (l.invariant.0, l.invariant.1, l.invariant.2 ∙ rw (empty-turn a.list.count l.i a.list.at (omega (arith, length-take a.list.count a.list.at)) (omega arith), ne_eqb (get_or a.list.at l.i no_view).set 0 c.if-v-eq0.false))
-
-pub returns : goal.returns
-unfolding some_empty
-returns c =
-    let l = c.loop-i in
-    sym (l.invariant.2 ∙ rw (drop_of_length-le (list_of c.args.list) {i = l.i} (omega arith)))
+    let n : c.used.result ≡ min list.count (length list.at) = rw z c.used.ensures in
+    let used : take c.used.result list.at ≡ list_of list = ap (λ (k : ℕ). take k list.at) n ∙ take_min list.count list.at in
+    let items = YieldsList-from_slice (list_of list) (c.iter.ensures.rest ∙ used) in
+    any_from_yields_List (λ (v : View). is_empty v.set) _ _ c.any.result c.any.ensures.ran items (λ x b q k. search (rules, tests))
+    ∙ empty-any (list_of list)

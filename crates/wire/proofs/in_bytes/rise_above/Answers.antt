@@ -1,19 +1,23 @@
 -- `in_bytes::rise_above` meets its contract: up to the last view passed the list rises, so the answer is that of the rest above it.
-use mathlib.Core.Path.{sym, ap, ◌∙◌}
+use mathlib.Core.Path.{sym, ◌∙◌}
 use Prim.Native.Nat.{◌+◌, ◌-◌, ◌*◌}
 use native.Mathlib.Omega.{arith}
-use Rattle.views.specs.Lists.{rises_above}
-use Rattle.wire.proofs.InBytesLaws.{rows_start, rises-stop, rises-on, rises-end}
+use Rattle.views.proofs.OrderLaws.{le-holds, le-fails}
+use Rattle.wire.proofs.InBytesLaws.{rises-stop, rises-on, rises-end}
 use Rattle.wire.proofs.in_bytes.rise_above.Goals as goal
 
-pub loop-i-init : goal.loop-i-init
-loop-i-init c = (omega arith, ap (rises_above _) (rows_start _ _ _))
-
-pub returns-then-v-last : goal.returns-then-v-last
-returns-then-v-last c = let l = c.loop-i in sym (l.invariant.1 ∙ rises-stop c.args.b.now c.args.from c.args.count l.i (omega arith) _ c.load_view-v.ensures l.last c.if-v-last.true)
+pub returns-then-le : goal.returns-then-le
+returns-then-le c =
+    let l = c.loop-i in
+    sym
+    (l.invariant
+    ∙ rises-stop c.args.b.now c.args.from c.args.count l.i (omega arith) _ c.load_view-v.ensures l.last.0 (le-holds _ _ c.le.ensures c.if-le.true))
 
 pub loop-i-preserved : goal.loop-i-preserved
-loop-i-preserved c = let l = c.loop-i in (omega arith, l.invariant.1 ∙ rises-on c.args.b.now c.args.from c.args.count l.i (omega arith) _ c.load_view-v.ensures l.last c.if-v-last.false)
+loop-i-preserved c =
+    let l = c.loop-i in
+    l.invariant
+    ∙ rises-on c.args.b.now c.args.from c.args.count l.i (omega arith) _ c.load_view-v.ensures l.last.0 (le-fails _ _ c.le.ensures c.if-le.false)
 
 pub returns : goal.returns
-returns c = let l = c.loop-i in sym (l.invariant.1 ∙ rises-end c.args.b.now (c.args.from + 5 * l.i) (c.args.count - l.i) (omega arith) l.last)
+returns c = let l = c.loop-i in sym (l.invariant ∙ rises-end c.args.b.now (c.args.from + 5 * l.i) (c.args.count - l.i) (omega arith) l.last.0)

@@ -7,15 +7,6 @@ use Rattle.wire.proofs.reader.load_number.Goals as goal
 pub bounds-b-5 : goal.bounds-b-5
 bounds-b-5 c = let s = shaped c.args.b.now c.requires in omega arith
 
-pub overflow_cast-at : goal.overflow_cast-at
-overflow_cast-at c = let s = shaped c.args.b.now c.requires in omega arith
-
-pub overflow_mul-at : goal.overflow_mul-at
-overflow_mul-at c = let s = shaped c.args.b.now c.requires in omega arith
-
-pub overflow_add-at : goal.overflow_add-at
-overflow_add-at c = let s = shaped c.args.b.now c.requires in omega arith
-
 pub bounds-b-at : goal.bounds-b-at
 bounds-b-at c =
     let s = shaped c.args.b.now c.requires in
@@ -24,17 +15,12 @@ bounds-b-at c =
 pub returns-then-b-at-eq0 : goal.returns-then-b-at-eq0
 returns-then-b-at-eq0 c = sym (no_number c.args.b.now c.if-b-at-eq0.true)
 
-pub overflow_add-at-2 : goal.overflow_add-at-2
-overflow_add-at-2 c =
-    let s = shaped c.args.b.now c.requires in
-    omega arith
-
 pub get_number-requires : goal.get_number-requires
 get_number-requires c =
     let s = shaped c.args.b.now c.requires in
     omega arith
 
-pub returns : goal.returns
-returns c =
+pub returns-else-b-at-eq0 : goal.returns-else-b-at-eq0
+returns-else-b-at-eq0 c =
     let s = shaped c.args.b.now c.requires in
     c.get_number.ensures.0 ∙ sym (a-number c.args.b.now (omega (arith, s.one, c.if-b-at-eq0.false)))

@@ -8,17 +8,17 @@ use Rattle.wire.proofs.reader.load_views.Goals as goal
 
 pub loop-i-init : goal.loop-i-init
 unfolding views_in places
-loop-i-init c = (omega arith, refl)
+loop-i-init c = refl
 
 pub loop-i-preserved : goal.loop-i-preserved
 loop-i-preserved c =
     let a = c.args in
     let l = c.loop-i in
-    (omega arith, rw (l.invariant.1, c.load_view-v.ensures) (load-turn a.b.now a.from l.i (omega arith)))
+    rw (l.invariant, c.load_view.ensures) (load-turn a.b.now a.from l.i (omega arith))
 
 pub returns : goal.returns
 returns c =
     let a = c.args in
     let l = c.loop-i in
     let past : l.i ≡ a.n = omega arith in
-    rw (length-views_in a.b.now a.from a.n, ← past) (rw l.invariant.1)
+    rw (length-views_in a.b.now a.from a.n, ← past) (rw l.invariant)

@@ -1,9 +1,6 @@
 -- A refusal is the first test that is not met: those before it were passed.
 use mathlib.Core.Path.{sym, ◌∙◌}
-use Prim.Native.Nat.{◌+◌, ◌*◌}
-use native.Mathlib.Omega.{arith}
 use borrow.Author.Tests.{le-leb, lt-leb, not-true, not-false}
-use lib.ListN.{get_or}
 use Rattle.wire.specs.Reader.{scan_of}
 use Rattle.views.proofs.VerdictLaws.{need-met, need-unmet}
 use Rattle.wire.proofs.reader.scan.Goals as goal
@@ -22,9 +19,6 @@ returns-then-size-lt-VIEWS_AT c =
     let if1 = c.if-size-lt1 in
     sym (need-met _ _ (le-leb _ _ if1.false) ∙ need-met _ _ (sym c.known.ensures ∙ not-false _ c.if-not-known.false-raw) ∙ need-unmet _ _ (lt-leb _ _ c.if-size-lt-VIEWS_AT.true))
 
-pub overflow_cast-n : goal.overflow_cast-n
-overflow_cast-n c = omega (arith, c.shared_slice_known-3-1.given 5)
-
 pub returns-then-not-views_allowed : goal.returns-then-not-views_allowed
 unfolding scan_of
 returns-then-not-views_allowed c =
@@ -32,15 +26,6 @@ returns-then-not-views_allowed c =
     let known = c.known in
     let if2 = c.if-not-known in
     sym (need-met _ _ (le-leb _ _ if1.false) ∙ need-met _ _ (sym known.ensures ∙ not-false _ if2.false-raw) ∙ need-met _ _ (le-leb _ _ c.if-size-lt-VIEWS_AT.false) ∙ need-unmet _ _ (sym c.views_allowed.ensures ∙ not-true _ c.if-not-views_allowed.true-raw))
-
-pub overflow_mul-at : goal.overflow_mul-at
-overflow_mul-at c = omega (arith, c.shared_slice_known-3-1.given 5)
-
-pub overflow_add-at : goal.overflow_add-at
-overflow_add-at c = omega (arith, c.shared_slice_known-3-1.given 5)
-
-pub overflow_add-at-2 : goal.overflow_add-at-2
-overflow_add-at-2 c = omega (arith, c.shared_slice_known-3-1.given 5)
 
 pub returns-then-size-at : goal.returns-then-size-at
 unfolding scan_of
@@ -50,11 +35,6 @@ returns-then-size-at c =
     let if2 = c.if-not-known in
     let if3 = c.if-size-lt-VIEWS_AT in
     sym (need-met _ _ (le-leb _ _ if1.false) ∙ need-met _ _ (sym known.ensures ∙ not-false _ if2.false-raw) ∙ need-met _ _ (le-leb _ _ if3.false) ∙ need-met _ _ (sym c.views_allowed.ensures ∙ not-false _ c.if-not-views_allowed.false-raw) ∙ need-unmet _ _ (lt-leb _ _ c.if-size-at.true))
-
-pub overflow_cast-m : goal.overflow_cast-m
-overflow_cast-m c =
-    let a = c.args in
-    omega (arith, c.shared_slice_known-4-1.given (6 + 5 * get_or a.b.now 5 0))
 
 pub returns-then-not-numbers_allowed : goal.returns-then-not-numbers_allowed
 unfolding scan_of
@@ -66,17 +46,6 @@ returns-then-not-numbers_allowed c =
     let va = c.views_allowed in
     let if4 = c.if-not-views_allowed in
     sym (need-met _ _ (le-leb _ _ if1.false) ∙ need-met _ _ (sym known.ensures ∙ not-false _ if2.false-raw) ∙ need-met _ _ (le-leb _ _ if3.false) ∙ need-met _ _ (sym va.ensures ∙ not-false _ if4.false-raw) ∙ need-met _ _ (le-leb _ _ c.if-size-at.false) ∙ need-unmet _ _ (sym c.numbers_allowed.ensures ∙ not-true _ c.if-not-numbers_allowed.true-raw))
-
-pub overflow_mul-m : goal.overflow_mul-m
-overflow_mul-m c =
-    let a = c.args in
-    omega (arith, c.shared_slice_known-4-1.given (6 + 5 * get_or a.b.now 5 0))
-
-pub overflow_add-at-4 : goal.overflow_add-at-4
-overflow_add-at-4 c =
-    let a = c.args in
-    let shared-slice-known3 = c.shared_slice_known-3-1 in
-    omega (arith, c.shared_slice_known-4-1.given (6 + 5 * get_or a.b.now 5 0), shared-slice-known3.given 5)
 
 pub returns-then-size-at-2 : goal.returns-then-size-at-2
 unfolding scan_of

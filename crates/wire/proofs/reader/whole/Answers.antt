@@ -10,9 +10,6 @@ use Rattle.wire.proofs.reader.whole.Goals as goal
 pub bounds-b-5 : goal.bounds-b-5
 bounds-b-5 c = let s = shaped c.args.b.now c.requires in omega arith
 
-pub overflow_cast-n : goal.overflow_cast-n
-overflow_cast-n c = let s = shaped c.args.b.now c.requires in omega arith
-
 pub some_empty-requires : goal.some_empty-requires
 some_empty-requires c = let s = shaped c.args.b.now c.requires in omega arith
 

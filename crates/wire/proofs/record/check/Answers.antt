@@ -10,9 +10,6 @@ use Rattle.wire.proofs.FrontLaws.{content-empty, content-falling, content-told, 
 use Rattle.wire.proofs.FormatLaws.{views-few}
 use Rattle.wire.proofs.record.check.Goals as goal
 
-pub overflow_cast-n : goal.overflow_cast-n
-overflow_cast-n c = omega (arith, c.shared_slice_known-3-1.given 13)
-
 pub returns-then-not-views_allowed : goal.returns-then-not-views_allowed
 returns-then-not-views_allowed c =
     let r = c.args.message.now in

@@ -1,23 +1,21 @@
 -- `record::read` meets its contract: the verdict, and then the record.
-use mathlib.Core.Path.{◌≡◌, sym, ◌∙◌}
-use Rattle.wire.specs.Single.{read_one}
-use Rattle.views.specs.Refusals.{left}
-use Rattle.views.specs.declared.refusal.Verdict.TheVariants.{Accepted, Refused}
-use Rattle.wire.proofs.RoundTrip.{read-takes-all}
+use mathlib.Core.Path.{sym, ap, ◌∙◌}
+use Rattle.views.proofs.VerdictLaws.{given-ok}
+use Rattle.wire.specs.declared.Reading.{Reading}
+use Rattle.wire.specs.Records.{record_bytes}
+use Rattle.wire.proofs.TripRead.{front-met, front-is}
 use Rattle.wire.proofs.FrontLaws.{at_front}
 use Rattle.wire.proofs.record.read.Goals as goal
 
 pub store-requires : goal.store-requires
-store-requires c = (c.requires, at_front c.args.bytes.now (sym c.verdict-v.ensures ∙ c.in-Accepted.is))
+store-requires c =
+    let b = c.args.bytes.now in
+    let (_, _, front) = at_front b (sym c.verdict.ensures ∙ c.in_ok-verdict.was) in
+    let (scan, whole) = front-met b front in
+    (c.requires, scan, whole)
 
-pub returns-in-Refused : goal.returns-in-Refused
-unfolding left
-returns-in-Refused c =
-    let e : (read_one c.args.bytes.now).verdict ≡ Refused _ = sym c.verdict-v.ensures ∙ c.in-Refused.is in
-    (sym e, rw e)
-
-pub returns-in-Accepted : goal.returns-in-Accepted
-unfolding left
-returns-in-Accepted c =
-    let e : (read_one c.args.bytes.now).verdict ≡ Accepted = sym c.verdict-v.ensures ∙ c.in-Accepted.is in
-    (sym e, rw (e, (read-takes-all _ e).0) c.store.ensures)
+pub returns : goal.returns
+returns c =
+    let b = c.args.bytes.now in
+    let (_, one, front) = at_front b (sym c.verdict.ensures ∙ c.in_ok-verdict.was) in
+    (sym (given-ok one), rw one (c.store.ensures ∙ ap (λ (r : Reading). record_bytes r.frame) (sym (front-is b front))))

@@ -1,11 +1,7 @@
 -- Each store stands just behind the bytes so far.
 use native.Mathlib.Omega.{arith}
-use lib.ListN.{length-set}
 use Rattle.wire.proofs.WriterLaws.{front-stored}
 use Rattle.wire.proofs.writer.store_front.Goals as goal
-
-pub put_number-requires : goal.put_number-requires
-put_number-requires c = simp length-set (omega arith)
 
 pub returns : goal.returns
 returns c =

@@ -21,8 +21,8 @@ returns-then-end-rest c =
     let a = c.args in
     sym (operands_short a.form a.rest.now _ c.if-form-eq0.false c.find-end.ensures c.if-end-rest.true)
 
-pub overflow_add-from : goal.overflow_add-from
-overflow_add-from c = omega (arith, find-le 32 c.args.rest.now 0)
+pub overflow_add-end : goal.overflow_add-end
+overflow_add-end c = omega (arith, find-le 32 c.args.rest.now 0)
 
 pub slice_bounds-read_numeral-end : goal.slice_bounds-read_numeral-end
 slice_bounds-read_numeral-end c = sym (length-take-le c.find-end.result c.args.rest.now (omega (arith, find-le 32 c.args.rest.now 0)))

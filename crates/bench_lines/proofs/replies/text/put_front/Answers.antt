@@ -8,4 +8,4 @@ returns-then-out-line c = wrote-short c.args.line.now c.args.out.now c.if-out-li
 pub returns : goal.returns
 returns c =
     let a = c.args in
-    wrote-whole a.line.now a.out.now _ _ c.if-out-line.false c.put-length.ensures
+    wrote-whole a.line.now a.out.now _ _ c.if-out-line.false c.put.ensures

@@ -1,50 +1,60 @@
 -- `group_steps::messages::pass::pass` meets its contract: each way out with the tests that led to it, and the entry moved. The member's book is lent as a part.
 use mathlib.Core.Path.{◌≡◌, sym, ap, ◌∙◌}
-use Prim.Native.Nat.{ℕ, ◌+◌, ◌-◌, ◌*◌, ◌<◌}
+use Prim.Native.Nat.{ℕ, ◌+◌, ◌-◌, ◌<◌}
 use native.Mathlib.Omega.{arith}
 use borrow.Author.Tests.{not-true, not-false}
 use mathlib.Core.Bool.{true}
 use mathlib.Core.Path.{ap₂}
 use mathlib.Core.List.{List}
 use lib.ListN.{get_or}
-use Rattle.views.specs.declared.refusal.Refusal.TheVariants.{NoSuchMember, NoCarrierView, NoneOutgoing, WaitingFull}
+use Rattle.std.proofs.lemmas.Result.{err_from_is_err_and}
+use Rattle.views.specs.declared.refusal.Refusal.TheVariants.{NoCarrierView, NoneOutgoing, WaitingFull}
 use Rattle.views.specs.Limits.{max_waiting}
 use Rattle.views.specs.Lists.{id_of}
-use Rattle.rules.specs.Group.{pass_step}
 use Rattle.book_bytes.specs.declared.Seat.{Seat}
 use Rattle.book_bytes.specs.Places.{book_size, outgoing_at}
 use Rattle.book_bytes.specs.Records.{record_in}
 use Rattle.book_steps.specs.Acts.{pass_bytes}
 use Rattle.group_bytes.specs.Places.{book_bytes, with_book, waiting_at}
-use Rattle.group_bytes.specs.Groups.{Ranges, views_made, place_of, group_in}
+use Rattle.group_bytes.specs.Groups.{Ranges, views_made, place_of}
 use Rattle.group_bytes.specs.Moves.{slot_added}
 use Rattle.group_bytes.proofs.BookBytes.{book-byte}
 use Rattle.group_bytes.proofs.Inside.{waiting-inside}
 use Rattle.group_bytes.proofs.PassGroup.{carried_in}
-use Rattle.group_steps.proofs.Rows.{ranged, made-rise, no_member}
-use Rattle.group_steps.proofs.PassLaws.{part-is, place_is, put_back, pass-refused, pass-accepted, no-carrier, carried-made, none-outgoing, waiting-full, pass-moves, forward-asks}
+use Rattle.group_steps.proofs.Rows.{ranged, made-rise}
+use Rattle.group_steps.proofs.OwnStepLaws.{place-found, part-room, part-is, put_back}
+use Rattle.group_steps.proofs.JoinLaws.{desk-of}
+use Rattle.group_steps.proofs.PassLaws.{place_is, pass-no-member, pass-refused, pass-accepted, no-carrier, carried-made, none-outgoing}
+use Rattle.group_steps.proofs.PassLaws.{waiting-full, pass-moves, forward-asks}
 use Rattle.group_steps.proofs.messages.pass.pass.Goals as goal
 
-pub bounds-all-0 : goal.bounds-all-0
-bounds-all-0 c =
+pub book_at-requires : goal.book_at-requires
+book_at-requires c =
     let a = c.args in
     let r : Ranges = record { list = a.list.now; books = a.all.now; queues = a.queues.now } in
-    let f = ranged r c.requires in
-    omega (arith, f.books)
+    omega (arith, (ranged r c.requires).books)
 
-pub returns-then-all-p : goal.returns-then-all-p
-returns-then-all-p c =
+pub returns-in_err-a : goal.returns-in_err-a
+returns-in_err-a c =
     let a = c.args in
     let r : Ranges = record { list = a.list.now; books = a.all.now; queues = a.queues.now } in
-    let p = a.p.0 in
-    pass-refused r p NoSuchMember (no_member r p (pass_step (group_in r) p) c.if-all-p.true)
+    let e = err_from_is_err_and c.from_residual.result c.from_residual.ensures.1 in
+    rw (e.1, e.2) (pass-no-member r a.p.0 _ c.in_err-a.ensures)
+
+pub overflow_add-e : goal.overflow_add-e
+overflow_add-e c =
+    let a = c.args in
+    let r : Ranges = record { list = a.list.now; books = a.all.now; queues = a.queues.now } in
+    omega (arith, part-room a.all.now a.p.0 c.in_ok-a.ensures (desk-of r c.requires a.p.0), (ranged r c.requires).books)
 
 pub slice_bounds-load_seat-end : goal.slice_bounds-load_seat-end
 slice_bounds-load_seat-end c =
-    let a = c.args in
+    let l = c in
+    let a = l.args in
     let r : Ranges = record { list = a.list.now; books = a.all.now; queues = a.queues.now } in
     let f = ranged r c.requires in
-    omega (arith, f.books, f.members.1)
+    let (m, at) = place-found a.all.now a.p.0 l.in_ok-a.ensures in
+    omega (arith, m, at, f.books, f.members.1)
 
 pub returns-then-not-carrier : goal.returns-then-not-carrier
 returns-then-not-carrier c =
@@ -53,9 +63,11 @@ returns-then-not-carrier c =
     let r : Ranges = record { list = a.list.now; books = a.all.now; queues = a.queues.now } in
     let h = l.requires in
     let p = a.p.0 in
-    let m = l.if-all-p.false in
+    let found = l.in_ok-a.ensures in
+    let (m, at) = place-found a.all.now a.p.0 found in
     let b = book_bytes r.books p in
-    let s : l.load_seat-carrier.result ≡ (record_in b).carrier = place_is r.books p (book_size * p + book_size - book_size * p) (omega arith) _ l.load_seat-carrier.ensures in
+    let s : l.load_seat-carrier.result ≡ (record_in b).carrier
+    = place_is r.books p found (l.in_ok-a.a + book_size - l.in_ok-a.a) (omega arith) _ l.load_seat-carrier.ensures in
     pass-refused r p NoCarrierView (no-carrier r p h m (sym (ap (λ (z : Seat). z.there) s) ∙ not-true _ c.if-not-carrier.true))
 
 pub bounds-all-a : goal.bounds-all-a
@@ -65,8 +77,9 @@ bounds-all-a c =
     let r : Ranges = record { list = a.list.now; books = a.all.now; queues = a.queues.now } in
     let h = l.requires in
     let f = ranged r h in
-    let m = l.if-all-p.false in
-    omega (arith, f.books, f.members.1)
+    let found = l.in_ok-a.ensures in
+    let (m, at) = place-found a.all.now a.p.0 found in
+    omega (arith, m, at, f.books, f.members.1)
 
 pub returns-then-all-a-eq0 : goal.returns-then-all-a-eq0
 returns-then-all-a-eq0 c =
@@ -75,11 +88,15 @@ returns-then-all-a-eq0 c =
     let r : Ranges = record { list = a.list.now; books = a.all.now; queues = a.queues.now } in
     let h = l.requires in
     let p = a.p.0 in
-    let m = l.if-all-p.false in
+    let found = l.in_ok-a.ensures in
+    let (m, at) = place-found a.all.now a.p.0 found in
     let b = book_bytes r.books p in
-    let s : l.load_seat-carrier.result ≡ (record_in b).carrier = place_is r.books p (book_size * p + book_size - book_size * p) (omega arith) _ l.load_seat-carrier.ensures in
+    let s : l.load_seat-carrier.result ≡ (record_in b).carrier
+    = place_is r.books p found (l.in_ok-a.a + book_size - l.in_ok-a.a) (omega arith) _ l.load_seat-carrier.ensures in
     let t : (record_in b).carrier.there ≡ true = sym (ap (λ (z : Seat). z.there) s) ∙ not-false _ c.if-not-carrier.false in
-    pass-refused r p NoneOutgoing (none-outgoing r p h m t (book-byte r.books p outgoing_at (omega arith) ∙ c.if-all-a-eq0.true))
+    let byte : get_or b outgoing_at 0 ≡ get_or r.books (l.in_ok-a.a + outgoing_at) 0
+    = book-byte r.books p outgoing_at (omega arith) ∙ ap (λ (j : ℕ). get_or r.books (j + outgoing_at) 0) (sym at) in
+    pass-refused r p NoneOutgoing (none-outgoing r p h m t (byte ∙ c.if-all-a-eq0.true))
 
 pub bounds-queues-0 : goal.bounds-queues-0
 bounds-queues-0 c =
@@ -88,7 +105,8 @@ bounds-queues-0 c =
     let r : Ranges = record { list = a.list.now; books = a.all.now; queues = a.queues.now } in
     let h = l.requires in
     let f = ranged r h in
-    let m = l.if-all-p.false in
+    let found = l.in_ok-a.ensures in
+    let (m, at) = place-found a.all.now a.p.0 found in
     omega (arith, f.queues)
 
 pub place-i-requires : goal.place-i-requires
@@ -98,7 +116,8 @@ place-i-requires c =
     let r : Ranges = record { list = a.list.now; books = a.all.now; queues = a.queues.now } in
     let h = l.requires in
     let f = ranged r h in
-    let m = l.if-all-p.false in
+    let found = l.in_ok-a.ensures in
+    let (m, at) = place-found a.all.now a.p.0 found in
     (omega (arith, f.made.1), made-rise r h)
 
 pub waiting_at-w-requires : goal.waiting_at-w-requires
@@ -109,9 +128,11 @@ waiting_at-w-requires c =
     let h = l.requires in
     let f = ranged r h in
     let p = a.p.0 in
-    let m = l.if-all-p.false in
+    let found = l.in_ok-a.ensures in
+    let (m, at) = place-found a.all.now a.p.0 found in
     let b = book_bytes r.books p in
-    let s : l.load_seat-carrier.result ≡ (record_in b).carrier = place_is r.books p (book_size * p + book_size - book_size * p) (omega arith) _ l.load_seat-carrier.ensures in
+    let s : l.load_seat-carrier.result ≡ (record_in b).carrier
+    = place_is r.books p found (l.in_ok-a.a + book_size - l.in_ok-a.a) (omega arith) _ l.load_seat-carrier.ensures in
     let t : (record_in b).carrier.there ≡ true = sym (ap (λ (z : Seat). z.there) s) ∙ not-false _ c.if-not-carrier.false in
     let i = place_of (id_of (carried_in b)) (views_made r) in
     let e : c.place-i.result ≡ i = c.place-i.ensures ∙ ap (λ (z : Seat). place_of (id_of z.view) (views_made r)) s in
@@ -125,9 +146,11 @@ bounds-queues-w c =
     let h = l.requires in
     let f = ranged r h in
     let p = a.p.0 in
-    let m = l.if-all-p.false in
+    let found = l.in_ok-a.ensures in
+    let (m, at) = place-found a.all.now a.p.0 found in
     let b = book_bytes r.books p in
-    let s : l.load_seat-carrier.result ≡ (record_in b).carrier = place_is r.books p (book_size * p + book_size - book_size * p) (omega arith) _ l.load_seat-carrier.ensures in
+    let s : l.load_seat-carrier.result ≡ (record_in b).carrier
+    = place_is r.books p found (l.in_ok-a.a + book_size - l.in_ok-a.a) (omega arith) _ l.load_seat-carrier.ensures in
     let t : (record_in b).carrier.there ≡ true = sym (ap (λ (z : Seat). z.there) s) ∙ not-false _ c.if-not-carrier.false in
     let i = place_of (id_of (carried_in b)) (views_made r) in
     let e : c.place-i.result ≡ i = c.place-i.ensures ∙ ap (λ (z : Seat). place_of (id_of z.view) (views_made r)) s in
@@ -141,11 +164,13 @@ returns-then-queues-w-ge-WAITING c =
     let r : Ranges = record { list = a.list.now; books = a.all.now; queues = a.queues.now } in
     let h = l.requires in
     let p = a.p.0 in
-    let m = l.if-all-p.false in
+    let found = l.in_ok-a.ensures in
+    let (m, at) = place-found a.all.now a.p.0 found in
     let b = book_bytes r.books p in
-    let s : l.load_seat-carrier.result ≡ (record_in b).carrier = place_is r.books p (book_size * p + book_size - book_size * p) (omega arith) _ l.load_seat-carrier.ensures in
+    let s : l.load_seat-carrier.result ≡ (record_in b).carrier
+    = place_is r.books p found (l.in_ok-a.a + book_size - l.in_ok-a.a) (omega arith) _ l.load_seat-carrier.ensures in
     let t : (record_in b).carrier.there ≡ true = sym (ap (λ (z : Seat). z.there) s) ∙ not-false _ c.if-not-carrier.false in
-    let o : 0 < get_or b outgoing_at 0 = omega (arith, book-byte r.books p outgoing_at (omega arith), c.if-all-a-eq0.false) in
+    let o : 0 < get_or b outgoing_at 0 = omega (arith, book-byte r.books p outgoing_at (omega arith), rw at at c.if-all-a-eq0.false) in
     let i = place_of (id_of (carried_in b)) (views_made r) in
     let e : c.place-i.result ≡ i = c.place-i.ensures ∙ ap (λ (z : Seat). place_of (id_of z.view) (views_made r)) s in
     let w : c.waiting_at-w.result ≡ waiting_at i p = c.waiting_at-w.ensures ∙ ap (λ (j : ℕ). waiting_at j p) e in
@@ -158,8 +183,9 @@ slice_bounds-forward-end c =
     let r : Ranges = record { list = a.list.now; books = a.all.now; queues = a.queues.now } in
     let h = l.requires in
     let f = ranged r h in
-    let m = l.if-all-p.false in
-    omega (arith, f.books, f.members.1)
+    let found = l.in_ok-a.ensures in
+    let (m, at) = place-found a.all.now a.p.0 found in
+    omega (arith, m, at, f.books, f.members.1)
 
 pub forward-requires : goal.forward-requires
 forward-requires c =
@@ -168,16 +194,18 @@ forward-requires c =
     let r : Ranges = record { list = a.list.now; books = a.all.now; queues = a.queues.now } in
     let h = l.requires in
     let p = a.p.0 in
-    let m = l.if-all-p.false in
+    let found = l.in_ok-a.ensures in
+    let (m, at) = place-found a.all.now a.p.0 found in
     let b = book_bytes r.books p in
-    let s : l.load_seat-carrier.result ≡ (record_in b).carrier = place_is r.books p (book_size * p + book_size - book_size * p) (omega arith) _ l.load_seat-carrier.ensures in
+    let s : l.load_seat-carrier.result ≡ (record_in b).carrier
+    = place_is r.books p found (l.in_ok-a.a + book_size - l.in_ok-a.a) (omega arith) _ l.load_seat-carrier.ensures in
     let t : (record_in b).carrier.there ≡ true = sym (ap (λ (z : Seat). z.there) s) ∙ not-false _ c.if-not-carrier.false in
-    let o : 0 < get_or b outgoing_at 0 = omega (arith, book-byte r.books p outgoing_at (omega arith), c.if-all-a-eq0.false) in
+    let o : 0 < get_or b outgoing_at 0 = omega (arith, book-byte r.books p outgoing_at (omega arith), rw at at c.if-all-a-eq0.false) in
     let i = place_of (id_of (carried_in b)) (views_made r) in
     let e : c.place-i.result ≡ i = c.place-i.ensures ∙ ap (λ (z : Seat). place_of (id_of z.view) (views_made r)) s in
     let w : c.waiting_at-w.result ≡ waiting_at i p = c.waiting_at-w.ensures ∙ ap (λ (j : ℕ). waiting_at j p) e in
     let y : get_or r.queues (waiting_at i p) 0 < max_waiting = rw w at c.if-queues-w-ge-WAITING.false in
-    rw (part-is r.books p (book_size * p + book_size - book_size * p) (omega arith), w) (forward-asks r p h m t o y)
+    rw (part-is r.books p found (l.in_ok-a.a + book_size - l.in_ok-a.a) (omega arith), w) (forward-asks r p h m t o y)
 
 pub returns : goal.returns
 returns c =
@@ -186,17 +214,19 @@ returns c =
     let r : Ranges = record { list = a.list.now; books = a.all.now; queues = a.queues.now } in
     let h = l.requires in
     let p = a.p.0 in
-    let m = l.if-all-p.false in
+    let found = l.in_ok-a.ensures in
+    let (m, at) = place-found a.all.now a.p.0 found in
     let b = book_bytes r.books p in
-    let s : l.load_seat-carrier.result ≡ (record_in b).carrier = place_is r.books p (book_size * p + book_size - book_size * p) (omega arith) _ l.load_seat-carrier.ensures in
+    let s : l.load_seat-carrier.result ≡ (record_in b).carrier
+    = place_is r.books p found (l.in_ok-a.a + book_size - l.in_ok-a.a) (omega arith) _ l.load_seat-carrier.ensures in
     let t : (record_in b).carrier.there ≡ true = sym (ap (λ (z : Seat). z.there) s) ∙ not-false _ c.if-not-carrier.false in
-    let o : 0 < get_or b outgoing_at 0 = omega (arith, book-byte r.books p outgoing_at (omega arith), c.if-all-a-eq0.false) in
+    let o : 0 < get_or b outgoing_at 0 = omega (arith, book-byte r.books p outgoing_at (omega arith), rw at at c.if-all-a-eq0.false) in
     let i = place_of (id_of (carried_in b)) (views_made r) in
     let e : c.place-i.result ≡ i = c.place-i.ensures ∙ ap (λ (z : Seat). place_of (id_of z.view) (views_made r)) s in
     let w : c.waiting_at-w.result ≡ waiting_at i p = c.waiting_at-w.ensures ∙ ap (λ (j : ℕ). waiting_at j p) e in
     let y : get_or r.queues (waiting_at i p) 0 < max_waiting = rw w at c.if-queues-w-ge-WAITING.false in
-    let part = part-is r.books p (book_size * p + book_size - book_size * p) (omega arith) in
+    let part = part-is r.books p found (l.in_ok-a.a + book_size - l.in_ok-a.a) (omega arith) in
     let done = c.forward.ensures in
-    let gone = put_back r.books p (book_size * p + book_size - book_size * p) (omega arith) _ ∙ ap (with_book r.books p) (done.0 ∙ ap pass_bytes part) in
+    let gone = put_back r.books p found (l.in_ok-a.a + book_size - l.in_ok-a.a) (omega arith) _ ∙ ap (with_book r.books p) (done.0 ∙ ap pass_bytes part) in
     let added = done.1 ∙ ap₂ (λ (j : ℕ) (z : List ℕ). slot_added r.queues j z (outgoing_at + 1)) w part in
     pass-accepted r p _ _ (pass-moves r p h m t o y) gone added

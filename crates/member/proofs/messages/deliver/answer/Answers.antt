@@ -18,7 +18,8 @@ all_fit-requires c = omega (arith, scan-size c.args.bytes.now c.requires)
 pub returns-then-not-all_fit : goal.returns-then-not-all_fit
 returns-then-not-all_fit c =
     let a = c.args in let scan = c.requires in
-    answer-unfit a.n a.v a.taken.0 a.q.0 (frame_in a.bytes.now) _ (scan-sets a.bytes.now scan a.n _ c.all_fit.ensures) c.if-not-all_fit.true-raw
+    answer-unfit a.n a.v a.taken.0 a.q.0 (frame_in a.bytes.now) _ (scan-sets a.bytes.now scan a.n _ c.all_fit.ensures)
+    c.if-not-all_fit.true-raw
 
 pub get_number-g-requires : goal.get_number-g-requires
 get_number-g-requires c = (omega (arith, scan-size c.args.bytes.now c.requires), omega arith)
@@ -26,19 +27,23 @@ get_number-g-requires c = (omega (arith, scan-size c.args.bytes.now c.requires),
 pub returns-then-g-v : goal.returns-then-g-v
 returns-then-g-v c =
     let a = c.args in let scan = c.requires in
-    answer-other a.n a.v a.taken.0 a.q.0 (frame_in a.bytes.now) _ (scan-sets a.bytes.now scan a.n _ c.all_fit.ensures) c.if-not-all_fit.false-raw (λ e. c.if-g-v.true (c.get_number-g.ensures.0 ∙ e))
+    answer-other a.n a.v a.taken.0 a.q.0 (frame_in a.bytes.now) _ (scan-sets a.bytes.now scan a.n _ c.all_fit.ensures)
+    c.if-not-all_fit.false-raw (λ e. c.if-g-v.true (c.get_number-g.ensures.0 ∙ e))
 
 pub returns-then-not-contains : goal.returns-then-not-contains
 returns-then-not-contains c =
     let a = c.args in let scan = c.requires in
-    answer-stranger a.n a.v a.taken.0 a.q.0 (frame_in a.bytes.now) _ (scan-sets a.bytes.now scan a.n _ c.all_fit.ensures) c.if-not-all_fit.false-raw (sym c.get_number-g.ensures.0 ∙ c.if-g-v.false) _ c.contains.ensures c.if-not-contains.true-raw
+    answer-stranger a.n a.v a.taken.0 a.q.0 (frame_in a.bytes.now) _ (scan-sets a.bytes.now scan a.n _ c.all_fit.ensures)
+    c.if-not-all_fit.false-raw (sym c.get_number-g.ensures.0 ∙ c.if-g-v.false) _ c.contains.ensures c.if-not-contains.true-raw
 
 pub returns-then-taken-ge-ORDERED : goal.returns-then-taken-ge-ORDERED
 returns-then-taken-ge-ORDERED c =
     let a = c.args in let scan = c.requires in
-    answer-full a.n a.v a.taken.0 a.q.0 (frame_in a.bytes.now) _ (scan-sets a.bytes.now scan a.n _ c.all_fit.ensures) c.if-not-all_fit.false-raw (sym c.get_number-g.ensures.0 ∙ c.if-g-v.false) _ c.contains.ensures c.if-not-contains.false-raw c.if-taken-ge-ORDERED.true
+    answer-full a.n a.v a.taken.0 a.q.0 (frame_in a.bytes.now) _ (scan-sets a.bytes.now scan a.n _ c.all_fit.ensures)
+    c.if-not-all_fit.false-raw (sym c.get_number-g.ensures.0 ∙ c.if-g-v.false) _ c.contains.ensures c.if-not-contains.false-raw c.if-taken-ge-ORDERED.true
 
 pub returns : goal.returns
 returns c =
     let a = c.args in let scan = c.requires in
-    answer-passes a.n a.v a.taken.0 a.q.0 (frame_in a.bytes.now) _ (scan-sets a.bytes.now scan a.n _ c.all_fit.ensures) c.if-not-all_fit.false-raw (sym c.get_number-g.ensures.0 ∙ c.if-g-v.false) _ c.contains.ensures c.if-not-contains.false-raw (omega arith)
+    sym (answer-passes a.n a.v a.taken.0 a.q.0 (frame_in a.bytes.now) _ (scan-sets a.bytes.now scan a.n _ c.all_fit.ensures)
+    c.if-not-all_fit.false-raw (sym c.get_number-g.ensures.0 ∙ c.if-g-v.false) _ c.contains.ensures c.if-not-contains.false-raw (omega arith))
