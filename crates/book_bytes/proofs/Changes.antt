@@ -4,6 +4,7 @@ use mathlib.Core.Path.{◌≡◌, sym, ◌∙◌}
 use mathlib.Core.Bool.{Bool}
 use mathlib.Core.Logic.{inl, inr}
 use mathlib.Core.List.{List}
+use Rattle.std.specs.Prelude.{Option}
 use Prim.Native.Nat.{ℕ, ◌+◌, ◌-◌, ◌≤◌, ◌<◌}
 use native.Mathlib.Decide.{ℕ_discrete}
 use native.Mathlib.Omega.{arith}
@@ -19,14 +20,13 @@ use Rattle.wire.specs.Writer.{store_view}
 use Rattle.wire.proofs.TripViews.{ViewFits}
 use Rattle.slots.proofs.Outside.{Changed, changed-within, changed_then, view-apart, set-changed, store_view-changed}
 use Rattle.slots.proofs.Stored.{view-stored}
-use Rattle.book_bytes.specs.declared.Seat.{Seat}
 use Rattle.book_bytes.specs.declared.Record.{Record}
 use Rattle.book_bytes.specs.declared.Held.{Held}
 use Rattle.book_bytes.specs.Places.{settled_at, carrier_at, client_at, registered_at, handed_at, told_at, reported_at, taken_at, infos_at, registrations_at, tolds_at, side_at, opens_at, outgoing_at, book_size}
 use Rattle.book_bytes.specs.Records.{flag_in, seat_in, record_in, store_seat, store_opens, store_held}
 use Rattle.book_bytes.proofs.LayoutLaws.{Layout}
-use Rattle.book_bytes.proofs.Fits.{OpensFit, opens-list}
-use Rattle.book_bytes.proofs.Parts.{opens_size, mark-small, seated-reads, store_seat-changed, seat-stored, opens-changed, opens-stored, opens-read}
+use Rattle.book_bytes.proofs.Fits.{OpensFit, SeatFits, opens-list}
+use Rattle.book_bytes.proofs.Parts.{opens_size, store_seat-changed, seat-stored, opens-changed, opens-stored, opens-read}
 use Rattle.book_bytes.proofs.RecordReads.{bytes-are, opens_in, tolds_in, flag-apart, seat-apart, opens-apart, tolds-apart, record-read}
 use Rattle.book_bytes.proofs.Within.{record_size, within-layout}
 
@@ -50,7 +50,7 @@ holding h v l = record {
   side = h.side;
 }
 
-abbrev pub carried : Record → Seat → Record
+abbrev pub carried : Record → Option View → Record
 carried h s = record {
   settled = h.settled;
   opens = h.opens;
@@ -107,7 +107,7 @@ module _ {b d : List ℕ} (size : book_size ≤ length b) where
       (x.below told_at (omega arith)) (x.below reported_at (omega arith)) (x.below taken_at (omega arith)) (x.below infos_at (omega arith))
       (x.below registrations_at (omega arith)) (tolds-apart x size (inl (omega arith))) (x.below side_at (omega arith))
 
-  pub carrier-read : (s : Seat) → Changed b d carrier_at 6 → seat_in d carrier_at ≡ s → record_in d ≡ carried (record_in b) s
+  pub carrier-read : (s : Option View) → Changed b d carrier_at 6 → seat_in d carrier_at ≡ s → record_in d ≡ carried (record_in b) s
   unfolding record_in
   carrier-read s x e =
       record-read d (carried (record_in b) s) (view-apart x settled_at (inl (omega arith))) (opens-apart x (inr (omega arith))) e
@@ -251,10 +251,9 @@ module _ (b : List ℕ) (size : book_size ≤ length b) where
   pub opens-set : (l : Views) → OpensFit l → record_in (store_opens b l) ≡ holding (record_in b) (record_in b).settled l
   opens-set l f = open-views-read size l (opens-changed b l size f) (opens-read (store_opens b l) l f (opens-stored b l size f))
 
-  pub carrier-set : (s : Seat) → ViewFits s.view → record_in (store_seat b carrier_at s) ≡ carried (record_in b) s
+  pub carrier-set : (s : Option View) → SeatFits s → record_in (store_seat b carrier_at s) ≡ carried (record_in b) s
   carrier-set s f =
-      carrier-read size s (store_seat-changed b carrier_at s)
-      (seated-reads (store_seat b carrier_at s) carrier_at s (seat-stored b carrier_at s f.id (omega arith)))
+      carrier-read size s (store_seat-changed b carrier_at s) (seat-stored b carrier_at s f (omega arith)).reads
 
 -- the settled view, then the open views
 module _ (b : List ℕ) (size : book_size ≤ length b) (h : Held) (settled : ViewFits h.settled) (opens : OpensFit h.opens) where
@@ -298,13 +297,11 @@ module _ (b : List ℕ) (size : book_size ≤ length b) (h : Held) (settled : Vi
 pub settled-within : (b : List ℕ) (v : View) → Changed b (store_view b settled_at v) settled_at record_size
 settled-within b v = changed-within settled_at record_size (omega arith) (omega arith) (store_view-changed b settled_at v)
 
-pub carrier-within : (b : List ℕ) (s : Seat) → Changed b (store_seat b carrier_at s) settled_at record_size
+pub carrier-within : (b : List ℕ) (s : Option View) → Changed b (store_seat b carrier_at s) settled_at record_size
 carrier-within b s = changed-within settled_at record_size (omega arith) (omega arith) (store_seat-changed b carrier_at s)
 
-pub carrier-layout : (b : List ℕ) (s : Seat) → ViewFits s.view → Layout b → Layout (store_seat b carrier_at s)
+pub carrier-layout : (b : List ℕ) (s : Option View) → SeatFits s → Layout b → Layout (store_seat b carrier_at s)
 carrier-layout b s f l =
     let c = store_seat-changed b carrier_at s in
-    let m : get_or (store_seat b carrier_at s) carrier_at 0 ≤ 1 =
-    rw (seat-stored b carrier_at s f.id (omega (arith, l.size))).mark (mark-small s.there) in
-    within-layout (carrier-within b s) l m (rw (c.past client_at (omega arith)) l.client)
+    within-layout (carrier-within b s) l (seat-stored b carrier_at s f (omega (arith, l.size))).mark (rw (c.past client_at (omega arith)) l.client)
     (rw (c.past registered_at (omega arith)) l.registered) (rw (c.past side_at (omega arith)) l.side) (rw (c.past opens_at (omega arith)) l.opens)

@@ -3,7 +3,8 @@ use mathlib.Core.Path.{◌≡◌, refl, sym, ap, ◌∙◌}
 use mathlib.Core.Bool.{Bool, true, false}
 use mathlib.Core.Logic.{inl}
 use mathlib.Core.List.{List}
-use Prim.Native.Nat.{ℕ, ◌+◌, ◌-◌, ◌*◌, ◌^◌, ◌≤◌, ◌<◌, min}
+use Rattle.std.specs.Prelude.{Option, Some, None}
+use Prim.Native.Nat.{ℕ, ◌+◌, ◌-◌, ◌*◌, ◌≤◌, ◌<◌, min}
 use native.Mathlib.Nat.{zero-add}
 use native.Mathlib.Omega.{arith}
 use lib.Dec.{eqb}
@@ -12,16 +13,15 @@ use lib.Seq.{paste, get_or-set_same}
 use Rattle.views.specs.declared.View.{View}
 use Rattle.views.specs.declared.list.Views.{Views}
 use Rattle.views.specs.Limits.{max_members, max_open}
-use Rattle.views.specs.Lists.{id_of, list_of, placed}
+use Rattle.views.specs.Lists.{list_of, placed}
 use Rattle.wire.specs.Reader.{view_in, views_in}
 use Rattle.slots.proofs.Outside.{Changed, changed-within, changed_then, view-apart, set-changed, store_view-changed, store_views-changed, copy-changed, copy-same}
 use Rattle.slots.proofs.Stored.{view-stored, views-stored}
 use Rattle.wire.specs.Writer.{store_view}
-use Rattle.book_bytes.specs.declared.Seat.{Seat}
 use Rattle.book_bytes.specs.declared.Record.{Record}
 use Rattle.book_bytes.specs.Places.{settled_at, carrier_at, client_at, registered_at, handed_at, told_at, reported_at, taken_at, infos_at, registrations_at, tolds_at, side_at, opens_at, outgoing_at, book_size}
 use Rattle.book_bytes.specs.Records.{flag, seat_in, store_seat, store_seats, store_counts, store_notes, store_opens}
-use Rattle.book_bytes.proofs.Fits.{OpensFit, Fits, opens-list, opens-count}
+use Rattle.book_bytes.proofs.Fits.{OpensFit, SeatFits, Fits, opens-list, opens-count}
 
 -- ---- how many bytes each part has
 
@@ -39,10 +39,10 @@ opens_size = outgoing_at - opens_at
 
 -- ---- what the bytes hold of a record
 
--- a mark and a view at a place
-pub record Seated (b : List ℕ) (at : ℕ) (s : Seat) : Type 0 where
-  pub mark : get_or b at 0 ≡ flag s.there
-  pub view : view_in b (at + 1) ≡ s.view
+-- a view or none at a place, behind a mark of 0 or 1
+pub record Seated (b : List ℕ) (at : ℕ) (s : Option View) : Type 0 where
+  pub mark : get_or b at 0 ≤ 1
+  pub reads : seat_in b at ≡ s
 
 pub record Seats (b : List ℕ) (h : Record) : Type 0 where
   pub settled : view_in b settled_at ≡ h.settled
@@ -77,28 +77,28 @@ pub mark-small : (x : Bool) → flag x ≤ 1
 mark-small true = omega arith
 mark-small false = omega arith
 
-pub seated-reads : (b : List ℕ) (at : ℕ) (s : Seat) → Seated b at s → seat_in b at ≡ s
-seated-reads b at s p = rw (p.mark, mark-reads s.there, p.view)
+pub store_seat-changed : (b : List ℕ) (at : ℕ) (s : Option View) → Changed b (store_seat b at s) at 6
+store_seat-changed b at (Some v) =
+    changed_then (changed-within at 6 (omega arith) (omega arith) (set-changed b at 1))
+    (changed-within at 6 (omega arith) (omega arith) (store_view-changed (set b at 1) (at + 1) v))
+store_seat-changed b at None = changed-within at 6 (omega arith) (omega arith) (set-changed b at 0)
 
-pub store_seat-changed : (b : List ℕ) (at : ℕ) (s : Seat) → Changed b (store_seat b at s) at 6
-store_seat-changed b at s =
-    changed_then (changed-within at 6 (omega arith) (omega arith) (set-changed b at (flag s.there)))
-    (changed-within at 6 (omega arith) (omega arith) (store_view-changed (set b at (flag s.there)) (at + 1) s.view))
-
-pub seat-stored : (b : List ℕ) (at : ℕ) (s : Seat) → id_of s.view < 256 ^ 4 → at + 6 ≤ length b → Seated (store_seat b at s) at s
-seat-stored b at s f h =
-    let m = flag s.there in
-    record {
-      mark = (store_view-changed (set b at m) (at + 1) s.view).below at (omega arith) ∙ get_or-set_same b at m 0 (omega arith);
-      view = view-stored (set b at m) (at + 1) s.view f (omega (arith, length-set b at m));
-    }
+pub seat-stored : (b : List ℕ) (at : ℕ) (s : Option View) → SeatFits s → at + 6 ≤ length b → Seated (store_seat b at s) at s
+seat-stored b at (Some v) f h =
+    let m : get_or (store_seat b at (Some v)) at 0 ≡ 1 =
+    (store_view-changed (set b at 1) (at + 1) v).below at (omega arith) ∙ get_or-set_same b at 1 0 (omega arith) in
+    record { mark = omega (arith, m); reads = rw (m, view-stored (set b at 1) (at + 1) v f.id (omega (arith, length-set b at 1))) }
+seat-stored b at None f h =
+    let m : get_or (set b at 0) at 0 ≡ 0 = get_or-set_same b at 0 0 (omega arith) in
+    record { mark = omega (arith, m); reads = rw m }
 
 -- ---- a change behind a part keeps it
 
 module _ {b d : List ℕ} {at n : ℕ} (x : Changed b d at n) where
-  pub seated-kept : (from : ℕ) (s : Seat) → from + 6 ≤ at → Seated b from s → Seated d from s
+  pub seated-kept : (from : ℕ) (s : Option View) → from + 6 ≤ at → Seated b from s → Seated d from s
   seated-kept from s h p =
-      record { mark = x.below from (omega arith) ∙ p.mark; view = view-apart x (from + 1) (inl (omega arith)) ∙ p.view }
+      let m : get_or d from 0 ≡ get_or b from 0 = x.below from (omega arith) in
+      record { mark = rw m p.mark; reads = rw (m, view-apart x (from + 1) (inl (omega arith))) p.reads }
 
   module _ (h : Record) where
     pub seats-kept : registered_at ≤ at → Seats b h → Seats d h
@@ -152,12 +152,12 @@ module _ (b : List ℕ) (h : Record) (size : book_size ≤ length b) (fits : Fit
 
   client-seated : Seated (store_seats b h) client_at h.client
   unfolding store_seats
-  client-seated = seat-stored carried client_at h.client fits.client.id (omega (arith, first.long, second.long))
+  client-seated = seat-stored carried client_at h.client fits.client (omega (arith, first.long, second.long))
 
   pub seats-stored : Seats (store_seats b h) h
   seats-stored = record {
     settled = view-apart third settled_at (inl (omega arith)) ∙ view-apart second settled_at (inl (omega arith)) ∙ view-stored b settled_at h.settled fits.settled.id (omega arith);
-    carrier = seated-kept third carrier_at h.carrier (omega arith) (seat-stored settled carrier_at h.carrier fits.carrier.id (omega (arith, first.long)));
+    carrier = seated-kept third carrier_at h.carrier (omega arith) (seat-stored settled carrier_at h.carrier fits.carrier (omega (arith, first.long)));
     client = client-seated;
   }
 

@@ -1,22 +1,23 @@
 -- Bytes stay bytes where a record is stored, or a part of it.
 use mathlib.Core.Bool.{Bool}
 use mathlib.Core.List.{List}
+use Rattle.std.specs.Prelude.{Option, Some, None}
 use Prim.Native.Nat.{ℕ, ◌+◌, ◌<◌}
 use native.Mathlib.Omega.{arith}
 use lib.ListN.{set, drop}
 use lib.Seq.{paste}
+use Rattle.views.specs.declared.View.{View}
 use Rattle.views.specs.declared.list.Views.{Views}
 use Rattle.views.specs.Limits.{max_members}
 use Rattle.views.specs.Lists.{list_of}
 use Rattle.wire.proofs.TripViews.{ViewFits, AreBytes}
 use Rattle.slots.proofs.BytesKept.{SetsAreBytes, take-bytes, drop-bytes, paste_bytes, set-bytes, store_view-bytes, store_views-bytes}
 use Rattle.wire.specs.Writer.{store_view}
-use Rattle.book_bytes.specs.declared.Seat.{Seat}
 use Rattle.book_bytes.specs.declared.Record.{Record}
 use Rattle.book_bytes.specs.declared.Held.{Held}
 use Rattle.book_bytes.specs.Places.{settled_at, carrier_at, client_at, registered_at, handed_at, told_at, reported_at, taken_at, infos_at, registrations_at, tolds_at, side_at, opens_at}
 use Rattle.book_bytes.specs.Records.{flag, record_in, store_seat, store_seats, store_counts, store_notes, store_opens, store_held, store_record}
-use Rattle.book_bytes.proofs.Fits.{OpensFit, Fits, opens-list, opens-count}
+use Rattle.book_bytes.proofs.Fits.{OpensFit, SeatFits, Fits, opens-list, opens-count}
 use Rattle.book_bytes.proofs.Parts.{mark-small}
 
 -- the told counts that bytes hold are bytes
@@ -27,9 +28,9 @@ tolds-bytes b y = take-bytes max_members (drop tolds_at b) (drop-bytes tolds_at 
 mark-byte : (x : Bool) → flag x < 256
 mark-byte x = omega (arith, mark-small x)
 
-pub store_seat-bytes : (b : List ℕ) (at : ℕ) (s : Seat) → AreBytes b → s.view.set < 256 → AreBytes (store_seat b at s)
-store_seat-bytes b at s y h =
-    store_view-bytes (set b at (flag s.there)) (at + 1) s.view (set-bytes b at (flag s.there) y (mark-byte s.there)) h
+pub store_seat-bytes : (b : List ℕ) (at : ℕ) (s : Option View) → AreBytes b → SeatFits s → AreBytes (store_seat b at s)
+store_seat-bytes b at (Some v) y f = store_view-bytes (set b at 1) (at + 1) v (set-bytes b at 1 y (omega arith)) f.set
+store_seat-bytes b at None y f = set-bytes b at 0 y (omega arith)
 
 module _ (b : List ℕ) (h : Record) (y : AreBytes b) (fits : Fits h) where
   store_seats-bytes : AreBytes (store_seats b h)
@@ -38,8 +39,8 @@ module _ (b : List ℕ) (h : Record) (y : AreBytes b) (fits : Fits h) where
       let b1 = store_view b settled_at h.settled in
       let b2 = store_seat b1 carrier_at h.carrier in
       store_seat-bytes b2 client_at h.client
-      (store_seat-bytes b1 carrier_at h.carrier (store_view-bytes b settled_at h.settled y fits.settled.set) fits.carrier.set)
-      fits.client.set
+      (store_seat-bytes b1 carrier_at h.carrier (store_view-bytes b settled_at h.settled y fits.settled.set) fits.carrier)
+      fits.client
 
   store_counts-bytes : AreBytes (store_counts b h)
   unfolding store_counts

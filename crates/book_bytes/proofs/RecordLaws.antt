@@ -8,12 +8,12 @@ use Rattle.views.specs.Limits.{max_members}
 use Rattle.views.specs.Lists.{list_of}
 use Rattle.slots.proofs.Outside.{Changed, changed-within, changed_then}
 use Rattle.book_bytes.specs.declared.Record.{Record}
-use Rattle.book_bytes.specs.Places.{members_at, self_at, settled_at, carrier_at, client_at, registered_at, infos_at, tolds_at, opens_at, book_size}
+use Rattle.book_bytes.specs.Places.{members_at, self_at, settled_at, registered_at, infos_at, tolds_at, opens_at, book_size}
 use Rattle.book_bytes.specs.Records.{record_in, meaning, store_seats, store_counts, store_notes, store_record}
 use Rattle.book_bytes.specs.Books.{outgoing_in, inward_in, book_in}
 use Rattle.book_bytes.proofs.LayoutLaws.{Layout}
 use Rattle.book_bytes.proofs.Fits.{Fits, opens-list}
-use Rattle.book_bytes.proofs.Parts.{seats_size, counts_size, notes_size, opens_size, Seats, Counts, Notes, Opens, mark-reads, mark-small, seated-reads, seats-kept, counts-kept, notes-kept, seats-changed, seats-stored, counts-changed, counts-stored, notes-changed, notes-stored, opens-changed, opens-stored, opens-read}
+use Rattle.book_bytes.proofs.Parts.{seats_size, counts_size, notes_size, opens_size, Seats, Counts, Notes, Opens, mark-reads, mark-small, seats-kept, counts-kept, notes-kept, seats-changed, seats-stored, counts-changed, counts-stored, notes-changed, notes-stored, opens-changed, opens-stored, opens-read}
 use Rattle.book_bytes.proofs.RecordReads.{bytes-are, record-read}
 use Rattle.book_bytes.proofs.Within.{record_size, within-members, within-self, within-book, within-layout}
 
@@ -86,7 +86,7 @@ module _ (b : List ℕ) (h : Record) (size : length b ≡ book_size) (fits : Fit
       let c = record-counts in
       let n = record-notes in
       record-read (store_record b h) h s.settled (opens-read (store_record b h) h.opens fits.opens record-opens)
-      (seated-reads (store_record b h) carrier_at h.carrier s.carrier) (seated-reads (store_record b h) client_at h.client s.client)
+      s.carrier.reads s.client.reads
       (rw c.registered (mark-reads h.registered)) c.handed c.told c.reported c.taken n.infos n.registrations tolds-back n.side
 
   -- ---- what stays
@@ -107,6 +107,5 @@ module _ (b : List ℕ) (h : Record) (size : length b ≡ book_size) (fits : Fit
 
   pub layout-stored : Layout b → h.side ≤ 1 → Layout (store_record b h)
   layout-stored l s =
-      within-layout record-changed l (rw record-seats.carrier.mark (mark-small h.carrier.there))
-      (rw record-seats.client.mark (mark-small h.client.there)) (rw record-counts.registered (mark-small h.registered))
+      within-layout record-changed l record-seats.carrier.mark record-seats.client.mark (rw record-counts.registered (mark-small h.registered))
       (rw record-notes.side s) (rw (record-opens.count, opens-list h.opens fits.opens) fits.opens.few)

@@ -10,7 +10,6 @@ use Rattle.wire.specs.Reader.{view_in, views_in}
 use Rattle.wire.specs.Writer.{store_view, store_views}
 use Rattle.rules.specs.Data as R
 use Rattle.rules.specs.Data.{Entry, Item}
-use Rattle.book_bytes.specs.declared.Seat.{Seat}
 use Rattle.book_bytes.specs.declared.Record.{Record}
 use Rattle.book_bytes.specs.declared.Current.{Current}
 use Rattle.book_bytes.specs.declared.Held.{Held}
@@ -19,15 +18,12 @@ use Rattle.book_bytes.specs.Places.{taken_at, infos_at, registrations_at, tolds_
 
 -- ---- which book it is
 
-abbrev pub seated : Seat → Option View
-seated s = cond s.there (Some s.view) None
-
 -- with the outgoing queue, the client view's inward list, and that of a carrier view not attempted
 abbrev pub meaning : Record → List Entry → List (Item ℕ) → List (Item ℕ) → R.Book
 meaning h out own new = record {
   held = record { settled = h.settled; opens = list_of h.opens };
   carrier = record {
-    view = seated h.carrier;
+    view = h.carrier;
     infos = has h.infos;
     registrations = has h.registrations;
     tolds = λ q. get_or h.tolds q 0;
@@ -35,7 +31,7 @@ meaning h out own new = record {
     inward = new;
   };
   client = record {
-    view = seated h.client;
+    view = h.client;
     registered = h.registered;
     inward = own;
     handed = h.handed.0;
@@ -50,8 +46,9 @@ meaning h out own new = record {
 abbrev pub flag_in : List ℕ → ℕ → Bool
 flag_in b at = eqb (get_or b at 0) 1
 
-abbrev pub seat_in : List ℕ → ℕ → Seat
-seat_in b at = record { there = flag_in b at; view = view_in b (at + 1) }
+-- a view, or none
+abbrev pub seat_in : List ℕ → ℕ → Option View
+seat_in b at = cond (flag_in b at) (Some (view_in b (at + 1))) None
 
 unfoldable pub record_in : List ℕ → Record
 record_in b = record {
@@ -100,8 +97,10 @@ held_in b = held_of (record_in b)
 abbrev pub flag : Bool → ℕ
 flag b = cond b 1 0
 
-abbrev pub store_seat : List ℕ → ℕ → Seat → List ℕ
-store_seat b at s = store_view (set b at (flag s.there)) (at + 1) s.view
+-- where there is no view, what stands in its place stays
+abbrev pub store_seat : List ℕ → ℕ → Option View → List ℕ
+store_seat b at (Some v) = store_view (set b at 1) (at + 1) v
+store_seat b at None = set b at 0
 
 -- the views, then the counts and the notes, then the open views
 unfoldable pub store_seats : List ℕ → Record → List ℕ

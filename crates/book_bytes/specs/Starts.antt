@@ -1,18 +1,19 @@
 -- What a start leaves in a member's book: every byte of it.
-use Rattle.std.specs.Prelude.{List, [], ℕ, length, set, replicate}
+use Rattle.std.specs.Prelude.{cond, List, [], ℕ, ◌+◌, length, set, replicate, Option, None, Some}
+use Rattle.views.specs.declared.View.{View}
+use Rattle.wire.specs.Writer.{store_view}
 use Rattle.views.specs.Limits.{max_members}
 use Rattle.views.specs.Sets.{has}
 use Rattle.views.specs.Lists.{placed}
 use Rattle.rules.specs.Data.{Member}
 use Rattle.rules.specs.Group.{first_view}
-use Rattle.book_bytes.specs.declared.Seat.{Seat}
 use Rattle.book_bytes.specs.declared.Record.{Record}
-use Rattle.book_bytes.specs.Places.{members_at, self_at}
+use Rattle.book_bytes.specs.Places.{members_at, self_at, carrier_at, client_at}
 use Rattle.book_bytes.specs.Records.{store_record}
 
 -- the first view is there for its members
-abbrev pub first_seat : ℕ → Member → Seat
-first_seat S p = record { there = has S p; view = first_view S }
+abbrev pub first_seat : ℕ → Member → Option View
+first_seat S p = cond (has S p) (Some (first_view S)) None
 
 abbrev pub fresh_record : ℕ → Member → Record
 fresh_record S p = record {
@@ -31,6 +32,11 @@ fresh_record S p = record {
   side = 0;
 }
 
--- zero everywhere but for the members, the own number and the record
+-- the first view stands in the places of the carrier and the client view, also where the member is not in it
+abbrev pub first_placed : ℕ → List ℕ → List ℕ
+first_placed S b = store_view (store_view b (carrier_at + 1) (first_view S)) (client_at + 1) (first_view S)
+
+-- zero everywhere but for these, the members, the own number and the record
 unfoldable pub start_bytes : ℕ → ℕ → Member → List ℕ → List ℕ
-start_bytes n S p b = store_record (set (set (replicate (length b) 0) members_at n) self_at p) (fresh_record S p)
+start_bytes n S p b =
+    store_record (first_placed S (set (set (replicate (length b) 0) members_at n) self_at p)) (fresh_record S p)

@@ -3,7 +3,7 @@ ghost use Rattle.std.specs.Prelude.{◌≡◌, length, replicate, set, ◌≤◌
 ghost use Rattle.book_bytes.specs.Starts.{fresh_record, start_bytes};
 ghost use Rattle.book_bytes.specs.Places.{members_at, self_at, book_size};
 
-use crate::{Record, Seat};
+use crate::Record;
 use views::list::Views;
 use views::{Member, Position, View, ViewId, limits};
 
@@ -13,7 +13,7 @@ pub fn record(set: u8, own: Member) -> Record
 {
     let there = sets::contains(set, own);
     let view = View { id: ViewId(0), set };
-    let seat = Seat { there, view };
+    let seat = if there { Some(view) } else { None };
     let none = View {
         id: ViewId(0),
         set: 0,
@@ -55,5 +55,9 @@ pub fn book(b: &mut [u8], members: u8, set: u8, own: Member)
 {
     wire::writer::clear(b);
     put_numbers(b, members, own);
+    // Where the member is not in the first view, its places have the view all the same.
+    let view = View { id: ViewId(0), set };
+    wire::writer::store_view(b, crate::CARRIER + 1, view);
+    wire::writer::store_view(b, crate::CLIENT + 1, view);
     crate::store(b, record(set, own));
 }

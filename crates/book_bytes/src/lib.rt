@@ -12,20 +12,13 @@ ghost use Rattle.book_bytes.specs.Records.{store_counts, store_notes, store_open
 use views::list::Views;
 use views::{Position, View, limits, sizes};
 
-// A view or none. Without a view, what `view` holds means nothing.
-#[derive(Clone, Copy)]
-pub struct Seat {
-    pub there: bool,
-    pub view: View,
-}
-
 // The small record of a book: what is held, the carrier and the client view with what is noted and counted in them.
 #[derive(Clone, Copy)]
 pub struct Record {
     pub settled: View,
     pub opens: Views,
-    pub carrier: Seat,
-    pub client: Seat,
+    pub carrier: Option<View>,
+    pub client: Option<View>,
     pub registered: bool,
     pub handed: Position,
     pub told: Position,
@@ -42,8 +35,8 @@ pub struct Record {
 // The small record without the views held.
 #[derive(Clone, Copy)]
 pub struct Current {
-    pub carrier: Seat,
-    pub client: Seat,
+    pub carrier: Option<View>,
+    pub client: Option<View>,
     pub registered: bool,
     pub handed: Position,
     pub told: Position,
@@ -106,13 +99,14 @@ pub const APART: usize = slots::inward::SIZE;
 pub const SIZE: usize = INWARD + APART * 2;
 
 // A view or none at a place.
-pub fn load_seat(b: &[u8], at: usize) -> Seat
+pub fn load_seat(b: &[u8], at: usize) -> Option<View>
     requires { at + seat_size ≤ length b.now }
     ensures { result ≡ seat_in b.now at }
 {
-    Seat {
-        there: b[at] == 1,
-        view: wire::reader::load_view(b, at + 1),
+    if b[at] == 1 {
+        Some(wire::reader::load_view(b, at + 1))
+    } else {
+        None
     }
 }
 
@@ -184,13 +178,18 @@ pub fn load(b: &[u8]) -> Record
     }
 }
 
-// A view or none is stored at a place.
-pub fn store_seat(b: &mut [u8], at: usize, seat: Seat)
+// A view or none is stored at a place; without one what stands there stays.
+pub fn store_seat(b: &mut [u8], at: usize, seat: Option<View>)
     requires { at + seat_size ≤ length b.old }
     ensures { b.new ≡ store_seat b.old at seat }
 {
-    b[at] = u8::from(seat.there);
-    wire::writer::store_view(b, at + 1, seat.view);
+    match seat {
+        Some(view) => {
+            b[at] = 1;
+            wire::writer::store_view(b, at + 1, view);
+        }
+        None => b[at] = 0,
+    }
 }
 
 fn store_seats(b: &mut [u8], h: Record)

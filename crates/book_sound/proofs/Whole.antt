@@ -25,7 +25,7 @@ use Rattle.slots.proofs.Lists.{length-entries}
 use Rattle.slots.proofs.Items.{length-items}
 use Rattle.book_bytes.specs.declared.Record.{Record}
 use Rattle.book_bytes.specs.Places.{members_at, side_at, opens_at, outgoing_at, inward_at}
-use Rattle.book_bytes.specs.Records.{seated, meaning, record_in}
+use Rattle.book_bytes.specs.Records.{meaning, record_in}
 use Rattle.book_bytes.specs.Books.{outgoing_in, inward_in, book_in, layout_fits, bytes_sound}
 use Rattle.book_bytes.proofs.LayoutLaws.{Layout, layout-says}
 use Rattle.book_sound.specs.EntryParts.{entry_sound}
@@ -66,16 +66,16 @@ length-cond false l m = refl
 module _ (n : ℕ) (h : Record) (out : List Entry) (own new : List (Item ℕ))
     (opens-few : length (list_of h.opens) ≤ max_open) (out-few : length out ≤ max_outgoing) (own-few : length own ≤ max_ordered) (new-few : length new ≤ max_ordered) where
   abbrev same : Bool
-  same = eqb (rank (seated h.client)) (rank (seated h.carrier))
+  same = eqb (rank h.client) (rank h.carrier)
 
   abbrev queues : Bool
   queues = conditions (all (entry_sound n) out ∷ all (item_from_member n) own ∷ all (item_from_member n) new ∷ [])
 
-  carrier-limit : limit_at (seated h.carrier) (cond same own new) ≡ limit_if (seated h.carrier) (cond same (length own) (length new))
-  carrier-limit = limit-length (seated h.carrier) (cond same own new) ∙ ap (limit_if (seated h.carrier)) (length-cond same own new)
+  carrier-limit : limit_at h.carrier (cond same own new) ≡ limit_if h.carrier (cond same (length own) (length new))
+  carrier-limit = limit-length h.carrier (cond same own new) ∙ ap (limit_if h.carrier) (length-cond same own new)
 
-  client-limit : limit_at (seated h.client) own ≡ limit_if (seated h.client) (length own)
-  client-limit = limit-length (seated h.client) own
+  client-limit : limit_at h.client own ≡ limit_if h.client (length own)
+  client-limit = limit-length h.client own
 
   parts_from : book_sound n (meaning h out own new) ≡ true → both (record_sound n h (length own) (length new)) queues ≡ true
   unfolding book_sound book_counts record_sound

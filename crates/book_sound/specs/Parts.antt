@@ -8,7 +8,6 @@ use Rattle.rules.specs.Sound.{within, conditions, set_fits, item_from_member}
 use Rattle.rules.specs.Alone.{limit_if, set_fits_if}
 use Rattle.book_sound.specs.EntryParts.{entry_sound}
 use Rattle.book_bytes.specs.declared.Record.{Record}
-use Rattle.book_bytes.specs.Records.{seated}
 use Rattle.book_bytes.specs.Places.{carrier_at, client_at, registered_at, side_at, opens_at, outgoing_at, inward_at}
 use Rattle.book_bytes.specs.Books.{outgoing_in, inward_in}
 
@@ -18,40 +17,40 @@ unfoldable pub record_sound : ℕ → Record → ℕ → ℕ → Bool
 record_sound n h own new = conditions (
     within 1 n max_members
     ∷ every n (λ q. leb (get_or h.tolds q 0) max_ordered)
-    ∷ leb h.taken.0 (limit_if (seated h.carrier) max_ordered)
-    ∷ leb (limit_if (seated h.carrier) (cond (eqb (rank (seated h.client)) (rank (seated h.carrier))) own new))
+    ∷ leb h.taken.0 (limit_if h.carrier max_ordered)
+    ∷ leb (limit_if h.carrier (cond (eqb (rank h.client) (rank h.carrier)) own new))
     h.taken.0
-    ∷ leb h.handed.0 (limit_if (seated h.client) own)
-    ∷ leb h.told.0 (limit_if (seated h.client) own)
-    ∷ leb h.reported.0 (limit_if (seated h.client) own)
+    ∷ leb h.handed.0 (limit_if h.client own)
+    ∷ leb h.told.0 (limit_if h.client own)
+    ∷ leb h.reported.0 (limit_if h.client own)
     ∷ all (set_fits n) (h.settled ∷ list_of h.opens)
-    ∷ set_fits_if n (seated h.carrier)
-    ∷ set_fits_if n (seated h.client)
+    ∷ set_fits_if n h.carrier
+    ∷ set_fits_if n h.client
     ∷ rises_above (id_of h.settled) (list_of h.opens)
     ∷ [])
 
 -- what is asked of the position in the carrier view's order
 unfoldable pub taken_fits : Record → ℕ → ℕ → Bool
 taken_fits h own new = conditions (
-    leb h.taken.0 (limit_if (seated h.carrier) max_ordered)
-    ∷ leb (limit_if (seated h.carrier) (cond (eqb (rank (seated h.client)) (rank (seated h.carrier))) own new))
+    leb h.taken.0 (limit_if h.carrier max_ordered)
+    ∷ leb (limit_if h.carrier (cond (eqb (rank h.client) (rank h.carrier)) own new))
     h.taken.0
     ∷ [])
 
 -- of the positions in the client view's inward list
 unfoldable pub positions_fit : Record → ℕ → Bool
 positions_fit h own = conditions (
-    leb h.handed.0 (limit_if (seated h.client) own)
-    ∷ leb h.told.0 (limit_if (seated h.client) own)
-    ∷ leb h.reported.0 (limit_if (seated h.client) own)
+    leb h.handed.0 (limit_if h.client own)
+    ∷ leb h.told.0 (limit_if h.client own)
+    ∷ leb h.reported.0 (limit_if h.client own)
     ∷ [])
 
 -- of the views
 unfoldable pub views_sound : ℕ → Record → Bool
 views_sound n h = conditions (
     all (set_fits n) (h.settled ∷ list_of h.opens)
-    ∷ set_fits_if n (seated h.carrier)
-    ∷ set_fits_if n (seated h.client)
+    ∷ set_fits_if n h.carrier
+    ∷ set_fits_if n h.client
     ∷ rises_above (id_of h.settled) (list_of h.opens)
     ∷ [])
 

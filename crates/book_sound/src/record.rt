@@ -4,16 +4,15 @@ ghost use Rattle.views.specs.Limits.{max_ordered, max_open};
 ghost use Rattle.rules.specs.Alone.{set_fits_if, limit_if};
 ghost use Rattle.rules.specs.Member.{every};
 ghost use Rattle.book_sound.specs.Parts.{taken_fits, positions_fit, views_sound, record_sound};
-ghost use Rattle.book_bytes.specs.Records.{seated, seat_in, record_in};
+ghost use Rattle.book_bytes.specs.Records.{seat_in, record_in};
 ghost use Rattle.book_bytes.specs.Places.{seat_size, book_size, opens_at};
 
-use book_bytes::Seat;
-use views::{limits, sizes};
+use views::{View, limits, sizes};
 
 // The set of the view at a place, if there is one, fits n members.
 fn seat_fits(b: &[u8], at: usize, n: u8) -> bool
     requires { at + seat_size ≤ length b.now }
-    ensures { result ≡ set_fits_if n (seated (seat_in b.now at)) }
+    ensures { result ≡ set_fits_if n (seat_in b.now at) }
 {
     b[at] != 1 || sets::fits(n, b[at + 1 + sizes::IDENTIFIER])
 }
@@ -29,10 +28,10 @@ fn tolds_fit(n: u8, tolds: [u8; 8]) -> bool
 }
 
 // A limit that holds only where there is a view; without one it is 0.
-fn limit_if(seat: Seat, k: u8) -> u8
-    ensures { result ≡ limit_if (seated seat) k }
+fn limit_if(seat: Option<View>, k: u8) -> u8
+    ensures { result ≡ limit_if seat k }
 {
-    if seat.there { k } else { 0 }
+    if seat.is_some() { k } else { 0 }
 }
 
 // The position in the carrier view's order, with so many items in the two inward lists.

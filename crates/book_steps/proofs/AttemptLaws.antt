@@ -13,10 +13,10 @@ use Rattle.views.specs.declared.list.Views.{Views}
 use Rattle.views.specs.declared.refusal.Refusal.{Refusal}
 use Rattle.views.specs.Refusals.{Verdict, require, and_then}
 use Rattle.views.specs.Refusals.{after as then}
-use Rattle.std.specs.Prelude.{Some, Ok, Err}
+use Rattle.std.specs.Prelude.{option_map, unwrap_or, Ok, Err}
 use Rattle.views.specs.Limits.{max_open}
 use Rattle.views.specs.Sets.{one}
-use Rattle.views.specs.Lists.{id_of, list_of, placed, insert_of}
+use Rattle.views.specs.Lists.{no_view, id_of, list_of, placed, insert_of}
 use Rattle.views.proofs.ListLaws.{insert-union, length_union}
 use Rattle.views.proofs.PlaceLaws.{list-placed}
 use Rattle.wire.specs.Reader.{views_in}
@@ -30,7 +30,7 @@ use Rattle.book_bytes.specs.Records.{record_in, store_record}
 use Rattle.book_bytes.specs.Books.{outgoing_in, inward_in, book_in, members_in, own_in_book}
 use Rattle.record_steps.specs.Turns.{opened_to, attempted_at, attempt_turn}
 use Rattle.record_steps.proofs.MeaningVerdicts.{attempt-verdict}
-use Rattle.record_steps.proofs.MeaningMarks.{seated-view, attempt-leaves}
+use Rattle.record_steps.proofs.MeaningMarks.{attempt-leaves}
 use Rattle.events.specs.declared.Event.TheVariants.{Attempt}
 use Rattle.events.specs.Replies.{member_number, event_of, verdict_of}
 use Rattle.book_steps.specs.Acts.{few_open, attempt_bytes}
@@ -68,7 +68,7 @@ module _ (b : List ℕ) where
   h = record_in b
 
   abbrev next : Record
-  next = attempted_at h.carrier.view h
+  next = attempted_at (unwrap_or h.carrier no_view) h
 
   abbrev rule : Result Done
   rule = attempts one n p (book_in b)
@@ -88,7 +88,7 @@ module _ (b : List ℕ) where
   unfolding book_in attempted_at
   open_after d e =
       let k = attempt-leaves h (outgoing_in b) (inward_in b (get_or b side_at 0)) (inward_in b (1 - get_or b side_at 0)) read lies read-few one n p d e in
-      ap (λ (z : Ruled). length z.held.opens) k ∙ sym (opened-count h.carrier.view h.settled h.opens read lies read-few)
+      ap (λ (z : Ruled). length z.held.opens) k ∙ sym (opened-count (unwrap_or h.carrier no_view) h.settled h.opens read lies read-few)
 
   turn-rule : attempt_turn n h ≡ and_then (verdict_of rule) (Ok next)
   unfolding attempt_turn book_in
@@ -111,12 +111,12 @@ module _ (b : List ℕ) where
   pub attempt-turned : then (attempt_turn n h) few_opened ≡ and_then (verdict_of (few_open rule)) (Ok next)
   attempt-turned = rw turn-rule (few-same rule open_after)
 
-  attempt-event : Holds (λ (d : Done). event_of d.answer ≡ Some (Attempt (member_number p) h.carrier.view)) (few_open rule)
+  attempt-event : Holds (λ (d : Done). event_of d.answer ≡ option_map (Attempt (member_number p)) h.carrier) (few_open rule)
   unfolding few_open attempts book_in
   attempt-event =
-      after_holds (λ (d : Done). event_of d.answer ≡ Some (Attempt (member_number p) h.carrier.view)) _ _
+      after_holds (λ (d : Done). event_of d.answer ≡ option_map (Attempt (member_number p)) h.carrier) _ _
       (view-holds _ _ _ (λ v e. need-holds _ _ _ (λ t. need-holds _ _ _ (λ u. need-holds _ _ _ (λ w.
-      gives (ap (λ (z : View). Some (Attempt (member_number p) z)) (seated-view h.carrier v e)))))))
+      gives (ap (option_map (Attempt (member_number p))) (sym e)))))))
       (λ d k. need-holds _ _ _ (λ t. gives k))
 
 -- ---- what the code has at hand
@@ -125,7 +125,8 @@ module _ (b : List ℕ) (h : Record) (loaded : h ≡ record_in b) where
   abbrev rule' : Result Done
   rule' = few_open (attempts one (members_in b) (own_in_book b) (book_in b))
 
-  turned : then (attempt_turn (members_in b) h) few_opened ≡ and_then (verdict_of rule') (Ok (attempted_at (record_in b).carrier.view (record_in b)))
+  turned : then (attempt_turn (members_in b) h) few_opened
+      ≡ and_then (verdict_of rule') (Ok (attempted_at (unwrap_or (record_in b).carrier no_view) (record_in b)))
   turned = ap (λ (z : Record). then (attempt_turn (members_in b) z) few_opened) loaded ∙ attempt-turned b
 
   pub attempt-refused : (x : Refusal) → Err x ≡ then (attempt_turn (members_in b) h) few_opened
@@ -133,7 +134,7 @@ module _ (b : List ℕ) (h : Record) (loaded : h ≡ record_in b) where
   attempt-refused x e = refused-by rule' x (attempt_bytes b) b (turn-refused _ _ x (e ∙ turned))
 
   module _ (next : Record) (e : Ok next ≡ then (attempt_turn (members_in b) h) few_opened) where
-    next-is : (verdict_of rule' ≡ Ok tt) × (next ≡ attempted_at (record_in b).carrier.view (record_in b))
+    next-is : (verdict_of rule' ≡ Ok tt) × (next ≡ attempted_at (unwrap_or (record_in b).carrier no_view) (record_in b))
     next-is = turn-accepted _ _ next (e ∙ turned)
 
     -- 43 was not given
@@ -141,7 +142,7 @@ module _ (b : List ℕ) (h : Record) (loaded : h ≡ record_in b) where
     attempt-few = few-accepted (attempt_turn (members_in b) h) next e
 
     pub attempt-accepted : (y c : List ℕ) → c ≡ set b (inward_at h.side) 0 → y ≡ store_record c next
-        → Answered rule' (attempt_bytes b) b (Ok (Some (Attempt (member_number (own_in_book b)) h.carrier.view))) y
+        → Answered rule' (attempt_bytes b) b (Ok (option_map (Attempt (member_number (own_in_book b))) h.carrier)) y
     unfolding attempt_bytes record_in
     attempt-accepted y c l k =
         accepted-by rule' (attempt_bytes b) b _ y next-is.0 (rw loaded (attempt-event b))

@@ -1,5 +1,5 @@
 -- What a sound book's bytes are, what a step gave and left by its rule, refused and accepted, and what an accepted step found there.
-use mathlib.Core.Path.{◌≡◌, refl, sym}
+use mathlib.Core.Path.{◌≡◌, refl, sym, ap}
 use mathlib.Core.Bool.{true, not, ◌||◌}
 use mathlib.Core.List.{List}
 use Prim.Native.Nat.{ℕ, ◌+◌, ◌≤◌, ◌<◌, min}
@@ -10,7 +10,7 @@ use lib.ListN.{length, get_or, take, length-take}
 use Rattle.views.specs.declared.refusal.Refusal.{Refusal}
 use Rattle.views.specs.Refusals.{Verdict, and_then, left}
 use Rattle.views.proofs.VerdictLaws.{never}
-use Rattle.std.specs.Prelude.{Option, Ok, Err}
+use Rattle.std.specs.Prelude.{Option, None, Some, MatchOption, IsSomeAnd, option_map, Ok, Err}
 use Rattle.views.specs.Limits.{max_open, max_outgoing}
 use Rattle.wire.proofs.ReaderLaws.{length-views_in}
 use Rattle.rules.specs.Data.{Member, Result, refused, accepted, Book as Ruled}
@@ -48,6 +48,14 @@ current-side b sound h e = rw e (sound-layout b sound).side
 pub record-few : (b : List ℕ) → (record_in b).opens.count ≤ max_open
 unfolding record_in
 record-few b = omega (arith, length-views_in b (opens_at + 1) (min (get_or b opens_at 0) max_open))
+
+-- ---- the event that is made of a view, if there is one
+
+pub mapped : {A B : Type 0} {Q : A → B → Type 0} (f : A → B) (o : Option A) (r : Option B) → MatchOption o (r ≡ None) (λ x. IsSomeAnd r (Q x))
+    → ((x : A) (y : B) → Q x y → y ≡ f x) → r ≡ option_map f o
+mapped f None r m q = m
+mapped f (Some x) None m q = absurd m
+mapped f (Some x) (Some y) m q = ap Some (q x y m)
 
 -- ---- a step and its verdict
 

@@ -8,9 +8,9 @@ use lib.ListN.{length, get_or, set, take, drop, length-drop, length-take}
 use Rattle.views.specs.declared.View.{View}
 use Rattle.views.specs.declared.refusal.Refusal.{Refusal}
 use Rattle.views.specs.Refusals.{Verdict, and_then}
-use Rattle.std.specs.Prelude.{Some, None, Ok, Err}
+use Rattle.std.specs.Prelude.{option_map, unwrap_or, Some, None, Ok, Err}
 use Rattle.views.specs.Limits.{max_open, max_ordered}
-use Rattle.views.specs.Lists.{id_of, list_of}
+use Rattle.views.specs.Lists.{no_view, id_of, list_of}
 use Rattle.views.proofs.ListLaws.{length_above}
 use Rattle.rules.specs.Data.{Identifier, Member, Item, hand, safe, Result}
 use Rattle.rules.specs.Member.{Done, hands, safes, collects}
@@ -25,7 +25,8 @@ use Rattle.book_bytes.proofs.Behind.{inward-few}
 use Rattle.book_bytes.proofs.InwardBooks.{length-inward, items_at}
 use Rattle.record_steps.specs.Turns.{book_of, settled_as, hand_verdict, safe_verdict, collect_turn}
 use Rattle.record_steps.proofs.MeaningVerdicts.{hand-verdict, safe-verdict, collect-verdict}
-use Rattle.record_steps.proofs.MeaningMarks.{seated-view}
+use Rattle.events.specs.declared.Item.{Item as Sent}
+use Rattle.events.specs.declared.Event.{Event}
 use Rattle.events.specs.declared.Event.TheVariants.{Hand, Safe}
 use Rattle.events.specs.Replies.{member_number, identifier, outward_of, event_of, verdict_of}
 use Rattle.book_steps.specs.Acts.{hand_bytes, safe_bytes, collect_bytes}
@@ -71,6 +72,13 @@ module _ (b : List ℕ) (k j : ℕ) (x : Item ℕ) (rest : List (Item ℕ)) (e :
     unfolding item_sent
     safe-item = rw item-is
 
+-- the events of an item in a view
+abbrev pub handing : Member → Sent → View → Event
+handing p x v = Hand (member_number p) v.id x
+
+abbrev pub reporting : Member → Sent → View → Event
+reporting p x v = Safe (member_number p) v.id x
+
 -- ---- the rules
 
 module _ (b : List ℕ) where
@@ -103,34 +111,34 @@ module _ (b : List ℕ) where
   at = inward_at (record_in b).side
 
   hand-event : Holds
-      (λ (d : Done). event_of d.answer ≡ Some (Hand (member_number p) (current_in b).client.view.id (item_sent b at (record_in b).handed.0)))
+      (λ (d : Done). event_of d.answer ≡ option_map (handing p (item_sent b at (record_in b).handed.0)) (current_in b).client)
       (hands p (book_in b))
   unfolding hands book_in record_in
   hand-event =
       view-holds _ _ _ (λ v e. first_holds _ _ _ (λ x rest f.
-      gives (ap (λ (w : View). Some (outward_of (hand p (id_of w) x))) (seated-view (record_in b).client v e)
-      ∙ ap Some (hand-item b (get_or b side_at 0) (record_in b).handed.0 x rest f p (id_of (record_in b).client.view)))))
+      gives (ap Some (hand-item b (get_or b side_at 0) (record_in b).handed.0 x rest f p (id_of v))
+      ∙ ap (option_map (handing p (item_sent b at (record_in b).handed.0))) (sym e))))
 
   safe-event : Holds
-      (λ (d : Done). event_of d.answer ≡ Some (Safe (member_number p) (current_in b).client.view.id (item_sent b at (record_in b).reported.0)))
+      (λ (d : Done). event_of d.answer ≡ option_map (reporting p (item_sent b at (record_in b).reported.0)) (current_in b).client)
       (safes n p (book_in b))
   unfolding safes book_in record_in
   safe-event =
       view-holds _ _ _ (λ v e. need-holds _ _ _ (λ t. first_holds _ _ _ (λ x rest f. need-holds _ _ _ (λ u.
       let g = first-of-front (record_in b).reported.0 (record_in b).handed.0 own x rest f in
-      gives (ap (λ (w : View). Some (outward_of (safe p (id_of w) x))) (seated-view (record_in b).client v e)
-      ∙ ap Some (safe-item b (get_or b side_at 0) (record_in b).reported.0 x g.0 g.1 p (id_of (record_in b).client.view)))))))
+      gives (ap Some (safe-item b (get_or b side_at 0) (record_in b).reported.0 x g.0 g.1 p (id_of v))
+      ∙ ap (option_map (reporting p (item_sent b at (record_in b).reported.0))) (sym e))))))
 
   collect-event : Holds (λ (d : Done). event_of d.answer ≡ None) (collects n (book_in b))
   unfolding collects
   collect-event = view-holds _ _ _ (λ v e. need-holds _ _ _ (λ t. need-holds _ _ _ (λ u. gives refl)))
 
 -- a pruned list is no longer
-settled-few : (b : List ℕ) → (settled_as (record_in b).carrier.view (record_in b)).opens.count ≤ max_open
+settled-few : (b : List ℕ) → (settled_as (unwrap_or (record_in b).carrier no_view) (record_in b)).opens.count ≤ max_open
 unfolding settled_as
 settled-few b =
     let h = record_in b in
-    omega (arith, length_above (id_of h.carrier.view) (list_of h.opens), length-take h.opens.count h.opens.at, record-few b)
+    omega (arith, length_above (id_of (unwrap_or h.carrier no_view)) (list_of h.opens), length-take h.opens.count h.opens.at, record-few b)
 
 -- ---- what the code has at hand
 
@@ -153,7 +161,7 @@ module _ (b : List ℕ) (h : Current) (loaded : h ≡ current_in b) where
         rw loaded (omega (arith, k, length-inward b (get_or b side_at 0)))
 
     pub hand-done : Answered (hands (own_in_book b) (book_in b)) (hand_bytes b) b
-        (Ok (Some (Hand (member_number (own_in_book b)) h.client.view.id (item_sent b (inward_at h.side) h.handed.0))))
+        (Ok (option_map (handing (own_in_book b) (item_sent b (inward_at h.side) h.handed.0)) h.client))
         (set b handed_at (h.handed.0 + 1))
     unfolding hand_bytes record_in
     hand-done =
@@ -179,7 +187,7 @@ module _ (b : List ℕ) (h : Current) (loaded : h ≡ current_in b) where
         rw loaded (omega (arith, k, length-inward b (get_or b side_at 0)))
 
     pub safe-done : Answered (safes (members_in b) (own_in_book b) (book_in b)) (safe_bytes b) b
-        (Ok (Some (Safe (member_number (own_in_book b)) h.client.view.id (item_sent b (inward_at h.side) h.reported.0))))
+        (Ok (option_map (reporting (own_in_book b) (item_sent b (inward_at h.side) h.reported.0)) h.client))
         (set b reported_at (h.reported.0 + 1))
     unfolding safe_bytes record_in
     safe-done =
@@ -192,17 +200,17 @@ module _ (b : List ℕ) (h : Record) (loaded : h ≡ record_in b) where
   abbrev rule : Result Done
   rule = collects (members_in b) (book_in b)
 
-  collect-ruled : collect_turn (members_in b) h ≡ and_then (verdict_of rule) (Ok (settled_as (record_in b).carrier.view (record_in b)))
+  collect-ruled : collect_turn (members_in b) h ≡ and_then (verdict_of rule) (Ok (settled_as (unwrap_or (record_in b).carrier no_view) (record_in b)))
   unfolding collect_turn
   collect-ruled =
       ap (λ (z : Record). collect_turn (members_in b) z) loaded
-      ∙ ap (λ (v : Verdict). and_then v (Ok (settled_as (record_in b).carrier.view (record_in b)))) (collect-rule b)
+      ∙ ap (λ (v : Verdict). and_then v (Ok (settled_as (unwrap_or (record_in b).carrier no_view) (record_in b)))) (collect-rule b)
 
   pub collect-refused : (x : Refusal) → Err x ≡ collect_turn (members_in b) h → Answered rule (collect_bytes b) b (Err x) b
   collect-refused x e = refused-by rule x (collect_bytes b) b (turn-refused _ _ x (e ∙ collect-ruled))
 
   module _ (next : Record) (e : Ok next ≡ collect_turn (members_in b) h) where
-    collect-turned : (verdict_of rule ≡ Ok tt) × (next ≡ settled_as (record_in b).carrier.view (record_in b))
+    collect-turned : (verdict_of rule ≡ Ok tt) × (next ≡ settled_as (unwrap_or (record_in b).carrier no_view) (record_in b))
     collect-turned = turn-accepted _ _ next (e ∙ collect-ruled)
 
     pub collect-few : next.opens.count ≤ max_open

@@ -6,9 +6,10 @@ use mathlib.Core.List.{List, [], ◌∷◌}
 use Prim.Native.Nat.{ℕ, zero, suc, ◌+◌, ◌-◌, ◌≤◌, ◌<◌}
 use native.Mathlib.Omega.{arith}
 use lib.ListN.{length, get_or, drop, replicate, length-replicate}
+use Rattle.std.specs.Prelude.{Some, unwrap_or}
 use Rattle.views.specs.declared.View.{View}
 use Rattle.views.specs.Limits.{max_members, max_open}
-use Rattle.views.specs.Lists.{list_of}
+use Rattle.views.specs.Lists.{no_view, list_of}
 use Rattle.wire.proofs.TripViews.{ViewFits, EachFits, AreBytes}
 use Rattle.rules.specs.Data.{info, Entry, entry, Item, accepted}
 use Rattle.rules.specs.Member.{Done, Passing, outgoes, joins, attempts, passing}
@@ -27,13 +28,13 @@ use Rattle.book_bytes.proofs.RecordReads.{tolds_in, bytes-are, flag-apart}
 use Rattle.book_bytes.proofs.RecordBytes.{tolds-bytes, store_seat-bytes}
 use Rattle.book_bytes.proofs.Within.{record_size, within-layout}
 use Rattle.book_bytes.proofs.Changes.{carried, counting_size, counting-read, carrier-set, carrier-within, carrier-layout}
-use Rattle.record_steps.specs.Turns.{seat, attempted_at}
+use Rattle.record_steps.specs.Turns.{attempted_at}
 use Rattle.record_steps.proofs.MeaningBooks.{unnoted_of}
 use Rattle.record_steps.proofs.MeaningMarks.{join-leaves, attempt-leaves}
 use Rattle.book_steps.specs.Acts.{announced, unnoted, join_bytes, attempt_bytes, pass_bytes}
 use Rattle.book_steps.proofs.Committed.{sound-layout}
 use Rattle.book_steps.proofs.Means.{Means, sound-fits, means-as, gave, own_in, new_in, Stands, queues-kept, size, one_left, pops, changes, stores-turned, empties-own, empties-new}
-use Rattle.book_steps.proofs.TurnFits.{opens-few, opens-each, attempted-fits}
+use Rattle.book_steps.proofs.TurnFits.{opens-few, opens-each, unwrapped-fits, attempted-fits}
 
 each-cons : (v : View) (l : List View) → ViewFits v → EachFits l → EachFits (v ∷ l)
 each-cons v l f g zero = f
@@ -115,11 +116,13 @@ module _ (b : List ℕ) (bytes : AreBytes b) (sound : bytes_sound b ≡ true) wh
       (sets-fit (h.settled ∷ list_of h.opens) held)
 
   module _ (v : View) (fit : ViewFits v) where
-    entered : Stands b (store_seat (announced b) carrier_at (seat v)) (carried h (seat v)) (entry (own_in_book b) (info h.settled (list_of h.opens)) ∷ []) (own_in b) []
+    entered : Stands b (store_seat (announced b) carrier_at (Some v)) (carried h (Some v))
+        (entry (own_in_book b) (info h.settled (list_of h.opens)) ∷ []) (own_in b) []
     entered =
-        changes told (store_seat (announced b) carrier_at (seat v)) (carrier-within (announced b) (seat v)) (carried h (seat v))
-        (carrier-set (announced b) (size told) (seat v) fit ∙ (λ i. carried (told.read i) (seat v))) (carrier-layout (announced b) (seat v) fit told.means.layout)
-        (store_seat-bytes (announced b) carrier_at (seat v) told.means.bytes fit.set) refl
+        changes told (store_seat (announced b) carrier_at (Some v)) (carrier-within (announced b) (Some v)) (carried h (Some v))
+        (carrier-set (announced b) (size told) (Some v) fit ∙ (λ i. carried (told.read i) (Some v)))
+        (carrier-layout (announced b) (Some v) fit told.means.layout)
+        (store_seat-bytes (announced b) carrier_at (Some v) told.means.bytes fit) refl
 
     pub join-means : (d : Done) → joins (own_in_book b) v (book_in b) ≡ accepted d → Means b (join_bytes v b) d.book
     unfolding book_in join_bytes
@@ -131,13 +134,14 @@ module _ (b : List ℕ) (bytes : AreBytes b) (sound : bytes_sound b ≡ true) wh
       → length d.book.held.opens ≤ max_open → Means b (attempt_bytes b) d.book
   unfolding attempt_bytes book_in attempted_at
   attempt-means weight d e few =
-      let v = h.carrier.view in
+      let v = unwrap_or h.carrier no_view in
+      let fit : ViewFits v = unwrapped-fits h.carrier fits.carrier in
       let leaves =
       attempt-leaves h (outgoing_in b) (own_in b) (new_in b) fits.opens.list fits.opens.places fits.opens.few weight (members_in b) (own_in_book b) d e
       in
       let few' : length (list_of (attempted_at v h).opens) ≤ max_open = rw leaves at few in
       means-as leaves
-      (stores-turned (empties-own b layout bytes) (attempted_at v h) (attempted-fits h fits v fits.carrier few') (tolds-bytes b bytes) refl).means
+      (stores-turned (empties-own b layout bytes) (attempted_at v h) (attempted-fits h fits v fit few') (tolds-bytes b bytes) refl).means
 
   -- ---- pass: the first is gone
 

@@ -5,7 +5,9 @@ use mathlib.Core.List.{List}
 use Prim.Native.Nat.{ℕ, ◌+◌, ◌≤◌}
 use native.Mathlib.Omega.{arith}
 use lib.ListN.{length, get_or}
+use Rattle.std.specs.Prelude.{unwrap_or}
 use Rattle.views.specs.Limits.{max_ordered}
+use Rattle.views.specs.Lists.{no_view}
 use Rattle.wire.proofs.TripViews.{AreBytes}
 use Rattle.rules.specs.Data.{accepted}
 use Rattle.rules.specs.Member.{Done, hands, safes, collects}
@@ -26,7 +28,7 @@ use Rattle.book_steps.specs.Acts.{hand_bytes, safe_bytes, collect_bytes}
 use Rattle.book_steps.proofs.Committed.{sound-layout, hand-some, safe-some}
 use Rattle.book_steps.proofs.Means.{Means, sound-fits, means-as, gave, own_in, new_in, queues-kept, stores}
 use Rattle.book_steps.proofs.MeansRecord.{byte-stands}
-use Rattle.book_steps.proofs.TurnFits.{settled-fits}
+use Rattle.book_steps.proofs.TurnFits.{unwrapped-fits, settled-fits}
 
 module _ (b : List ℕ) (bytes : AreBytes b) (sound : bytes_sound b ≡ true) where
   abbrev h : Record
@@ -65,5 +67,6 @@ module _ (b : List ℕ) (bytes : AreBytes b) (sound : bytes_sound b ≡ true) wh
   pub collect-means : (d : Done) → collects (members_in b) (book_in b) ≡ accepted d → Means b (collect_bytes b) d.book
   unfolding collect_bytes book_in settled_as
   collect-means d e =
+      let v = unwrap_or h.carrier no_view in
       means-as (collect-leaves h (outgoing_in b) (own_in b) (new_in b) fits.opens.list fits.opens.places fits.opens.few (members_in b) d e)
-      (stores (queues-kept b layout bytes) (settled_as h.carrier.view h) (settled-fits h fits h.carrier.view fits.carrier) (tolds-bytes b bytes) refl).means
+      (stores (queues-kept b layout bytes) (settled_as v h) (settled-fits h fits v (unwrapped-fits h.carrier fits.carrier)) (tolds-bytes b bytes) refl).means

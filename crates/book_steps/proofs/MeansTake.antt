@@ -5,7 +5,7 @@ use mathlib.Core.Bool.{true, false}
 use mathlib.Core.List.{List, ◌∷◌}
 use Prim.Native.Nat.{ℕ, suc, ◌+◌, ◌-◌, ◌^◌, ◌≤◌, ◌<◌}
 use native.Mathlib.Omega.{arith}
-use borrow.Author.Tests.{eq-eqb, leb-true}
+use borrow.Author.Tests.{leb-true}
 use lib.ListN.{length, get_or}
 use Rattle.views.specs.declared.View.{View}
 use Rattle.views.specs.Limits.{max_members, max_open, max_ordered}
@@ -49,17 +49,13 @@ module _ (b : List ℕ) (bytes : AreBytes b) (sound : bytes_sound b ≡ true) wh
 
   -- ---- room for a client message: the carrier view's inward list is no longer than what was taken there
 
-  carrier-there : get_or b carrier_at 0 ≡ 1 → h.carrier.there ≡ true
-  unfolding record_in
-  carrier-there e = eq-eqb _ _ e
-
   inward-behind : get_or b carrier_at 0 ≡ 1 → length (carrier_inward (book_in b)) ≤ get_or b taken_at 0
   unfolding bytes_sound book_sound book_counts book_in record_in
   inward-behind e =
       let (_, (book, _)) = conditions-say _ sound in
       let (_, (counts, _)) = conditions-say _ book in
       let (_, (_, (_, (_, (_, (behind, _)))))) = conditions-say _ counts in
-      rw (← limit-there h.carrier (carrier_inward (book_in b)) (carrier-there e)) (leb-true _ _ behind)
+      rw (← limit-there b (carrier_inward (book_in b)) e) (leb-true _ _ behind)
 
   module _ (q : ℕ) (member : q < max_members) (there : get_or b carrier_at 0 ≡ 1) (room : get_or b taken_at 0 < max_ordered) where
     one_more : h.taken.0 + 1 < 256

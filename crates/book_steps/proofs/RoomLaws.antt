@@ -7,16 +7,18 @@ use native.Mathlib.Omega.{arith}
 use borrow.Author.Tests.{leb-true, eq-eqb}
 use lib.Dec.{eqb}
 use lib.ListN.{length, get_or}
+use Rattle.std.specs.Prelude.{Option, Some}
+use Rattle.views.specs.declared.View.{View}
 use Rattle.views.specs.Limits.{max_ordered}
+use Rattle.wire.specs.Reader.{view_in}
 use Rattle.rules.specs.Data.{rank}
 use Rattle.rules.specs.Member.{client_is_carrier}
 use Rattle.rules.specs.Sound.{limit_at, carrier_inward, book_counts}
 use Rattle.rules.specs.Alone.{book_sound}
 use Rattle.rules.proofs.TestLaws.{conditions-say}
 use Rattle.slots.specs.Columns.{inward_size}
-use Rattle.book_bytes.specs.declared.Seat.{Seat}
 use Rattle.book_bytes.specs.Places.{carrier_at, client_at, taken_at, side_at, inward_at, book_size}
-use Rattle.book_bytes.specs.Records.{seated, seat_in, record_in}
+use Rattle.book_bytes.specs.Records.{flag_in, seat_in, record_in}
 use Rattle.book_bytes.specs.Books.{inward_in, book_in, bytes_sound}
 use Rattle.book_bytes.proofs.InwardBooks.{length-inward}
 use Rattle.book_steps.specs.Acts.{gaining}
@@ -24,11 +26,11 @@ use Rattle.book_steps.specs.Acts.{gaining}
 -- ---- where it lies
 
 -- by the two views, compared by identifier
-pub gaining-is : (b : List ℕ) (client carrier : Seat) (t : Bool) (r : ℕ) → client ≡ seat_in b client_at → carrier ≡ seat_in b carrier_at
-    → t ≡ eqb (rank (seated client)) (rank (seated carrier)) → r ≡ inward_at (cond t (get_or b side_at 0) (1 - get_or b side_at 0)) → r ≡ gaining b
+pub gaining-is : (b : List ℕ) (client carrier : Option View) (t : Bool) (r : ℕ) → client ≡ seat_in b client_at → carrier ≡ seat_in b carrier_at
+    → t ≡ eqb (rank client) (rank carrier) → r ≡ inward_at (cond t (get_or b side_at 0) (1 - get_or b side_at 0)) → r ≡ gaining b
 unfolding book_in record_in
 gaining-is b client carrier t r e f g h =
-    h ∙ ap (λ (x : Bool). inward_at (cond x (get_or b side_at 0) (1 - get_or b side_at 0))) (g ∙ ap₂ (λ (x y : Seat). eqb (rank (seated x)) (rank (seated y))) e f)
+    h ∙ ap (λ (x : Bool). inward_at (cond x (get_or b side_at 0) (1 - get_or b side_at 0))) (g ∙ ap₂ (λ (x y : Option View). eqb (rank x) (rank y)) e f)
 
 -- either inward list lies within the book
 side-fits : (t : Bool) (s : ℕ) → s ≤ 1 → inward_at (cond t s (1 - s)) + inward_size ≤ book_size
@@ -57,17 +59,18 @@ side-length : (b : List ℕ) (t : Bool) (s : ℕ) → length (cond t (inward_in 
 side-length b true s = length-inward b s
 side-length b false s = length-inward b (1 - s)
 
-pub limit-there : {A : Type 0} (s : Seat) (l : List A) → s.there ≡ true → limit_at (seated s) l ≡ length l
-limit-there s l e = rw e
-
-carrier-there : (b : List ℕ) → get_or b carrier_at 0 ≡ 1 → (record_in b).carrier.there ≡ true
+carrier-there : (b : List ℕ) → get_or b carrier_at 0 ≡ 1 → (record_in b).carrier ≡ Some (view_in b (carrier_at + 1))
 unfolding record_in
-carrier-there b c = eq-eqb (get_or b carrier_at 0) 1 c
+carrier-there b c = let t : flag_in b carrier_at ≡ true = eq-eqb (get_or b carrier_at 0) 1 c in rw t
+
+-- the whole of a list is in the carrier view's limit
+pub limit-there : {A : Type 0} (b : List ℕ) (l : List A) → get_or b carrier_at 0 ≡ 1 → limit_at (record_in b).carrier l ≡ length l
+limit-there b l c = ap (λ (x : Option View). limit_at x l) (carrier-there b c)
 
 carrier-length : (b : List ℕ) → get_or b carrier_at 0 ≡ 1 → limit_at (book_in b).carrier.view (carrier_inward (book_in b)) ≡ get_or b (gaining b) 0
 unfolding book_in
 carrier-length b c =
-    limit-there (record_in b).carrier (carrier_inward (book_in b)) (carrier-there b c) ∙ side-length b (client_is_carrier (book_in b)) (get_or b side_at 0)
+    limit-there b (carrier_inward (book_in b)) c ∙ side-length b (client_is_carrier (book_in b)) (get_or b side_at 0)
 
 pub gain-room : (b : List ℕ) → bytes_sound b ≡ true → get_or b carrier_at 0 ≡ 1 → get_or b taken_at 0 < max_ordered → get_or b (gaining b) 0 < max_ordered
 gain-room b s c t = omega (arith, inward-taken b s, carrier-length b c, taken-ruled b)

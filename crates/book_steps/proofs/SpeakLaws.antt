@@ -7,7 +7,7 @@ use lib.ListN.{get_or, set}
 use Rattle.views.specs.declared.View.{View}
 use Rattle.views.specs.declared.refusal.Refusal.{Refusal}
 use Rattle.views.specs.Refusals.{Verdict}
-use Rattle.std.specs.Prelude.{Bool, true, false, cond, Option, Some, None, Ok, Err, IsSome}
+use Rattle.std.specs.Prelude.{Bool, true, false, cond, Option, option_map, Some, None, Ok, Err, IsSome}
 use Rattle.views.specs.Limits.{max_outgoing}
 use Rattle.wire.specs.declared.Message.{Message as Carried}
 use Rattle.wire.specs.declared.Message.TheVariants.{Client, Registered, Told}
@@ -22,7 +22,7 @@ use Rattle.book_bytes.specs.Books.{outgoing_in, inward_in, book_in, own_in_book}
 use Rattle.book_bytes.proofs.QueueBooks.{length-outgoing}
 use Rattle.record_steps.specs.Turns.{in_step, register_verdict, send_verdict, tell_verdict}
 use Rattle.record_steps.proofs.MeaningVerdicts.{register-verdict, send-verdict, tell-verdict}
-use Rattle.record_steps.proofs.MeaningMarks.{seated-view}
+use Rattle.events.specs.declared.Event.{Event}
 use Rattle.events.specs.declared.Event.TheVariants.{Register, Send}
 use Rattle.events.specs.Replies.{member_number, event_of, verdict_of}
 use Rattle.book_steps.specs.Acts.{queued, queued_if, register_bytes, send_bytes, tell_bytes}
@@ -48,6 +48,13 @@ module _ (h : Current) (b : List ℕ) where
   said-told : (k : ℕ) → said_bytes (spoken h (Told k)) b ≡ queued_if (in_step h) (told k) b
   unfolding said_bytes queued pushed
   said-told k = said-if (in_step h) (Told k) (told k) b refl
+
+-- the events in a view
+abbrev pub registering : Member → View → Event
+registering p v = Register (member_number p) v.id
+
+abbrev pub sending : Member → ℕ → View → Event
+sending p x v = Send (member_number p) v.id x
 
 module _ (b : List ℕ) (p : Member) where
   abbrev h : Current
@@ -78,15 +85,15 @@ module _ (b : List ℕ) (p : Member) where
 
   -- ---- events
 
-  register-event : Holds (λ (d : Done). event_of d.answer ≡ Some (Register (member_number p) h.client.view.id)) (registers p (book_in b))
+  register-event : Holds (λ (d : Done). event_of d.answer ≡ option_map (registering p) h.client) (registers p (book_in b))
   unfolding registers book_in
   register-event =
       view-holds _ _ _ (λ v e. need-holds _ _ _ (λ t. need-holds _ _ _ (λ u.
-      gives (ap (λ (w : View). Some (Register (member_number p) w.id)) (seated-view h.client v e)))))
+      gives (ap (option_map (registering p)) (sym e)))))
 
-  send-event : (x : ℕ) → Holds (λ (d : Done). event_of d.answer ≡ Some (Send (member_number p) h.client.view.id x)) (sends p x (book_in b))
+  send-event : (x : ℕ) → Holds (λ (d : Done). event_of d.answer ≡ option_map (sending p x) h.client) (sends p x (book_in b))
   unfolding sends book_in
-  send-event x = view-holds _ _ _ (λ v e. need-holds _ _ _ (λ t. gives (ap (λ (w : View). Some (Send (member_number p) w.id x)) (seated-view h.client v e))))
+  send-event x = view-holds _ _ _ (λ v e. need-holds _ _ _ (λ t. gives (ap (option_map (sending p x)) (sym e))))
 
   tell-event : Holds (λ (d : Done). event_of d.answer ≡ None) (tells p (book_in b))
   unfolding tells
@@ -126,7 +133,7 @@ module _ (b : List ℕ) (h : Current) (loaded : h ≡ current_in b) where
     register-fits m f s = said-room b (registers p (book_in b)) (register-room b p) (register-ruled (Ok tt) e) h loaded Registered m f s
 
     pub register-done : (m : Option Carried) → m ≡ spoken h Registered → (c : List ℕ) → c ≡ said_bytes m b
-        → Answered (registers p (book_in b)) (register_bytes b) b (Ok (Some (Register (member_number p) h.client.view.id))) (set c registered_at 1)
+        → Answered (registers p (book_in b)) (register_bytes b) b (Ok (option_map (registering p) h.client)) (set c registered_at 1)
     unfolding register_bytes book_in
     register-done m f c k =
         accepted-by (registers p (book_in b)) (register_bytes b) b _ _ (register-ruled (Ok tt) e)
@@ -174,7 +181,7 @@ module _ (b : List ℕ) (h : Current) (loaded : h ≡ current_in b) where
       send-fits m f s = said-room b (sends p x (book_in b)) (send-room b p x) (send-ruled (Ok tt) e) h loaded (Client x) m f s
 
       pub send-done : (m : Option Carried) → m ≡ spoken h (Client x) → (y : List ℕ) → y ≡ said_bytes m b
-          → Answered (sends p x (book_in b)) (send_bytes x b) b (Ok (Some (Send (member_number p) h.client.view.id x))) y
+          → Answered (sends p x (book_in b)) (send_bytes x b) b (Ok (option_map (sending p x) h.client)) y
       unfolding send_bytes book_in
       send-done m f y k =
           accepted-by (sends p x (book_in b)) (send_bytes x b) b _ y (send-ruled (Ok tt) e)

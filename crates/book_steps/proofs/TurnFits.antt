@@ -10,9 +10,9 @@ use lib.Dec.{ltb}
 use lib.ListN.{length}
 use lib.Pow.{pow-lt}
 use Rattle.views.specs.declared.View.{View}
-use Rattle.std.specs.Prelude.{Option, Some, None}
+use Rattle.std.specs.Prelude.{Option, Some, None, IfSome, unwrap_or}
 use Rattle.views.specs.Limits.{max_members, max_views, max_open}
-use Rattle.views.specs.Lists.{id_of, find_of, insert_of, union_of, above_of, list_of, placed}
+use Rattle.views.specs.Lists.{no_view, id_of, find_of, insert_of, union_of, above_of, list_of, placed}
 use Rattle.views.specs.Sets.{with_member}
 use Rattle.views.proofs.SetLaws.{known}
 use Rattle.views.proofs.Members.{In, top, pop}
@@ -77,6 +77,10 @@ unfolding with_member
 with-fits q s h f = or_lt max_members s (2 ^ q) f (pow-lt h)
 
 -- ---- records
+
+pub unwrapped-fits : (o : Option View) → IfSome o ViewFits → ViewFits (unwrap_or o no_view)
+unwrapped-fits (Some v) f = f
+unwrapped-fits None f = record { id = omega arith; set = omega arith }
 
 module _ (h : Record) (fits : Fits h) where
   pub opens-few : length (list_of h.opens) ≤ max_open

@@ -1,10 +1,10 @@
 -- What each step of the member leaves in its book's bytes, where it is accepted.
-use Rattle.std.specs.Prelude.{Bool, cond, List, ℕ, ◌+◌, ◌-◌, leb, length, get_or, set, replicate}
+use Rattle.std.specs.Prelude.{Bool, cond, List, ℕ, ◌+◌, ◌-◌, leb, length, get_or, set, replicate, Some, unwrap_or}
 use Rattle.std.proofs.Math.Seq.{paste}
 use Rattle.views.specs.declared.View.{View}
 use Rattle.views.specs.declared.refusal.Refusal.TheVariants.{TooManyOpen}
 use Rattle.views.specs.Limits.{max_open}
-use Rattle.views.specs.Lists.{list_of, placed}
+use Rattle.views.specs.Lists.{no_view, list_of, placed}
 use Rattle.views.specs.Sets.{with_member}
 use Rattle.rules.specs.Data as R
 use Rattle.rules.specs.Data.{Member, Message, client, info, registered, told, ok, Result, accepted, need, after}
@@ -15,7 +15,7 @@ use Rattle.book_bytes.specs.Places.{carrier_at, registered_at, handed_at, told_a
 use Rattle.book_bytes.specs.Places.{registrations_at, tolds_at, side_at, outgoing_at, inward_at}
 use Rattle.book_bytes.specs.Records.{record_in, held_in, store_seat, store_held, store_record}
 use Rattle.book_bytes.specs.Books.{book_in}
-use Rattle.record_steps.specs.Turns.{seat, attempted_at, settled_as}
+use Rattle.record_steps.specs.Turns.{attempted_at, settled_as}
 use Rattle.book_bytes.specs.Books.{own_in_book}
 
 -- ---- 43: an attempt, or a message taken, that would leave more than 31 views open
@@ -50,7 +50,7 @@ unfoldable pub unnoted : List ℕ → List ℕ
 unnoted b = paste b taken_at (replicate (side_at - taken_at) 0) (side_at - taken_at)
 
 unfoldable pub join_bytes : View → List ℕ → List ℕ
-join_bytes v b = unnoted (store_seat (announced b) carrier_at (seat v))
+join_bytes v b = unnoted (store_seat (announced b) carrier_at (Some v))
 
 -- ---- 3. pass: the first outgoing message goes
 
@@ -86,7 +86,8 @@ take_bytes q (told k) b = one_more (set b (tolds_at + q) k)
 
 unfoldable pub attempt_bytes : List ℕ → List ℕ
 attempt_bytes b =
-    let h = record_in b in store_record (set b (inward_at (get_or b side_at 0)) 0) (attempted_at h.carrier.view h)
+    let h = record_in b in
+    store_record (set b (inward_at (get_or b side_at 0)) 0) (attempted_at (unwrap_or h.carrier no_view) h)
 
 -- ---- 7 to 11. register, send, hand, tell, safe: a message outgoing, and the one byte that changes
 
@@ -109,4 +110,4 @@ safe_bytes b = set b reported_at (get_or b reported_at 0 + 1)
 -- ---- 12. collect
 
 unfoldable pub collect_bytes : List ℕ → List ℕ
-collect_bytes b = let h = record_in b in store_record b (settled_as h.carrier.view h)
+collect_bytes b = let h = record_in b in store_record b (settled_as (unwrap_or h.carrier no_view) h)

@@ -8,11 +8,9 @@ ghost use Rattle.rules.specs.Member.{joins, attempts, collects};
 ghost use Rattle.book_bytes.specs.Places.{book_size, carrier_at, side_at, opens_at, inward_at};
 ghost use Rattle.book_bytes.specs.Records.{store_seat};
 ghost use Rattle.book_bytes.specs.Books.{book_in, bytes_sound, own_in_book, members_in};
-ghost use Rattle.record_steps.specs.Turns.{seat};
 ghost use Rattle.book_steps.specs.Acts.{announced, unnoted, join_bytes, few_open, attempt_bytes, collect_bytes};
 
 use crate::lent;
-use book_bytes::Seat;
 use events::{Event, Reply};
 use views::{Member, View};
 
@@ -41,13 +39,9 @@ fn announce(b: &mut [u8])
 // The view v is the carrier view, of which nothing was taken and nothing is noted.
 fn enter(b: &mut [u8], v: View)
     requires { book_size ≤ length b.old }
-    ensures { b.new ≡ unnoted (store_seat b.old carrier_at (seat v)) }
+    ensures { b.new ≡ unnoted (store_seat b.old carrier_at (Some v)) }
 {
-    let seat = Seat {
-        there: true,
-        view: v,
-    };
-    book_bytes::store_seat(b, book_bytes::CARRIER, seat);
+    book_bytes::store_seat(b, book_bytes::CARRIER, Some(v));
     b[book_bytes::TAKEN..book_bytes::SIDE].fill(0);
 }
 
@@ -89,7 +83,7 @@ pub fn attempt(b: &mut [u8]) -> Reply
     let p = Member(b[book_bytes::SELF]);
     empty(b, h.side);
     book_bytes::store(b, next);
-    Ok(Some(Event::Attempt(p, h.carrier.view)))
+    Ok(h.carrier.map(|v| Event::Attempt(p, v)))
 }
 
 // The carrier view becomes settled; only open views above it remain.

@@ -37,7 +37,7 @@ pub fn register(b: &mut [u8]) -> Reply
     let p = Member(b[book_bytes::SELF]);
     crate::say(b, spoken(h, Message::Registered));
     b[book_bytes::REGISTERED] = 1;
-    Ok(Some(Event::Register(p, h.client.view.id)))
+    Ok(h.client.map(|v| Event::Register(p, v.id)))
 }
 
 // Outgoing gains a client message; the record stays.
@@ -51,7 +51,7 @@ pub fn send(b: &mut [u8], entry: u64) -> Reply
     record_steps::client_view::send(h, b[book_bytes::OUTGOING])?;
     let p = Member(b[book_bytes::SELF]);
     crate::say(b, spoken(h, Message::Client(entry)));
-    Ok(Some(Event::Send(p, h.client.view.id, entry)))
+    Ok(h.client.map(|v| Event::Send(p, v.id, entry)))
 }
 
 // Item k of the inward list with its count at a place.
@@ -83,7 +83,7 @@ pub fn hand(b: &mut [u8]) -> Reply
     let p = Member(b[book_bytes::SELF]);
     let x = item(b, at, h.handed);
     b[book_bytes::HANDED] = h.handed.0 + 1;
-    Ok(Some(Event::Hand(p, h.client.view.id, x)))
+    Ok(h.client.map(|v| Event::Hand(p, v.id, x)))
 }
 
 // Outgoing gains told, with the number handed out in the client view.
@@ -115,5 +115,5 @@ pub fn safe(b: &mut [u8]) -> Reply
     let p = Member(b[book_bytes::SELF]);
     let x = item(b, at, h.reported);
     b[book_bytes::REPORTED] = h.reported.0 + 1;
-    Ok(Some(Event::Safe(p, h.client.view.id, x)))
+    Ok(h.client.map(|v| Event::Safe(p, v.id, x)))
 }

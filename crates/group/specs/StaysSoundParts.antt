@@ -3,7 +3,7 @@ use Rattle.std.specs.Prelude.{◌≡◌, Bool, true, List, ℕ, leb, get_or}
 use Rattle.rules.specs.Data.{Step, rank}
 use Rattle.rules.specs.Member.{every}
 use Rattle.book_bytes.specs.Places.{members_at, carrier_at, client_at}
-use Rattle.book_bytes.specs.Records.{seated, seat_in}
+use Rattle.book_bytes.specs.Records.{seat_in}
 use Rattle.group_bytes.specs.Places.{book_bytes}
 use Rattle.group_bytes.specs.Groups.{Ranges, ranges_sound}
 use Rattle.group_bytes.specs.Steps.{last_ranges}
@@ -15,7 +15,7 @@ StaysSound r = (l : List Step) → AllGiven l → ranges_sound (last_ranges r l)
 
 -- the client view of the book b is not above its carrier view
 unfoldable pub not_above : List ℕ → Bool
-not_above b = leb (rank (seated (seat_in b client_at))) (rank (seated (seat_in b carrier_at)))
+not_above b = leb (rank (seat_in b client_at)) (rank (seat_in b carrier_at))
 
 -- so it is in every member's book
 unfoldable pub none_above : List ℕ → Bool

@@ -4,17 +4,20 @@ ghost use Rattle.std.specs.Prelude.{◌≡◌, ◌≤◌, leb, length, get_or};
 ghost use Rattle.views.specs.Limits.{max_members};
 ghost use Rattle.rules.specs.Data.{rank};
 ghost use Rattle.book_bytes.specs.Places.{members_at, book_size};
-ghost use Rattle.book_bytes.specs.Records.{seated};
 ghost use Rattle.group_bytes.specs.Places.{books_size};
 ghost use Rattle.group.specs.StaysSoundParts.{not_above, none_above};
 
-use book_bytes::Seat;
+use views::View;
 
 // A client view, if there is one, is not above a carrier view.
-fn not_above(client: Seat, carrier: Seat) -> bool
-    ensures { result ≡ leb (rank (seated client)) (rank (seated carrier)) }
+fn not_above(client: Option<View>, carrier: Option<View>) -> bool
+    ensures { result ≡ leb (rank client) (rank carrier) }
 {
-    !client.there || carrier.there && client.view.id.0 <= carrier.view.id.0
+    match (client, carrier) {
+        (Some(v), Some(w)) => v.id.0 <= w.id.0,
+        (Some(_), None) => false,
+        (None, _) => true,
+    }
 }
 
 // The client view of a book is not above its carrier view.

@@ -2,8 +2,8 @@
 -- be kept of a group to undo them.
 use mathlib.Core.Path.{◌≡◌, refl, sym, ap, ◌∙◌}
 use mathlib.Core.Logic.{◌⊎◌, ⊎_elim}
-use mathlib.Core.Bool.{Bool, true, false, cond}
-use Rattle.std.specs.Prelude.{None, Some, Ok}
+use mathlib.Core.Bool.{Bool, true, false}
+use Rattle.std.specs.Prelude.{Some, Ok}
 use mathlib.Core.List.{List, ◌∷◌}
 use Prim.Native.Nat.{ℕ, suc, ◌+◌, ◌^◌, ◌≤◌, ◌<◌}
 use native.Mathlib.Omega.{arith}
@@ -74,13 +74,9 @@ pub record Beside (r d : Ranges) (i : ℕ) : Type 0 where
   pub queues : Within r.queues d.queues i
 
 -- a book that has a carrier view
-carried-by : (t : Bool) (w : View) (g : ℕ) → t ≡ true → rank (cond t (Some w) None) ≡ suc g → id_of w ≡ g
-carried-by true w g e h = omega (arith, h)
-carried-by false w g e h = let z : ◌≡◌ {A = ℕ} 0 1 = cc in absurd (omega arith)
-
-carried : (b : List ℕ) (g : ℕ) → (record_in b).carrier.there ≡ true → rank (book_in b).carrier.view ≡ suc g → id_of (P.carried_in b) ≡ g
+carried : (b : List ℕ) (g : ℕ) → (record_in b).carrier ≡ Some (P.carried_in b) → rank (book_in b).carrier.view ≡ suc g → id_of (P.carried_in b) ≡ g
 unfolding book_in
-carried b g t h = carried-by (record_in b).carrier.there (record_in b).carrier.view g t h
+carried b g t h = let e : suc (id_of (P.carried_in b)) ≡ suc g = sym (ap rank t) ∙ h in omega (arith, e)
 
 module _ (r : Ranges) (fits : Ranged r) (bytes : RangesBytes r) (sounds : sound (group_in r) ≡ true) (g i : ℕ) (place : place_of g (views_made r) ≡ i) (p : Member)
     (member : p < members_of r) where

@@ -2,7 +2,7 @@
 use mathlib.Core.Path.{◌≡◌, refl, sym, ap, ◌∙◌}
 use mathlib.Core.Logic.{⊎_elim}
 use mathlib.Core.Bool.{Bool, true, false, cond}
-use Rattle.std.specs.Prelude.{Some}
+use Rattle.std.specs.Prelude.{None, Some}
 use mathlib.Core.List.{List, [], ◌∷◌}
 use Prim.Native.Nat.{ℕ, ◌≤◌, ◌<◌}
 use native.Mathlib.Omega.{arith}
@@ -26,9 +26,8 @@ use Rattle.slots.specs.Slots.{fits_kind}
 use Rattle.slots.specs.Columns.{order_sender, order_kind, order_count, order_message, order_entry, entries_ordered}
 use Rattle.slots.proofs.Stored.{told_of}
 use Rattle.slots.proofs.Orders.{length-order, order-next}
-use Rattle.book_bytes.specs.declared.Seat.{Seat}
 use Rattle.book_bytes.specs.Places.{carrier_at, taken_at}
-use Rattle.book_bytes.specs.Records.{seated, record_in}
+use Rattle.book_bytes.specs.Records.{flag_in, seat_in, record_in}
 use Rattle.book_bytes.specs.Books.{book_in}
 use Rattle.book_steps.specs.Acts.{taking, take_bytes}
 use Rattle.book_steps.proofs.Means.{gave}
@@ -41,6 +40,7 @@ use Rattle.group_bytes.proofs.BookBytes.{book-bytes}
 use Rattle.group_bytes.proofs.BookSounds.{book-is, sound-book}
 use Rattle.group_bytes.proofs.RebookLaws.{rebook}
 use Rattle.group_bytes.proofs.BookSteps.{facts, few-given}
+use Rattle.group_bytes.proofs.PassGroup.{carried_in, carried-is}
 use Rattle.group_bytes.proofs.Widths.{InWidths, order-widths, told-byte}
 use Rattle.group_bytes.proofs.Tables.{group-as}
 
@@ -59,11 +59,12 @@ module _ (s : Group) (h : Sound s) where
 
 -- ---- the next entry
 
-seat-there : (x : Seat) (v : View) → seated x ≡ Some v → (x.there ≡ true) × (x.view ≡ v)
-seat-there x v e =
-    ⊎_elim (λ (t : x.there ≡ true). let k : Some x.view ≡ Some v = rw t at e in (t, cc))
-    (λ (t : x.there ≡ false). let k = rw t at e in let z : ◌≡◌ {A = ℕ} 0 1 = cc in absurd (omega arith))
-    (known x.there)
+-- a mark before a view that is there is 1
+mark-there : (b : List ℕ) (at : ℕ) (v : View) → seat_in b at ≡ Some v → get_or b at 0 ≡ 1
+mark-there b at v e =
+    ⊎_elim (λ (t : flag_in b at ≡ true). eqb-true _ _ t)
+    (λ (t : flag_in b at ≡ false). let k : None ≡ Some v = rw t at e in let z : ◌≡◌ {A = ℕ} 0 1 = cc in absurd (omega arith))
+    (known (flag_in b at))
 
 entry_next : (q : List ℕ) (c k : ℕ) (t : Bool) (e : Entry) (rest : List Entry) → drop k (cond t (entries_ordered q c) []) ≡ e ∷ rest
     → (t ≡ true) × (k < get_or q c 0) × (e ≡ order_entry q c k)
@@ -78,7 +79,7 @@ entry_next q c k false e rest d =
 
 -- where the order of the member's carrier view stands, and the number of the entry that the member takes next
 abbrev pub order_of : Ranges → Member → ℕ
-order_of r p = order_at (place_of (id_of (record_in (book_bytes r.books p)).carrier.view) (views_made r))
+order_of r p = order_at (place_of (id_of (carried_in (book_bytes r.books p))) (views_made r))
 
 abbrev pub taken_of : Ranges → Member → ℕ
 taken_of r p = get_or (book_bytes r.books p) taken_at 0
@@ -112,18 +113,18 @@ module _ (r : Ranges) (fits : Ranged r) (bytes : RangesBytes r) (sounds : sound 
   m = order_message r.queues (order_of r p) (taken_of r p)
 
   -- the carrier view and the position, as the bytes have them
-  carrier-in : (v : View) → B.carrier.view ≡ Some v → (get_or b carrier_at 0 ≡ 1) × ((record_in b).carrier.view ≡ v)
+  carrier-in : (v : View) → B.carrier.view ≡ Some v → (get_or b carrier_at 0 ≡ 1) × (carried_in b ≡ v)
   unfolding book_in record_in
   carrier-in v c =
-      let t = seat-there (record_in b).carrier v (sym (ap (λ (C : Book). C.carrier.view) (book-is r fits p member)) ∙ c) in
-      (eqb-true _ _ t.0, t.1)
+      let e : seat_in b carrier_at ≡ Some v = sym (ap (λ (C : Book). C.carrier.view) (book-is r fits p member)) ∙ c in
+      (mark-there b carrier_at v e, carried-is b v e)
 
   taken_in : B.carrier.taken ≡ get_or b taken_at 0
   unfolding book_in record_in
   taken_in = ap (λ (C : Book). C.carrier.taken) (book-is r fits p member)
 
   record IsNext (e : Entry) : Type 0 where
-    made : place_of (id_of (record_in b).carrier.view) (views_made r) < made_of r
+    made : place_of (id_of (carried_in b)) (views_made r) < made_of r
     inside : taken_of r p < get_or r.queues (order_of r p) 0
     entry : e ≡ entry q m
 
@@ -131,8 +132,8 @@ module _ (r : Ranges) (fits : Ranged r) (bytes : RangesBytes r) (sounds : sound 
       → IsNext e
   unfolding group_in order_in
   next-entry v e rest c d =
-      let g : drop (taken_of r p) (order_in r (id_of (record_in b).carrier.view)) ≡ e ∷ rest = rw ((carrier-in v c).1, ← taken_in) d in
-      let i = place_of (id_of (record_in b).carrier.view) (views_made r) in
+      let g : drop (taken_of r p) (order_in r (id_of (carried_in b))) ≡ e ∷ rest = rw ((carrier-in v c).1, ← taken_in) d in
+      let i = place_of (id_of (carried_in b)) (views_made r) in
       let f = entry_next r.queues (order_of r p) (taken_of r p) (ltb i (made_of r)) e rest g in
       record { made = ltb-true _ _ f.0; inside = f.1; entry = f.2 }
 

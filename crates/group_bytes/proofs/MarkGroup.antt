@@ -22,7 +22,6 @@ use Rattle.rules.proofs.Sound.{sound-says}
 use Rattle.rules.proofs.Holding.{Holds, gives, need-holds, view-holds}
 use Rattle.slots.proofs.Outside.{Changed, Apart, put-changed}
 use Rattle.slots.proofs.BytesKept.{put-bytes}
-use Rattle.book_bytes.specs.Records.{record_in}
 use Rattle.book_bytes.specs.Books.{book_in}
 use Rattle.book_steps.specs.Acts.{attempt_bytes}
 use Rattle.book_steps.proofs.Means.{gave}
@@ -35,7 +34,7 @@ use Rattle.group_bytes.proofs.Apart.{queue-still, queued-still, ordered-still, c
 use Rattle.group_bytes.proofs.Tables.{requeued, group-as, order-still, waiting-still, means}
 use Rattle.group_bytes.proofs.BookSounds.{book-is}
 use Rattle.group_bytes.proofs.BookSteps.{attempt-group}
-use Rattle.group_bytes.proofs.PassGroup.{carried_in, seat-some}
+use Rattle.group_bytes.proofs.PassGroup.{carried_in, carried-is}
 
 -- ---- one more mark
 
@@ -98,8 +97,7 @@ module _ (r : Ranges) (fits : Ranged r) (sounds : sound (group_in r) ≡ true) (
   unfolding attempts group_in book_in
   attempt-holds weight =
       view-holds (book_of r p).carrier.view _ _ (λ v c.
-      let t = seat-some (record_in b).carrier.there (carried_in b) v (sym (ap (λ (y : Book). y.carrier.view) (book-is r fits p member)) ∙ c) in
-      let same : carried_in b ≡ v = t.1 in
+      let same : carried_in b ≡ v = carried-is b v (sym (ap (λ (y : Book). y.carrier.view) (book-is r fits p member)) ∙ c) in
       let listed = ((sound-says (group_in r) sounds).book p member).carrier-known v c in
       need-holds _ _ _ (λ _. need-holds _ _ _ (λ _. need-holds _ _ _ (λ _.
       gives (rw same (omega (arith, length-made r, place_in v (views_made r) listed)), ap naming (sym same))))))

@@ -1,8 +1,8 @@
 -- Pass in the ranges: the group is the rule's, and what the step reads and writes lies within its ranges. What another book for one member does to
 -- the group is asked of the caller: it is a law of the books.
 use mathlib.Core.Path.{◌≡◌, refl, sym, ap, ◌∙◌}
-use mathlib.Core.Bool.{Bool, true, false, cond}
-use Rattle.std.specs.Prelude.{None, Some}
+use mathlib.Core.Bool.{true}
+use Rattle.std.specs.Prelude.{Some, unwrap_or}
 use mathlib.Core.List.{List, [], ◌∷◌, ◌++◌}
 use Prim.Native.Nat.{ℕ, ◌+◌, ◌*◌, ◌≤◌, ◌<◌}
 use native.Mathlib.Omega.{arith}
@@ -11,7 +11,7 @@ use lib.Dec.{ltb}
 use lib.ListN.{length, get_or, drop}
 use Rattle.views.specs.declared.View.{View}
 use Rattle.views.specs.Limits.{max_outgoing, max_waiting}
-use Rattle.views.specs.Lists.{id_of}
+use Rattle.views.specs.Lists.{id_of, no_view}
 use Rattle.wire.proofs.TripViews.{AreBytes}
 use Rattle.rules.specs.Data.{Member, Entry, Book, Group, accepted}
 use Rattle.rules.specs.Member.{outgoes, passing}
@@ -45,11 +45,14 @@ Rebooks r = (p : Member) → p < members_of r → (b : List ℕ) (B : Book) → 
 
 -- the carrier view by the record of a book
 abbrev pub carried_in : List ℕ → View
-carried_in b = (record_in b).carrier.view
+carried_in b = unwrap_or (record_in b).carrier no_view
+
+pub carried-is : (b : List ℕ) (v : View) → (record_in b).carrier ≡ Some v → carried_in b ≡ v
+carried-is b v e = rw e
 
 -- what is known where pass is accepted, b the member's book: there is a carrier view and i its place, something is outgoing, the queue has room
 pub record PassingOn (r : Ranges) (p : Member) (b : List ℕ) (i : ℕ) : Type 0 where
-  pub carries : (record_in b).carrier.there ≡ true
+  pub carries : (record_in b).carrier ≡ Some (carried_in b)
   pub there : i < made_of r
   pub some : 0 < get_or b outgoing_at 0
   pub few : get_or b outgoing_at 0 ≤ max_outgoing
@@ -58,11 +61,6 @@ pub record PassingOn (r : Ranges) (p : Member) (b : List ℕ) (i : ℕ) : Type 0
   pub room : get_or r.queues (waiting_at i p) 0 < max_waiting
   pub waiting : waiting_at i p + waiting_size ≤ length r.queues
   pub book : book_at p + book_size ≤ length r.books
-
--- a seat that is taken
-pub seat-some : (t : Bool) (w v : View) → cond t (Some w) None ≡ Some v → (t ≡ true) × (w ≡ v)
-seat-some true w v e = (refl, cc)
-seat-some false w v e = let z : ◌≡◌ {A = ℕ} 0 1 = cc in absurd (omega arith)
 
 module _ (r : Ranges) (fits : Ranged r) (p : Member) (member : p < members_of r) where
   abbrev b : List ℕ
@@ -99,7 +97,8 @@ module _ (r : Ranges) (fits : Ranged r) (p : Member) (member : p < members_of r)
       (view-holds (book_of r p).carrier.view _ _ (λ v c.
       first_holds (book_of r p).outgoing _ _ (λ e rest d. gives (
       need-holds (ltb (length (waiting_in r p (id_of v))) max_waiting) _ _ (λ k.
-      let (carries, same) = seat-some _ _ v (sym (ap (λ (x : Book). x.carrier.view) book-at) ∙ c) in
+      let held : (record_in b).carrier ≡ Some v = sym (ap (λ (x : Book). x.carrier.view) book-at) ∙ c in
+      let same : carried_in b ≡ v = carried-is b v held in
       let listed = ((sound-says (group_in r) s).book p member).carrier-known v c in
       let there : i < made_of r = rw same (omega (arith, length-made r, place_in v (views_made r) listed)) in
       let one = entries-first b (outgoing_at + 1) (get_or b outgoing_at 0) e rest (sym (ap (λ (x : Book). x.outgoing) book-at) ∙ d) in
@@ -107,7 +106,7 @@ module _ (r : Ranges) (fits : Ranged r) (p : Member) (member : p < members_of r)
       let from = sym same in
       gives (
         record {
-          carries = carries;
+          carries = held ∙ ap (λ (x : View). Some x) (sym same);
           there = there;
           some = one.some;
           few = layout.outgoing;

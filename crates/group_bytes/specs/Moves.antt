@@ -1,5 +1,5 @@
 -- What each step leaves in the three ranges, where it is accepted.
-use Rattle.std.specs.Prelude.{List, ℕ, zero, suc, ◌+◌, ◌*◌, get_or, set, drop}
+use Rattle.std.specs.Prelude.{List, ℕ, zero, suc, ◌+◌, ◌*◌, get_or, set, drop, unwrap_or}
 use Rattle.std.proofs.Math.Seq.{paste}
 use Rattle.numbers.specs.Number.{get, put}
 use Rattle.views.specs.declared.View.{View}
@@ -57,7 +57,7 @@ join_ranges r p v = rebooked r p (join_bytes v (book_bytes r.books p))
 unfoldable pub pass_ranges : Ranges → Member → Ranges
 pass_ranges r p =
     let b = book_bytes r.books p in
-    let i = place_of (id_of (record_in b).carrier.view) (views_made r) in
+    let i = place_of (id_of (unwrap_or (record_in b).carrier no_view)) (views_made r) in
     record {
       list = r.list;
       books = with_book r.books p (pass_bytes b);
@@ -82,7 +82,7 @@ order_ranges r p g =
 unfoldable pub deliver_ranges : Ranges → Member → Ranges
 deliver_ranges r p =
     let b = book_bytes r.books p in
-    let i = place_of (id_of (record_in b).carrier.view) (views_made r) in
+    let i = place_of (id_of (unwrap_or (record_in b).carrier no_view)) (views_made r) in
     let k = get_or b taken_at 0 in
     rebooked r p
     (take_bytes (get_or r.queues (order_sender (order_at i) k) 0) (order_message r.queues (order_at i) k) b)
@@ -99,5 +99,5 @@ attempt_ranges r p =
     record {
       list = r.list;
       books = with_book r.books p (attempt_bytes b);
-      queues = marked r.queues (place_of (id_of (record_in b).carrier.view) (views_made r));
+      queues = marked r.queues (place_of (id_of (unwrap_or (record_in b).carrier no_view)) (views_made r));
     }

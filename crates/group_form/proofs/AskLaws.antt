@@ -1,4 +1,5 @@
--- What the driver asks of the bytes is what the rule asks of the group: the last view of the list is the newest, the books are the group's, each refusal is at its place.
+-- What the driver asks of the bytes is what the rule asks of the group: the last view of the list is the newest, the books are the group's, each
+-- refusal is at its place.
 use mathlib.Core.Path.{◌≡◌, refl, sym, ap, subst, ◌∙◌}
 use mathlib.Core.Logic.{◌≢◌, ◌⊎◌, inl, inr, ⊎_elim}
 use mathlib.Core.Bool.{Bool, true, false, not}
@@ -11,7 +12,7 @@ use lib.ListN.{length, get_or, take, drop}
 use Rattle.std.proofs.Common.{◌&&◌}
 use Rattle.std.specs.List.{list_all, range_with_len}
 use Rattle.views.specs.declared.View.{View}
-use Rattle.std.specs.Prelude.{Some, Ok, Err}
+use Rattle.std.specs.Prelude.{Option, None, Some, Ok, Err}
 use Rattle.views.specs.declared.refusal.Refusal.TheVariants.{NoSuchView, ViewNotFresh, FormTestFailed}
 use Rattle.views.specs.Sizes.{view_size}
 use Rattle.views.specs.Sets.{both, one}
@@ -27,9 +28,8 @@ use Rattle.rules.specs.Group.{with_listed}
 use Rattle.rules.specs.Forming.{form_steps, is_newest, none_joined, passes_held, form_of}
 use Rattle.rules.proofs.TestLaws.{every-same}
 use Rattle.rules.proofs.Truth.{both_false}
-use Rattle.book_bytes.specs.declared.Seat.{Seat}
 use Rattle.book_bytes.specs.Places.{carrier_at, book_size}
-use Rattle.book_bytes.specs.Records.{seated, seat_in, record_in, held_in}
+use Rattle.book_bytes.specs.Records.{seat_in, record_in, held_in}
 use Rattle.book_bytes.specs.Books.{book_in}
 use Rattle.group_bytes.specs.Places.{book_bytes}
 use Rattle.group_bytes.specs.Groups.{Ranges, members_of, made_of, views_made, place_of, book_of, group_in, ranges_sound}
@@ -79,7 +79,7 @@ older g (x ∷ l) rise h =
 
 -- g is not the carrier view of p
 abbrev pub apart : List ℕ → Identifier → ℕ → Bool
-apart books g p = not (eqb (rank (seated (seat_in (book_bytes books p) carrier_at))) (suc g))
+apart books g p = not (eqb (rank (seat_in (book_bytes books p) carrier_at)) (suc g))
 
 -- the view passes the test against every view that p holds
 abbrev pub passed : List ℕ → View → ℕ → Bool
@@ -90,17 +90,16 @@ pub part-is : (books : List ℕ) (p : ℕ) → take (book_size * p + book_size -
 unfolding book_bytes
 part-is books p = let e : book_size * p + book_size - book_size * p ≡ book_size = omega arith in rw e
 
--- whether g is the identifier of what a seat holds
-module _ (g : Identifier) (s : Seat) where
-  pub carried : s.there ≡ true → eqb (id_of s.view) g ≡ eqb (rank (seated s)) (suc g)
-  carried there = rw there (by-known (known (eqb (id_of s.view) g)))
-    where
-      by-known : (eqb (id_of s.view) g ≡ true) ⊎ (eqb (id_of s.view) g ≡ false) → eqb (id_of s.view) g ≡ eqb (suc (id_of s.view)) (suc g)
-      by-known (inl t) = t ∙ sym (eq-eqb _ _ (ap (λ (k : ℕ). suc k) (eqb-true _ _ t)))
-      by-known (inr t) = t ∙ sym (ne_eqb _ _ (λ k. eqb-false _ _ t (omega arith)))
+-- whether g is the identifier of the view, where a view or none is asked for it
+pub carried : (g : Identifier) (o : Option View) (v : View) → o ≡ Some v → eqb (id_of v) g ≡ eqb (rank o) (suc g)
+carried g o v e = rw e (by-known (known (eqb (id_of v) g)))
+  where
+    by-known : (eqb (id_of v) g ≡ true) ⊎ (eqb (id_of v) g ≡ false) → eqb (id_of v) g ≡ eqb (suc (id_of v)) (suc g)
+    by-known (inl t) = t ∙ sym (eq-eqb _ _ (ap (λ (k : ℕ). suc k) (eqb-true _ _ t)))
+    by-known (inr t) = t ∙ sym (ne_eqb _ _ (λ k. eqb-false _ _ t (omega arith)))
 
-  pub none-carried : s.there ≡ false → false ≡ eqb (rank (seated s)) (suc g)
-  none-carried there = rw there (sym (ne_eqb 0 (suc g) (λ k. omega arith)))
+pub none-carried : (g : Identifier) (o : Option View) → o ≡ None → false ≡ eqb (rank o) (suc g)
+none-carried g o e = rw e (sym (ne_eqb 0 (suc g) (λ k. omega arith)))
 
 -- ---- the members in turn
 
@@ -113,7 +112,8 @@ last-of t a zero = let z : a + 0 ≡ a = omega arith in rw z (only (t a))
     only false = refl
 last-of t a (suc n) =
     let e : a + 1 + n ≡ a + suc n = omega arith in
-    ap (λ (b : Bool). t a && b) (last-of t (a + 1) n) ∙ shift (t a) (list_all t (range_with_len (a + 1) n)) (t (a + 1 + n)) ∙ ap (λ (k : ℕ). both (list_all t (range_with_len a (suc n))) (t k)) e
+    ap (λ (b : Bool). t a && b) (last-of t (a + 1) n) ∙ shift (t a) (list_all t (range_with_len (a + 1) n)) (t (a + 1 + n))
+    ∙ ap (λ (k : ℕ). both (list_all t (range_with_len a (suc n))) (t k)) e
   where
     shift : (a b c : Bool) → (a && both b c) ≡ both (a && b) c
     shift true b c = refl
@@ -156,7 +156,8 @@ module _ (r : Ranges) where
 
       -- the tests of the bytes, in the rule's order
       by_tests : form_of one (group_in r) g
-          ≡ need (both (is_newest g (views_made r)) (none_at r.books g)) ViewNotFresh (need (passes_at r.books here.0) FormTestFailed (accepted (form_steps here.0)))
+          ≡ need (both (is_newest g (views_made r)) (none_at r.books g)) ViewNotFresh
+          (need (passes_at r.books here.0) FormTestFailed (accepted (form_steps here.0)))
       unfolding form_of group_in with_listed
       by_tests = rw (here.1, none-joined-in g, passes-held-in here.0)
 
@@ -187,7 +188,11 @@ module _ (r : Ranges) where
 
           pub fails : passes_at r.books v ≡ false → Asks r g (Err FormTestFailed)
           unfolding need
-          fails h = record { verdict = rw (by_tests, new, free, ← same, h); newest = λ e. absurd (never FormTestFailed e); fresh = λ e. absurd (never FormTestFailed e) }
+          fails h = record {
+            verdict = rw (by_tests, new, free, ← same, h);
+            newest = λ e. absurd (never FormTestFailed e);
+            fresh = λ e. absurd (never FormTestFailed e);
+          }
 
           pub takes : passes_at r.books v ≡ true → Asks r g (Ok tt)
           unfolding need

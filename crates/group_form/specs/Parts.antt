@@ -13,7 +13,7 @@ use Rattle.rules.specs.Member.{every, every_of, all, passes}
 use Rattle.rules.specs.Forming.{form_steps, form_of}
 use Rattle.events.specs.Replies.{verdict_of}
 use Rattle.book_bytes.specs.Places.{members_at, carrier_at}
-use Rattle.book_bytes.specs.Records.{seated, seat_in, held_in}
+use Rattle.book_bytes.specs.Records.{seat_in, held_in}
 use Rattle.group_bytes.specs.Places.{book_bytes, head_size, table_size, order_at, waiting_at}
 use Rattle.group_bytes.specs.Groups.{Ranges, made_of, views_made, place_of, group_in, ranges_sound}
 use Rattle.group_bytes.specs.Steps.{step_ranges, step_reply, last_ranges, replies_of}
@@ -25,7 +25,7 @@ use Rattle.group.specs.StaysSoundParts.{StaysSound}
 -- g is no member's carrier view
 unfoldable pub none_at : List ℕ → Identifier → Bool
 none_at books g = every (get_or books members_at 0) (λ p.
-    not (eqb (rank (seated (seat_in (book_bytes books p) carrier_at))) (suc g)))
+    not (eqb (rank (seat_in (book_bytes books p) carrier_at)) (suc g)))
 
 -- the view passes the test against every view that one of its servers holds
 unfoldable pub passes_at : List ℕ → View → Bool

@@ -7,7 +7,7 @@ ghost use Rattle.views.specs.Sets.{one};
 ghost use Rattle.rules.specs.Data.{rank};
 ghost use Rattle.rules.specs.Member.{all as every, passes};
 ghost use Rattle.book_bytes.specs.Places.{members_at, carrier_at, book_size};
-ghost use Rattle.book_bytes.specs.Records.{seated, seat_in, held_in};
+ghost use Rattle.book_bytes.specs.Records.{seat_in, held_in};
 ghost use Rattle.group_bytes.specs.Places.{books_size, table_size, order_at, book_bytes};
 ghost use Rattle.group_bytes.specs.Groups.{ranges, ranges_sound};
 ghost use Rattle.group_form.specs.Parts.{none_at, passes_at, Asks, none_wait, holds_none, none_hold, untouched_at};
@@ -28,10 +28,12 @@ fn book(all: &[u8], p: u8) -> &[u8]
 // The view with the identifier is the carrier view of a book.
 fn carries(b: &[u8], id: ViewId) -> bool
     requires { book_size ≤ length b.now }
-    ensures { result ≡ eqb (rank (seated (seat_in b.now carrier_at))) (suc id.0) }
+    ensures { result ≡ eqb (rank (seat_in b.now carrier_at)) (suc id.0) }
 {
-    let seat = book_bytes::load_seat(b, book_bytes::CARRIER);
-    seat.there && seat.view.id.0 == id.0
+    match book_bytes::load_seat(b, book_bytes::CARRIER) {
+        Some(v) => v.id.0 == id.0,
+        None => false,
+    }
 }
 
 // The view with the identifier is no carrier view of a member.

@@ -22,7 +22,7 @@ use Rattle.rules.proofs.Sound.{in_group, QueueSound, Sound}
 use Rattle.slots.specs.Slots.{queue_in}
 use Rattle.slots.specs.Columns.{order_entry, entries_ordered}
 use Rattle.slots.proofs.Columns.{length-firsts}
-use Rattle.book_bytes.specs.Records.{seated, record_in}
+use Rattle.book_bytes.specs.Records.{record_in}
 use Rattle.book_bytes.specs.Books.{outgoing_in, book_in, bytes_sound}
 use Rattle.book_bytes.proofs.LayoutLaws.{layout-from}
 use Rattle.group_bytes.specs.Places.{book_bytes, order_at, waiting_at}
@@ -107,7 +107,7 @@ module _ (r : Ranges) where
       unfolding book_known group_in book_in
       known-part = conditions-from _ (
           sym (record-listed (bytes p)) ∙ book-listed (group_in r) (book_in (bytes p)) seated-book
-          and le-leb _ _ (rw (ordered_of (seated (record_in (bytes p)).carrier) seated-book.carrier-known) at seated-book.taken_in)
+          and le-leb _ _ (rw (ordered_of (record_in (bytes p)).carrier seated-book.carrier-known) at seated-book.taken_in)
           and entries-listed views n (outgoing_in (bytes p)) seated-outgoing.entries
           and tt)
 

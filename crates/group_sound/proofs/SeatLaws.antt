@@ -2,6 +2,7 @@
 use mathlib.Core.Path.{◌≡◌, refl, sym, ap, ◌∙◌}
 use mathlib.Core.Bool.{Bool, true, false}
 use mathlib.Core.List.{List}
+use Rattle.std.specs.Prelude.{Option, None, Some}
 use Prim.Native.Nat.{ℕ, ◌+◌, ◌<◌, ◌≤◌}
 use borrow.Author.Tests.{le-leb, lt-leb}
 use lib.Dec.{leb}
@@ -14,68 +15,44 @@ use Rattle.wire.specs.Reader.{view_in, views_in}
 use Rattle.rules.specs.Member.{all}
 use Rattle.rules.specs.Sound.{listed, listed_if, info_listed}
 use Rattle.rules.proofs.Truth.{three}
-use Rattle.book_bytes.specs.declared.Seat.{Seat}
 use Rattle.book_bytes.specs.Places.{settled_at, carrier_at, client_at, taken_at, opens_at}
-use Rattle.book_bytes.specs.Records.{seated, seat_in, record_in}
+use Rattle.book_bytes.specs.Records.{seat_in, record_in}
 use Rattle.book_bytes.specs.Books.{outgoing_in}
 use Rattle.group_bytes.specs.Places.{order_at}
 use Rattle.group_bytes.specs.Groups.{place_of}
 use Rattle.group_sound.specs.Parts.{views_known, record_listed, ordered_in, seats_known, book_known}
 use Rattle.group_sound.proofs.Tests.{record-in}
 
--- ---- a view that may be there
+-- ---- the carrier view
 
-module _ (views : List View) (s : Seat) where
-  there-is : s.there ≡ true → listed_if views (seated s) ≡ listed views s.view
-  there-is h = rw h
-
-  none_is : s.there ≡ false → listed_if views (seated s) ≡ true
-  none_is h = rw h
-
-  module _ (b : List ℕ) (e : s ≡ seat_in b client_at) where
-    same-client : listed_if views (seated s) ≡ listed_if views (seated (seat_in b client_at))
-    same-client = ap (λ (z : Seat). listed_if views (seated z)) e
-
-    pub client-none : s.there ≡ false → true ≡ listed_if views (seated (seat_in b client_at))
-    client-none h = sym (none_is h) ∙ same-client
-
-    pub client-there : s.there ≡ true → (x : Bool) → x ≡ listed views s.view → x ≡ listed_if views (seated (seat_in b client_at))
-    client-there h x k = k ∙ sym (there-is h) ∙ same-client
-
--- ---- the carrier view is s
-
-module _ (views : List View) (q b : List ℕ) (s : Seat) (e : s ≡ seat_in b carrier_at) where
+module _ (views : List View) (q b : List ℕ) where
   abbrev client : Bool
-  client = listed_if views (seated (seat_in b client_at))
+  client = listed_if views (seat_in b client_at)
 
-  by-seat : seats_known views q b ≡ both (listed_if views (seated s)) (both (leb (get_or b taken_at 0) (ordered_in views q (seated s))) client)
+  by-seat : (s : Option View) → s ≡ seat_in b carrier_at
+      → seats_known views q b ≡ both (listed_if views s) (both (leb (get_or b taken_at 0) (ordered_in views q s)) client)
   unfolding seats_known
-  by-seat =
-      three _ _ _
-      ∙ ap (λ (z : Seat). both (listed_if views (seated z)) (both (leb (get_or b taken_at 0) (ordered_in views q (seated z))) client)) (sym e)
+  by-seat s e = rw (e, three (listed_if views (seat_in b carrier_at)) (leb (get_or b taken_at 0) (ordered_in views q (seat_in b carrier_at))) client)
 
   -- there is none: nothing can have been taken
-  module _ (h : s.there ≡ false) where
+  module _ (h : None ≡ seat_in b carrier_at) where
     pub none-taken : 0 < get_or b taken_at 0 → false ≡ seats_known views q b
     unfolding ordered_in
-    none-taken k = sym (by-seat ∙ rw (h, lt-leb (get_or b taken_at 0) 0 k))
+    none-taken k = sym (by-seat None h ∙ rw (lt-leb (get_or b taken_at 0) 0 k))
 
     pub none-known : get_or b taken_at 0 ≤ 0 → (x : Bool) → x ≡ client → x ≡ seats_known views q b
     unfolding ordered_in
-    none-known k x c = c ∙ sym (by-seat ∙ rw (h, le-leb (get_or b taken_at 0) 0 k))
+    none-known k x c = c ∙ sym (by-seat None h ∙ rw (le-leb (get_or b taken_at 0) 0 k))
 
-  -- there is one, at the place j if it is listed
-  module _ (h : s.there ≡ true) where
-    pub carrier-unlisted : listed views s.view ≡ false → false ≡ seats_known views q b
-    carrier-unlisted k = sym (by-seat ∙ rw (h, k))
+  -- there is v, at the place j if it is listed
+  module _ (v : View) (h : Some v ≡ seat_in b carrier_at) where
+    pub carrier-unlisted : listed views v ≡ false → false ≡ seats_known views q b
+    carrier-unlisted k = sym (by-seat (Some v) h ∙ rw k)
 
-    module _ (k : listed views s.view ≡ true) (j : ℕ) (at : j ≡ place_of (id_of s.view) views) where
-      ordered-there : ordered_in views q (seated s) ≡ get_or q (order_at j) 0
-      unfolding ordered_in
-      ordered-there = rw (h, at)
-
+    module _ (k : listed views v ≡ true) (j : ℕ) (at : j ≡ place_of (id_of v) views) where
       by_place : seats_known views q b ≡ both (leb (get_or b taken_at 0) (get_or q (order_at j) 0)) client
-      by_place = by-seat ∙ rw (ordered-there, there-is views s h, k)
+      unfolding ordered_in
+      by_place = by-seat (Some v) h ∙ rw (k, at)
 
       pub carrier-taken : get_or q (order_at j) 0 < get_or b taken_at 0 → false ≡ seats_known views q b
       carrier-taken m = sym (by_place ∙ rw (lt-leb (get_or b taken_at 0) (get_or q (order_at j) 0) m))
@@ -100,9 +77,9 @@ unfolding book_known seats_known record_in
 book-in views q b few rise =
     let S = listed views (view_in b settled_at) in
     let O = views_known views (views_in b (opens_at + 1) (get_or b opens_at 0)) in
-    let A = listed_if views (seated (seat_in b carrier_at)) in
-    let T = leb (get_or b taken_at 0) (ordered_in views q (seated (seat_in b carrier_at))) in
-    let C = listed_if views (seated (seat_in b client_at)) in
+    let A = listed_if views (seat_in b carrier_at) in
+    let T = leb (get_or b taken_at 0) (ordered_in views q (seat_in b carrier_at)) in
+    let C = listed_if views (seat_in b client_at) in
     let F = all (info_listed views) (outgoing_in b) in
     three (record_listed views (record_in b)) T F ∙ ap (λ (k : Bool). both k (both T F)) (record-in views b few rise) ∙ known-order S O A T C F
     ∙ ap (λ (k : Bool). both S (both O (both k F))) (sym (three A T C))

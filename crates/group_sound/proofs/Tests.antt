@@ -20,7 +20,7 @@ use Rattle.rules.specs.Alone.{book_sound}
 use Rattle.rules.proofs.TestLaws.{within-says, conditions-say}
 use Rattle.book_bytes.specs.declared.Record.{Record}
 use Rattle.book_bytes.specs.Places.{settled_at, carrier_at, client_at, opens_at}
-use Rattle.book_bytes.specs.Records.{seated, seat_in, record_in}
+use Rattle.book_bytes.specs.Records.{seat_in, record_in}
 use Rattle.book_bytes.specs.Books.{outgoing_in, book_in, layout_fits, bytes_sound}
 use Rattle.book_bytes.proofs.Opens.{opens_in}
 use Rattle.rules.proofs.Truth.{both-unit}
@@ -62,15 +62,15 @@ numbers-are layout n made room marks =
     numbers-order (eqb layout layout_number) (leb 1 n) (leb n max_members) (leb 1 made) (leb made room) (not (is_beyond marks made))
 
 record-are : (views : List View) (h : Record) → record_listed views h
-    ≡ both (listed views h.settled) (both (all (listed views) (list_of h.opens)) (both (listed_if views (seated h.carrier)) (listed_if views (seated h.client))))
+    ≡ both (listed views h.settled) (both (all (listed views) (list_of h.opens)) (both (listed_if views h.carrier) (listed_if views h.client)))
 unfolding record_listed all
 record-are views h =
-    record-order (listed views h.settled) (all (listed views) (list_of h.opens)) (listed_if views (seated h.carrier)) (listed_if views (seated h.client))
+    record-order (listed views h.settled) (all (listed views) (list_of h.opens)) (listed_if views h.carrier) (listed_if views h.client)
 
 -- in bytes, where the open views rise
 pub record-in : (views : List View) (b : List ℕ) → get_or b opens_at 0 ≤ max_open → is_rising (views_in b (opens_at + 1) (get_or b opens_at 0)) ≡ true
     → record_listed views (record_in b) ≡ both (listed views (view_in b settled_at)) (both (views_known views (views_in b (opens_at + 1) (get_or b opens_at 0)))
-    (both (listed_if views (seated (seat_in b carrier_at))) (listed_if views (seated (seat_in b client_at)))))
+    (both (listed_if views (seat_in b carrier_at)) (listed_if views (seat_in b client_at))))
 unfolding record_in
 record-in views b few rise = rw (rise, ← opens_in b few) (record-are views (record_in b))
 

@@ -23,7 +23,7 @@ use Rattle.rules.proofs.Sound.{Listed, in_group, QueueSound, Sound, sound-says, 
 use Rattle.slots.specs.Slots.{queue_in}
 use Rattle.slots.specs.Columns.{entries_ordered}
 use Rattle.book_bytes.specs.Places.{members_at, self_at}
-use Rattle.book_bytes.specs.Records.{seated, record_in}
+use Rattle.book_bytes.specs.Records.{record_in}
 use Rattle.book_bytes.specs.Books.{book_in, layout_fits, bytes_sound}
 use Rattle.book_bytes.proofs.LayoutLaws.{layout-says}
 use Rattle.rules.proofs.Truth.{alike}
@@ -88,15 +88,15 @@ module _ (r : Ranges) where
       unfolding book_known
       listed-book = let (x, _) = conditions-say _ member-says.3 in record-listed r (bytes p) ∙ x
 
-      carrier-in : (v : View) → seated (record_in (bytes p)).carrier ≡ Some v → In v views
+      carrier-in : (v : View) → (record_in (bytes p)).carrier ≡ Some v → In v views
       unfolding book_listed book_in
-      carrier-in = let (_, (x, _)) = conditions-say _ listed-book in optional-in views (seated (record_in (bytes p)).carrier) x
+      carrier-in = let (_, (x, _)) = conditions-say _ listed-book in optional-in views (record_in (bytes p)).carrier x
 
       taken-within : (book_in (bytes p)).carrier.taken ≤ length (S.order_at (group_in r) (book_in (bytes p)).carrier.view)
       unfolding book_known book_in
       taken-within =
           let (_, (x, _)) = conditions-say _ member-says.3 in
-          rw (ordered_of r (seated (record_in (bytes p)).carrier) carrier-in) (leb-true _ _ x)
+          rw (ordered_of r (record_in (bytes p)).carrier carrier-in) (leb-true _ _ x)
 
       book-sound : BookSound (in_group (group_in r)) (book_of r p)
       unfolding group_in

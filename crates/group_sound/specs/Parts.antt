@@ -14,7 +14,7 @@ use Rattle.slots.specs.Slots.{slot_size, entry_in, queue_in, slot_fits, slots_fi
 use Rattle.slots.specs.Columns.{entries_ordered, order_fits}
 use Rattle.book_bytes.specs.declared.Record.{Record}
 use Rattle.book_bytes.specs.Places.{members_at, self_at, carrier_at, client_at, taken_at}
-use Rattle.book_bytes.specs.Records.{seated, seat_in, record_in}
+use Rattle.book_bytes.specs.Records.{seat_in, record_in}
 use Rattle.book_bytes.specs.Books.{outgoing_in, bytes_sound}
 use Rattle.book_sound.specs.EntryParts.{entry_sound}
 use Rattle.group_bytes.specs.Places.{room_of, books_size, book_bytes, order_at, waiting_at, queues_size}
@@ -54,8 +54,8 @@ info_known views e = both (opens_rise e) (info_listed views e)
 unfoldable pub record_listed : List View → Record → Bool
 record_listed views h = conditions (
     all (listed views) (h.settled ∷ list_of h.opens)
-    ∷ listed_if views (seated h.carrier)
-    ∷ listed_if views (seated h.client)
+    ∷ listed_if views h.carrier
+    ∷ listed_if views h.client
     ∷ [])
 
 -- how many messages are ordered in a view or none, by the count in the queues
@@ -67,16 +67,16 @@ ordered_in views q (Some v) = get_or q (order_at (place_of (id_of v) views)) 0
 -- ordered
 unfoldable pub seats_known : List View → List ℕ → List ℕ → Bool
 seats_known views q b = conditions (
-    listed_if views (seated (seat_in b carrier_at))
-    ∷ leb (get_or b taken_at 0) (ordered_in views q (seated (seat_in b carrier_at)))
-    ∷ listed_if views (seated (seat_in b client_at))
+    listed_if views (seat_in b carrier_at)
+    ∷ leb (get_or b taken_at 0) (ordered_in views q (seat_in b carrier_at))
+    ∷ listed_if views (seat_in b client_at)
     ∷ [])
 
 -- what a book of a group is asked beyond what a member by itself is
 unfoldable pub book_known : List View → List ℕ → List ℕ → Bool
 book_known views q b = conditions (
     record_listed views (record_in b)
-    ∷ leb (record_in b).taken.0 (ordered_in views q (seated (record_in b).carrier))
+    ∷ leb (record_in b).taken.0 (ordered_in views q (record_in b).carrier)
     ∷ all (info_listed views) (outgoing_in b)
     ∷ [])
 

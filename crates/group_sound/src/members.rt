@@ -8,7 +8,7 @@ ghost use Rattle.wire.specs.Reader.{views_in};
 ghost use Rattle.rules.specs.Sound.{listed_if};
 ghost use Rattle.rules.specs.Member.{every};
 ghost use Rattle.book_bytes.specs.Places.{book_size, client_at};
-ghost use Rattle.book_bytes.specs.Records.{seated, seat_in};
+ghost use Rattle.book_bytes.specs.Records.{seat_in};
 ghost use Rattle.book_bytes.specs.Books.{bytes_sound};
 ghost use Rattle.group_bytes.specs.Places.{order_at, books_size, book_bytes};
 ghost use Rattle.group_bytes.specs.Groups.{place_of};
@@ -20,14 +20,13 @@ use views::{Member, ViewId};
 fn client_listed(list: &[u8], b: &[u8], made: u8, w: ViewId, i: u8) -> bool
     requires { (view_size * made ≤ length list.now) × (book_size ≤ length b.now)
         × (is_rising (views_in list.now 0 made) ≡ true) × (i ≡ place_of w.0 (views_in list.now 0 made)) }
-    ensures { result ≡ listed_if (views_in list.now 0 made) (seated (seat_in b.now client_at)) }
+    ensures { result ≡ listed_if (views_in list.now 0 made) (seat_in b.now client_at) }
 {
-    let client = book_bytes::load_seat(b, book_bytes::CLIENT);
-    if !client.there {
+    let Some(v) = book_bytes::load_seat(b, book_bytes::CLIENT) else {
         return true;
-    }
-    let j = crate::listed::place_near(list, made, client.view.id, w, i);
-    crate::listed::is_at(list, made, client.view, j)
+    };
+    let j = crate::listed::place_near(list, made, v.id, w, i);
+    crate::listed::is_at(list, made, v, j)
 }
 
 // The carrier view and the client view of a book are listed, if there are any, and no more was taken than is ordered.
@@ -38,12 +37,10 @@ fn seats_known(list: &[u8], b: &[u8], queues: &[u8], made: u8, w: ViewId, i: u8)
         × (i ≡ place_of w.0 (views_in list.now 0 made)) }
     ensures { result ≡ seats_known (views_in list.now 0 made) queues.now b.now }
 {
-    let carrier = book_bytes::load_seat(b, book_bytes::CARRIER);
     let taken = b[book_bytes::TAKEN];
-    if !carrier.there {
+    let Some(v) = book_bytes::load_seat(b, book_bytes::CARRIER) else {
         return taken == 0 && client_listed(list, b, made, w, i);
-    }
-    let v = carrier.view;
+    };
     let j = crate::listed::place_near(list, made, v.id, w, i);
     crate::listed::is_at(list, made, v, j)
         && taken <= queues[group_bytes::HEAD + group_bytes::TABLE * j as usize]

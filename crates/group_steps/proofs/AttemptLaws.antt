@@ -16,7 +16,6 @@ use Rattle.views.proofs.VerdictLaws.{never}
 use Rattle.rules.specs.Data.{Member, Result, refused, accepted}
 use Rattle.rules.specs.Member.{Done, attempts}
 use Rattle.rules.proofs.Holding.{Holds, gives, need-holds, view-holds, after_holds}
-use Rattle.book_bytes.specs.Records.{record_in}
 use Rattle.book_bytes.specs.Books.{book_in, members_in, own_in_book}
 use Rattle.views.specs.declared.Member.{Member as MemberNumber}
 use Rattle.events.specs.declared.Event.{Event}
@@ -26,7 +25,7 @@ use Rattle.book_steps.specs.Acts.{few_open, attempt_bytes}
 use Rattle.group_bytes.specs.Places.{book_bytes}
 use Rattle.group_bytes.specs.Groups.{Ranges, views_made, place_of}
 use Rattle.group_bytes.specs.Moves.{marked, attempt_ranges}
-use Rattle.group_bytes.proofs.PassGroup.{carried_in, seat-some}
+use Rattle.group_bytes.proofs.PassGroup.{carried_in, carried-is}
 use Rattle.group_steps.specs.OwnParts.{of_member, OwnStep, attempt_result, Attempted}
 
 -- the mark of a place fits eight bytes
@@ -51,7 +50,7 @@ module _ (r : Ranges) (p : Member) where
       need-holds _ _ _ (λ _.
       after_holds Names (attempts one (members_in b) (own_in_book b) (book_in b)) _
       (view-holds (book_in b).carrier.view _ _ (λ v c.
-      let same : carried_in b ≡ v = (seat-some (record_in b).carrier.there (carried_in b) v c).1 in
+      let same : carried_in b ≡ v = carried-is b v c in
       need-holds _ _ _ (λ _. need-holds _ _ _ (λ _. need-holds _ _ _ (λ _. gives (ap told (sym same)))))))
       (λ d k. need-holds _ _ _ (λ _. gives k)))
 

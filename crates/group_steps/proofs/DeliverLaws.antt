@@ -1,6 +1,6 @@
 -- Deliver: each refusal at its place in the row; the next entry can be taken, and what the step on the book gives is what the group's rule gives.
 use mathlib.Core.Path.{◌≡◌, refl, sym, ap, ◌∙◌, subst}
-use mathlib.Core.Bool.{true, false}
+use mathlib.Core.Bool.{true}
 use Rattle.std.specs.Prelude.{None, Some, Err}
 use mathlib.Core.List.{List, [], ◌++◌}
 use Prim.Native.Nat.{ℕ, ◌+◌, ◌*◌, ◌≤◌, ◌<◌}
@@ -39,6 +39,7 @@ use Rattle.group_bytes.proofs.RangesLaws.{RangesBytes}
 use Rattle.group_bytes.proofs.BookSounds.{book-is}
 use Rattle.group_bytes.proofs.Inside.{order-inside}
 use Rattle.group_bytes.proofs.Tables.{order-at}
+use Rattle.group_bytes.proofs.PassGroup.{carried_in, carried-is}
 use Rattle.group_bytes.proofs.DeliverGroup.{Takes, takes-accepted, deliver-takes}
 use Rattle.group_steps.specs.OwnParts.{HasBook, of_member, book_place, OwnStep}
 use Rattle.group_steps.proofs.OwnStepLaws.{place-given, place-refused, own-done}
@@ -65,7 +66,8 @@ module _ (books : List ℕ) (p : Member) (there : p < get_or books members_at 0)
   abbrev part : List ℕ
   part = take n (drop (book_size * p) books)
 
-  pub part-asks : HasBook books p → (q : Member) → q < max_members → get_or (book_bytes books p) taken_at 0 < max_ordered → get_or (book_bytes books p) carrier_at 0 ≡ 1
+  pub part-asks : HasBook books p → (q : Member) → q < max_members → get_or (book_bytes books p) taken_at 0 < max_ordered
+      → get_or (book_bytes books p) carrier_at 0 ≡ 1
       → (bytes_sound part ≡ true) × (get_or part taken_at 0 < max_ordered) × (get_or part carrier_at 0 ≡ 1) × (q < max_members)
   unfolding book_bytes
   part-asks desk q from room carrier = rw size (desk.sound there, room, carrier, from)
@@ -98,24 +100,25 @@ module _ (r : Ranges) (p : Member) where
     unfolding delivering need
     by-rule = rw (lt-ltb _ _ member)
 
-    carrier-none : (seat_in b carrier_at).there ≡ false → B.carrier.view ≡ None
+    carrier-is : B.carrier.view ≡ seat_in b carrier_at
     unfolding book_in record_in
-    carrier-none e = ap (λ (C : Book). C.carrier.view) (book-is r (ranged r s) p member) ∙ rw e
+    carrier-is = ap (λ (C : Book). C.carrier.view) (book-is r (ranged r s) p member)
 
-    pub deliver-no-carrier : (seat_in b carrier_at).there ≡ false → Delivered r p r.books (Err NoCarrierView)
+    pub deliver-no-carrier : seat_in b carrier_at ≡ None → Delivered r p r.books (Err NoCarrierView)
     unfolding deliver_step with_view left
-    deliver-no-carrier h = let t = carrier-none h in record { reply = rw (by-rule, t); taken = rw (by-rule, t) }
+    deliver-no-carrier h = let t = carrier-is ∙ h in record { reply = rw (by-rule, t); taken = rw (by-rule, t) }
 
-    module _ (there : (seat_in b carrier_at).there ≡ true) where
-      abbrev v : View
-      v = (seat_in b carrier_at).view
-
+    module _ (v : View) (there : seat_in b carrier_at ≡ Some v) where
       abbrev i : ℕ
       i = place_of (id_of v) (views_made r)
 
       carrier-some : B.carrier.view ≡ Some v
-      unfolding book_in record_in
-      carrier-some = ap (λ (C : Book). C.carrier.view) (book-is r (ranged r s) p member) ∙ rw there
+      carrier-some = carrier-is ∙ there
+
+      -- as the record of the book has it
+      recorded : place_of (id_of (carried_in b)) (views_made r) ≡ i
+      unfolding record_in
+      recorded = ap (λ (w : View). place_of (id_of w) (views_made r)) (carried-is b v there)
 
       taken_is : B.carrier.taken ≡ get_or b taken_at 0
       unfolding book_in record_in
@@ -161,13 +164,15 @@ module _ (r : Ranges) (p : Member) where
         by_next = by_first ∙ rw (order-next r.queues o k more)
 
         takes : Takes r p q m
-        unfolding record_in
-        takes = deliver-takes r (ranged r s) bytes (group-sound r s) p member _ (sym by-rule ∙ by_next)
+        takes =
+            subst (λ (j : ℕ). Takes r p (get_or r.queues (order_sender (order_at j) k) 0) (order_message r.queues (order_at j) k)) recorded
+            (deliver-takes r (ranged r s) bytes (group-sound r s) p member _ (sym by-rule ∙ by_next))
 
         -- what the code asks of the entry
         pub take-asks : (c n : ℕ) → c ≡ order_at i → n ≡ get_or b taken_at 0
             → HasBook r.books p × (p < members_of r) × (c + order_size ≤ length r.queues) × (n < max_ordered)
-            × (fits_kind (get_or r.queues (order_kind c n) 0) (get_or r.queues (order_count c n) 0) ≡ true) × (get_or r.queues (order_sender c n) 0 < max_members)
+            × (fits_kind (get_or r.queues (order_kind c n) 0) (get_or r.queues (order_count c n) 0) ≡ true)
+            × (get_or r.queues (order_sender c n) 0 < max_members)
             × (get_or b taken_at 0 < max_ordered) × (get_or b carrier_at 0 ≡ 1)
         take-asks c n e f =
             let fits = ranged r s in
@@ -185,9 +190,10 @@ module _ (r : Ranges) (p : Member) where
         in-book : of_member r.books p (λ c. taking q m (book_in c)) ≡ does ok (delivered q m B)
         in-book = of-member r.books p _ member ∙ rw (← book-is r (ranged r s) p member) (takes-accepted r p q m takes)
 
-        done : (exit : List ℕ) (x : Reply) → OwnStep p (of_member r.books p (λ c. taking q m (book_in c))) (take_bytes q m) r.books exit x → Delivered r p exit x
-        unfolding deliver_ranges record_in left
-        done exit x y = record { reply = rw by_next (y.reply ∙ ap reply_of in-book); taken = rw by_next (y.books ∙ rw in-book) }
+        done : (exit : List ℕ) (x : Reply) → OwnStep p (of_member r.books p (λ c. taking q m (book_in c))) (take_bytes q m) r.books exit x
+            → Delivered r p exit x
+        unfolding deliver_ranges left
+        done exit x y = record { reply = rw by_next (y.reply ∙ ap reply_of in-book); taken = rw (by_next, recorded) (y.books ∙ rw in-book) }
 
         pub deliver-done : (c n : ℕ) → c ≡ order_at i → n ≡ get_or b taken_at 0 → (exit : List ℕ) (x : Reply)
             → OwnStep p (of_member r.books p (λ b. taking (get_or r.queues (order_sender c n) 0) (order_message r.queues c n) (book_in b)))

@@ -1,12 +1,13 @@
 -- Pass: the member's book as a part of the books, each refusal at its place in the row, and the bytes of an accepted one.
 use mathlib.Core.Path.{◌≡◌, refl, sym, ap, ◌∙◌}
-use mathlib.Core.Bool.{true, false}
-use Rattle.std.specs.Prelude.{Some, Ok, Err}
+use mathlib.Core.Bool.{true}
+use Rattle.std.specs.Prelude.{Option, None, Some, Ok, Err}
 use mathlib.Core.List.{List}
 use Prim.Native.Nat.{ℕ, ◌+◌, ◌*◌, ◌≤◌, ◌<◌}
 use native.Mathlib.Omega.{arith}
 use borrow.Author.Tests.{lt-ltb, le-ltb}
 use lib.ListN.{length, get_or, take, drop}
+use Rattle.views.specs.declared.View.{View}
 use Rattle.views.specs.declared.refusal.Refusal.{Refusal}
 use Rattle.views.specs.declared.refusal.Refusal.TheVariants.{NoSuchMember, NoCarrierView, NoneOutgoing, WaitingFull}
 use Rattle.views.specs.Limits.{max_outgoing, max_waiting}
@@ -19,7 +20,6 @@ use Rattle.rules.proofs.Sound.{sound-says}
 use Rattle.slots.specs.Slots.{slot_size}
 use Rattle.slots.proofs.Lists.{length-entries}
 use Rattle.events.specs.Replies.{verdict_of}
-use Rattle.book_bytes.specs.declared.Seat.{Seat}
 use Rattle.book_bytes.specs.Places.{book_size, carrier_at, outgoing_at}
 use Rattle.book_bytes.specs.Records.{seat_in, record_in}
 use Rattle.book_bytes.specs.Books.{book_in}
@@ -31,7 +31,6 @@ use Rattle.group_bytes.specs.Moves.{slot_added, pass_ranges}
 use Rattle.group_bytes.proofs.PlaceLaws.{length-made, place_in}
 use Rattle.group_bytes.proofs.BookSounds.{book-is}
 use Rattle.group_bytes.proofs.Inside.{waiting-inside}
-use Rattle.group_bytes.proofs.PassGroup.{carried_in}
 use Rattle.group_bytes.proofs.Tables.{waiting-at}
 use Rattle.group_steps.specs.CarrierParts.{passing, Passed}
 use Rattle.group_steps.proofs.Rows.{ranged, group-sound, no_member, by-rule, first_of}
@@ -40,10 +39,10 @@ use Rattle.group_steps.proofs.OwnStepLaws.{place-refused, part-is}
 
 -- ---- the book of p is the part of the books that the code lends
 
-pub place_is : (books : List ℕ) (p : ℕ) {a : ℕ} → Ok a ≡ book_place books p → (m : ℕ) → m ≡ book_size → (s : Seat)
-    → s ≡ seat_in (take m (drop a books)) carrier_at → s ≡ (record_in (book_bytes books p)).carrier
+pub place_is : (books : List ℕ) (p : ℕ) {a : ℕ} → Ok a ≡ book_place books p → (m : ℕ) → m ≡ book_size → (s : Option View)
+    → s ≡ seat_in (take m (drop a books)) carrier_at → (record_in (book_bytes books p)).carrier ≡ s
 unfolding record_in
-place_is books p found m size s e = e ∙ ap (λ (b : List ℕ). seat_in b carrier_at) (part-is books p found m size)
+place_is books p found m size s e = sym (e ∙ ap (λ (b : List ℕ). seat_in b carrier_at) (part-is books p found m size))
 
 -- ---- the verdict and the bytes
 
@@ -59,17 +58,6 @@ module _ (r : Ranges) (p : ℕ) where
   abbrev b : List ℕ
   b = book_bytes r.books p
 
-  abbrev i : ℕ
-  i = place_of (id_of (carried_in b)) (views_made r)
-
-  abbrev w : ℕ
-  w = waiting_at i p
-
-  pub pass-accepted : (l q : List ℕ) → verdict_of (passing r p) ≡ Ok tt → l ≡ with_book r.books p (pass_bytes b) → q ≡ slot_added r.queues w b (outgoing_at + 1)
-      → Passed r p l q (Ok tt)
-  unfolding left pass_ranges
-  pass-accepted l q e f g = record { verdict = sym e; gone = rw e f; added = rw e g }
-
   module _ (s : ranges_sound r ≡ true) (member : p < members_of r) where
     own : (group_in r).books p ≡ book_in b
     own = book-is r (ranged r s) p member
@@ -77,22 +65,28 @@ module _ (r : Ranges) (p : ℕ) where
     rule : verdict_of (passing r p) ≡ verdict_of (pass_step (group_in r) p)
     rule = ap verdict_of (by-rule r p (pass_step (group_in r) p) member)
 
-    pub no-carrier : (record_in b).carrier.there ≡ false → verdict_of (passing r p) ≡ Err NoCarrierView
+    pub no-carrier : (record_in b).carrier ≡ None → verdict_of (passing r p) ≡ Err NoCarrierView
     unfolding pass_step passes book_in with_view after
     no-carrier t = rule ∙ rw (own, t)
 
-    module _ (t : (record_in b).carrier.there ≡ true) where
+    module _ (v : View) (t : (record_in b).carrier ≡ Some v) where
+      abbrev i : ℕ
+      i = place_of (id_of v) (views_made r)
+
+      abbrev w : ℕ
+      w = waiting_at i p
+
       -- the carrier view is one of those made
       pub carried-made : i < made_of r
       unfolding group_in book_in
       carried-made =
-          let c : ((group_in r).books p).carrier.view ≡ Some (carried_in b) = ap (λ (x : Book). x.carrier.view) own ∙ rw t in
-          let listed = ((sound-says (group_in r) (group-sound r s)).book p member).carrier-known (carried_in b) c in
-          omega (arith, length-made r, place_in (carried_in b) (views_made r) listed)
+          let c : ((group_in r).books p).carrier.view ≡ Some v = ap (λ (x : Book). x.carrier.view) own ∙ t in
+          let listed = ((sound-says (group_in r) (group-sound r s)).book p member).carrier-known v c in
+          omega (arith, length-made r, place_in v (views_made r) listed)
 
-      waits : length ((group_in r).waiting p (id_of (carried_in b))) ≡ get_or r.queues w 0
+      waits : length ((group_in r).waiting p (id_of v)) ≡ get_or r.queues w 0
       unfolding group_in
-      waits = ap length (waiting-at r (id_of (carried_in b)) i refl p member carried-made) ∙ length-entries r.queues (w + 1) (get_or r.queues w 0)
+      waits = ap length (waiting-at r (id_of v) i refl p member carried-made) ∙ length-entries r.queues (w + 1) (get_or r.queues w 0)
 
       pub none-outgoing : get_or b outgoing_at 0 ≡ 0 → verdict_of (passing r p) ≡ Err NoneOutgoing
       unfolding pass_step passes book_in with_view with_first after
@@ -106,11 +100,15 @@ module _ (r : Ranges) (p : ℕ) where
             rule ∙ rw (own, t, k, waits, le-ltb _ _ h)
 
         module _ (room : get_or r.queues w 0 < max_waiting) where
-          pub pass-moves : verdict_of (passing r p) ≡ Ok tt
+          moves : verdict_of (passing r p) ≡ Ok tt
           unfolding pass_step passes book_in with_view with_first after need
-          pass-moves =
+          moves =
               let (e, rest, k) = first_of b (outgoing_at + 1) (get_or b outgoing_at 0) some in
               rule ∙ rw (own, t, k, waits, lt-ltb _ _ room)
+
+          pub pass-accepted : (l q : List ℕ) → l ≡ with_book r.books p (pass_bytes b) → q ≡ slot_added r.queues w b (outgoing_at + 1) → Passed r p l q (Ok tt)
+          unfolding left pass_ranges
+          pass-accepted l q f g = record { verdict = sym moves; gone = rw moves f; added = rw (moves, t) g }
 
           -- what the code asks to move the entry: the book is whole, and the queue has room within the range
           pub forward-asks : (length b ≡ book_size) × (0 < get_or b outgoing_at 0) × (get_or b outgoing_at 0 ≤ max_outgoing) × (get_or r.queues w 0 < 255)

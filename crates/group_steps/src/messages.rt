@@ -3,7 +3,7 @@
 pub mod order;
 pub mod pass;
 
-ghost use Rattle.std.specs.Prelude.{◌≡◌, ◌*◌, ◌≤◌, ◌<◌, ◌+◌, length, get_or, true};
+ghost use Rattle.std.specs.Prelude.{◌≡◌, ◌*◌, ◌≤◌, ◌<◌, ◌+◌, length, get_or, true, Some};
 ghost use Rattle.views.specs.Limits.{max_views, max_members, max_ordered};
 ghost use Rattle.views.specs.Sizes.{view_size};
 ghost use Rattle.views.specs.Lists.{is_rising};
@@ -22,7 +22,7 @@ ghost use Rattle.group_steps.specs.VisitParts.{Delivered};
 use book_steps::messages::Entry;
 use events::Reply;
 use views::refusal::Refusal;
-use views::{Member, ViewId};
+use views::{Member, View, ViewId};
 
 // Where the order of the view with the identifier stands.
 fn order_of(list: &[u8], queues: &[u8], g: ViewId) -> usize
@@ -60,17 +60,16 @@ fn take_at(all: &mut [u8], queues: &[u8], p: Member, c: usize, k: usize) -> Repl
     book_steps::messages::deliver(&mut all[a..e], x, queues, at, n)
 }
 
-// The member p takes the next message of its carrier view, which has the identifier g.
-fn next(list: &[u8], all: &mut [u8], queues: &[u8], p: Member, g: ViewId) -> Reply
+// The member p takes the next message of its carrier view v.
+fn next(list: &[u8], all: &mut [u8], queues: &[u8], p: Member, v: View) -> Reply
     requires { (ranges_sound (record { list = list.now; books = all.old; queues = queues.now }) ≡ true)
         × (p.0 < get_or all.old members_at 0)
-        × ((seat_in (book_bytes all.old p.0) carrier_at).there ≡ true)
-        × (g ≡ (seat_in (book_bytes all.old p.0) carrier_at).view.id) }
+        × (seat_in (book_bytes all.old p.0) carrier_at ≡ Some v) }
     ensures { Delivered
         (record { list = list.entry.now; books = all.old; queues = queues.now }) p.0
         all.new result }
 {
-    let c = order_of(list, queues, g);
+    let c = order_of(list, queues, v.id);
     let k = all[book_bytes::SIZE * (p.0 as usize) + book_bytes::TAKEN];
     if queues[c] <= k {
         return Err(Refusal::NoneToDeliver);
@@ -87,8 +86,5 @@ pub fn deliver(list: &[u8], all: &mut [u8], queues: &[u8], p: Member) -> Reply
 {
     let a = crate::book_at(all, p)?;
     let seat = book_bytes::load_seat(&all[a..a + book_bytes::SIZE], book_bytes::CARRIER);
-    if !seat.there {
-        return Err(Refusal::NoCarrierView);
-    }
-    next(list, all, queues, p, seat.view.id)
+    next(list, all, queues, p, seat.ok_or(Refusal::NoCarrierView)?)
 }

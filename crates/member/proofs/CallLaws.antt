@@ -7,7 +7,7 @@ use Prim.Native.Nat.{ℕ, ◌≤◌, ◌<◌}
 use native.Mathlib.Omega.{arith}
 use borrow.Author.Tests.{ltb-true, lt-ltb, le-ltb, not-true, not-false}
 use lib.Dec.{ltb}
-use Rattle.std.specs.Prelude.{Ok, Err}
+use Rattle.std.specs.Prelude.{Option, None, Some, ok_or, Ok, Err}
 use Rattle.views.specs.declared.refusal.Refusal.{Refusal}
 use Rattle.views.specs.declared.refusal.Refusal.TheVariants.{RecordsUnsound, NoSuchMember}
 use Rattle.views.specs.Refusals.{left}
@@ -43,6 +43,12 @@ unsound-called b r h =
 pub sound-called : {A : Type 0} (b : List ℕ) (r : Result A) → bytes_sound b ≡ true → called b r ≡ need (ltb (own_in_book b) (members_in b)) NoSuchMember r
 unfolding bytes_sound alone need
 sound-called b r h = let (l, (s, _)) = conditions-say _ h in rw (l, s)
+
+-- ---- what is asked for and is not there
+
+pub missing : {A : Type 0} {r x : Refusal} (o : Option A) → Err x ≡ ok_or o r → (o ≡ None) × (x ≡ r)
+missing None e = (refl, cc)
+missing {x = x} (Some y) e = absurd (never x e)
 
 -- ---- admit
 

@@ -7,7 +7,7 @@ use Rattle.std.specs.Prelude.{Result as Outcome}
 use mathlib.Core.List.{List, [], ◌∷◌}
 use Prim.Native.Nat.{ℕ, zero, suc, ◌+◌, ◌≤◌, ◌<◌}
 use native.Mathlib.Omega.{arith}
-use borrow.Author.Tests.{leb-true, le-leb, not-true, not-false}
+use borrow.Author.Tests.{leb-true, le-leb, not-true}
 use lib.Dec.{leb}
 use lib.ListN.{length, get_or}
 use Rattle.views.specs.declared.View.{View}
@@ -24,22 +24,20 @@ use Rattle.views.proofs.VerdictLaws.{then-given, then-met}
 use Rattle.wire.specs.declared.Frame.{Frame}
 use Rattle.wire.specs.declared.Message.{Message as Carried}
 use Rattle.wire.specs.Format.{kind_of, views_allowed, some_empty, told_fits, content_of}
-use Rattle.wire.specs.Reader.{view_in}
 use Rattle.wire.specs.Writer.{number_of, frame_bytes, frame_verdict, write_verdict, frame_from, LiesAt, Wrote}
 use Rattle.wire.proofs.ReaderLaws.{list-views_in}
 use Rattle.rules.specs.Data.{Book as Ruled, Message, client, info, registered, told, Entry, entry, Result, refused, accepted, need, with_view, with_first, after}
 use Rattle.rules.specs.Member.{Passing, passing, outgoes, all}
 use Rattle.rules.specs.Sound.{within, count_fits, set_fits, opens_rise}
-use Rattle.rules.specs.Alone.{views_of, carried_of, sets_fit, pass_alone, book_sound, message_bytes, passed_bytes}
+use Rattle.rules.specs.Alone.{views_of, carried_of, sets_fit, pass_alone, book_sound, passed_bytes}
 use Rattle.rules.proofs.TestLaws.{all-at, conditions-say, both-from, within-says}
 use Rattle.slots.specs.Slots.{slot_size, kind_in, number_in, message_in, entry_in, entries_in}
 use Rattle.slots.specs.FrameParts.{framed, carried_at, frame_at}
 use Rattle.slots.proofs.Frames.{EntryOk, number_at, frame-carried, frame-views, frame-message, slot-framed}
 use Rattle.slots.proofs.Lists.{slots-first}
 use Rattle.events.specs.Replies.{verdict_of}
-use Rattle.book_bytes.specs.declared.Seat.{Seat}
 use Rattle.book_bytes.specs.Places.{carrier_at, outgoing_at}
-use Rattle.book_bytes.specs.Records.{flag_in, seat_in, record_in}
+use Rattle.book_bytes.specs.Records.{seat_in, record_in}
 use Rattle.book_bytes.specs.Books.{outgoing_in, book_in, bytes_sound, members_in}
 use Rattle.book_steps.specs.Acts.{pass_bytes}
 use Rattle.book_steps.proofs.Committed.{sound-layout}
@@ -155,7 +153,7 @@ outgoing-says b h e i =
 abbrev pub first_at : ℕ
 first_at = outgoing_at + 1
 
--- the frame of a seat's view, written and gone, is the rule's answer
+-- the frame of the first message, written and gone, is the rule's answer
 out-as : (f : Frame) (x : Passing) (b d out end : List ℕ) (r : Outcome ℕ Refusal) → frame_verdict f ≡ Ok tt → frame_bytes f ≡ passed_bytes x
     → SentOut f b d out end r → GaveOut (need (leb (length (passed_bytes x)) (length out)) BufferTooShort (accepted x)) (pass_bytes b) b d out end r
 unfolding write_verdict and_then require need left
@@ -188,47 +186,39 @@ module _ (b : List ℕ) (sound : bytes_sound b ≡ true) where
   pub first-few : 0 < get_or b outgoing_at 0 → framed b (outgoing_at + 1) ≤ max_views
   first-few h = slot-framed b first_at (slots-first b first_at (get_or b outgoing_at 0) h (sound-layout b sound).slots)
 
-  module _ (s : Seat) (loaded : s ≡ seat_in b carrier_at) where
-    there-is : flag_in b carrier_at ≡ s.there
-    there-is = ap (λ (x : Seat). x.there) (sym loaded)
+  pub pass-unseated : (out : List ℕ) → seat_in b carrier_at ≡ None
+      → GaveOut (passing_into (length out) (book_in b)) (pass_bytes b) b b out out (Err NoCarrierView)
+  unfolding book_in record_in
+  pass-unseated out e = out_none (book_in b) NoCarrierView (passing-none (book_in b) e) (pass_bytes b) b out
 
-    pub pass-unseated : (out : List ℕ) → not s.there ≡ true
-        → GaveOut (passing_into (length out) (book_in b)) (pass_bytes b) b b out out (Err NoCarrierView)
+  module _ (v : View) (seated : seat_in b carrier_at ≡ Some v) where
+    carrier-is : (book_in b).carrier.view ≡ Some v
     unfolding book_in record_in
-    pass-unseated out h =
-        let t : flag_in b carrier_at ≡ false = there-is ∙ not-true _ h in
-        out_none (book_in b) NoCarrierView (passing-none (book_in b) (rw t refl)) (pass_bytes b) b out
+    carrier-is = seated
 
-    module _ (seated : not s.there ≡ false) where
-      carrier-is : (book_in b).carrier.view ≡ Some (view_in b (carrier_at + 1))
-      unfolding book_in record_in
-      carrier-is = let t : flag_in b carrier_at ≡ true = there-is ∙ not-false _ seated in rw t refl
+    out-is : (l : List Entry) → entries_in b first_at (get_or b outgoing_at 0) ≡ entry_in b first_at ∷ l → (book_in b).outgoing ≡ entry_in b first_at ∷ l
+    unfolding book_in
+    out-is l e = e
 
-      out-is : (l : List Entry) → entries_in b first_at (get_or b outgoing_at 0) ≡ entry_in b first_at ∷ l → (book_in b).outgoing ≡ entry_in b first_at ∷ l
-      unfolding book_in
-      out-is l e = e
+    pub pass-emptied : (out : List ℕ) → get_or b outgoing_at 0 ≡ 0
+        → GaveOut (passing_into (length out) (book_in b)) (pass_bytes b) b b out out (Err NoneOutgoing)
+    unfolding book_in entries_in
+    pass-emptied out h =
+        let none_out : (book_in b).outgoing ≡ [] = ap (entries_in b first_at) h in
+        out_none (book_in b) NoneOutgoing (passing-empty (book_in b) v carrier-is none_out) (pass_bytes b) b out
 
-      pub pass-emptied : (out : List ℕ) → get_or b outgoing_at 0 ≡ 0
-          → GaveOut (passing_into (length out) (book_in b)) (pass_bytes b) b b out out (Err NoneOutgoing)
-      unfolding book_in entries_in
-      pass-emptied out h =
-          let none_out : (book_in b).outgoing ≡ [] = ap (entries_in b first_at) h in
-          out_none (book_in b) NoneOutgoing (passing-empty (book_in b) (view_in b (carrier_at + 1)) carrier-is none_out) (pass_bytes b) b out
-
-      pub pass-done : 0 < get_or b outgoing_at 0 → (d out end : List ℕ) (r : Outcome ℕ Refusal)
-          → SentOut (frame_at b (outgoing_at + 1) s.view.id.0) b d out end r → GaveOut (passing_into (length out) (book_in b)) (pass_bytes b) b d out end r
-      unfolding after
-      pass-done h d out end r o =
-          let (l, first) = entries-first b first_at (get_or b outgoing_at 0) h in
-          let g = id_of s.view in
-          let (ok, frame) = first_frame h g in
-          let v = view_in b (carrier_at + 1) in
-          let same : s.view ≡ v = ap (λ (x : Seat). x.view) loaded in
-          let x : Passing = record { to = v; first = entry_in b first_at; book = outgoes l (book_in b) } in
-          let gives : passing (book_in b) ≡ accepted x = passing-first (book_in b) v (entry_in b first_at) l carrier-is (out-is l first) in
-          let f = frame_at b first_at g in
-          let bytes : frame_bytes f ≡ passed_bytes x = frame-message b first_at g ok ∙ ap (λ (w : View). message_bytes (id_of w) (message_in b first_at)) same in
-          rw gives (out-as f x b d out end r frame bytes o)
+    pub pass-done : 0 < get_or b outgoing_at 0 → (d out end : List ℕ) (r : Outcome ℕ Refusal)
+        → SentOut (frame_at b (outgoing_at + 1) v.id.0) b d out end r → GaveOut (passing_into (length out) (book_in b)) (pass_bytes b) b d out end r
+    unfolding after
+    pass-done h d out end r o =
+        let (l, first) = entries-first b first_at (get_or b outgoing_at 0) h in
+        let g = id_of v in
+        let (ok, frame) = first_frame h g in
+        let x : Passing = record { to = v; first = entry_in b first_at; book = outgoes l (book_in b) } in
+        let gives : passing (book_in b) ≡ accepted x = passing-first (book_in b) v (entry_in b first_at) l carrier-is (out-is l first) in
+        let f = frame_at b first_at g in
+        let bytes : frame_bytes f ≡ passed_bytes x = frame-message b first_at g ok in
+        rw gives (out-as f x b d out end r frame bytes o)
 
 -- ---- after 4 and 6
 

@@ -2,11 +2,11 @@
 use mathlib.Core.Path.{◌≡◌, refl, sym, ap, subst, ◌∙◌}
 use Rattle.std.specs.Prelude.{None, Option, Some, Ok, Err, IsOk, is_ok, MatchResult}
 use Rattle.std.specs.Prelude.{Result as Outcome}
-use mathlib.Core.Bool.{Bool, true, false, not, true≢false}
+use mathlib.Core.Bool.{Bool, true, true≢false}
 use mathlib.Core.List.{List, [], ◌∷◌}
 use Prim.Native.Nat.{ℕ, suc, ◌+◌, ◌-◌, ◌*◌, ◌≤◌, ◌<◌}
 use native.Mathlib.Omega.{arith}
-use borrow.Author.Tests.{not-true, not-false, eqb-true, leb-true, le-ltb}
+use borrow.Author.Tests.{eqb-true, leb-true, le-ltb}
 use lib.Dec.{eqb, leb}
 use lib.ListN.{length, take, drop}
 use lib.Seq.{take_all}
@@ -23,7 +23,7 @@ use Rattle.wire.specs.declared.Frame.{Frame}
 use Rattle.wire.specs.declared.Message.TheVariants.{Info}
 use Rattle.wire.specs.declared.Reading.{Reading}
 use Rattle.wire.specs.Format.{views_allowed}
-use Rattle.wire.specs.Reader.{kind_in, views_at, view_count, view_in, views_in, number_in, message_of as message_in, scan_of, frame_in, read_front, front_of}
+use Rattle.wire.specs.Reader.{kind_in, views_at, view_count, views_in, number_in, message_of as message_in, scan_of, frame_in, read_front, front_of}
 use Rattle.wire.specs.Single.{read_one}
 use Rattle.wire.proofs.FormatLaws.{views-few}
 use Rattle.wire.proofs.ReaderLaws.{length-views_in, list-views_in}
@@ -35,9 +35,8 @@ use Rattle.rules.specs.Member.{Done, all}
 use Rattle.rules.specs.Sound.{set_fits}
 use Rattle.rules.specs.Alone.{Sent, message_of, views_of, sent_in, sent_of, deliver_alone}
 use Rattle.rules.proofs.Holding.{Holds, gives, holds-from, need-holds, view-holds, after_holds}
-use Rattle.book_bytes.specs.declared.Seat.{Seat}
 use Rattle.book_bytes.specs.Places.{carrier_at}
-use Rattle.book_bytes.specs.Records.{flag_in, seat_in, record_in}
+use Rattle.book_bytes.specs.Records.{seat_in, record_in}
 use Rattle.book_bytes.specs.Books.{book_in, bytes_sound, members_in, own_in_book}
 use Rattle.events.specs.Replies.{Reply, replied, reply_of, verdict_of}
 use Rattle.events.proofs.ReplyLaws.{accepts}
@@ -153,7 +152,7 @@ arrives n q b v x read e f =
     ap (λ (o : Option View). with_view o NoCarrierView (λ w. after read (λ y. arriving n w y q b))) e
     ∙ ap (λ (z : Result Sent). after z (λ y. arriving n v y q b)) f
 
-module _ (b : List ℕ) (f : Frame) (read : Verdict) (q : ℕ) (s : Seat) (loaded : s ≡ seat_in b carrier_at) where
+module _ (b : List ℕ) (f : Frame) (read : Verdict) (q : ℕ) where
   abbrev sent : Result Sent
   sent = sent_as read f
 
@@ -164,34 +163,28 @@ module _ (b : List ℕ) (f : Frame) (read : Verdict) (q : ℕ) (s : Seat) (loade
   unfolding left
   took-refused x e = record { verdict = ap verdict_of (sym e); book = refl }
 
-  there-is : flag_in b carrier_at ≡ s.there
-  there-is = ap (λ (x : Seat). x.there) (sym loaded)
-
-  pub read-unseated : not s.there ≡ true → Took sent q b b (Err NoCarrierView)
+  pub read-unseated : seat_in b carrier_at ≡ None → Took sent q b b (Err NoCarrierView)
   unfolding book_in record_in with_view
-  read-unseated h = let t : flag_in b carrier_at ≡ false = there-is ∙ not-true _ h in took-refused NoCarrierView (rw t refl)
+  read-unseated e = took-refused NoCarrierView (rw e refl)
 
-  module _ (seated : not s.there ≡ false) where
-    pub read-carrier : (book_in b).carrier.view ≡ Some s.view
+  module _ (v : View) (seated : seat_in b carrier_at ≡ Some v) where
+    pub read-carrier : (book_in b).carrier.view ≡ Some v
     unfolding book_in record_in
-    read-carrier =
-        let t : flag_in b carrier_at ≡ true = there-is ∙ not-false _ seated in
-        let v : s.view ≡ view_in b (carrier_at + 1) = ap (λ (x : Seat). x.view) loaded in
-        rw (t, v) refl
+    read-carrier = seated
 
     pub read-refused : {x : Refusal} → read ≡ Err x → Took sent q b b (Err x)
     unfolding with_view after
     read-refused {x} t = let k : sent ≡ refused x = rw t refl in took-refused x (rw (read-carrier, k) refl)
 
     pub read_done : {u : Unit {0}} → read ≡ Ok u → (y : Reply) (d : List ℕ)
-        → Answered (arriving (members_in b) s.view (sent_in f) q (book_in b)) (take_bytes q (sent_in f).message b) b y d → Took sent q b d (verdict_given y)
+        → Answered (arriving (members_in b) v (sent_in f) q (book_in b)) (take_bytes q (sent_in f).message b) b y d → Took sent q b d (verdict_given y)
     read_done t y d (e, g) =
-        let r = arriving (members_in b) s.view (sent_in f) q (book_in b) in
+        let r = arriving (members_in b) v (sent_in f) q (book_in b) in
         let k : sent ≡ accepted (sent_in f) = rw t refl in
-        let is : result ≡ r = arrives (members_in b) q (book_in b) s.view (sent_in f) sent read-carrier k in
+        let is : result ≡ r = arrives (members_in b) q (book_in b) v (sent_in f) sent read-carrier k in
         let new : taken_bytes sent q b ≡ take_bytes q (sent_in f).message b = ap (λ (z : Result Sent). taken_bytes z q b) k in
-        let v : verdict_given y ≡ verdict_of r = ap verdict_given e ∙ reply-verdict r in
-        record { verdict = v ∙ ap verdict_of (sym is); book = g ∙ (λ i. left (sym v i) (sym new i) b) }
+        let w : verdict_given y ≡ verdict_of r = ap verdict_given e ∙ reply-verdict r in
+        record { verdict = w ∙ ap verdict_of (sym is); book = g ∙ (λ i. left (sym w i) (sym new i) b) }
 
 -- ---- deliver of what was read, after 4 and 6
 

@@ -1,19 +1,13 @@
--- What the walks over members and over views find, and the seats compared.
-use mathlib.Core.Path.{◌≡◌, refl, sym, ◌∙◌}
-use mathlib.Core.Bool.{Bool, true, false, cond, not, ◌&&◌, ◌||◌}
-use Rattle.std.specs.Prelude.{None, Some}
+-- What the walks over members and over views find.
+use mathlib.Core.Path.{◌≡◌, refl, ◌∙◌}
+use mathlib.Core.Bool.{Bool, true, false, not, ◌&&◌, ◌||◌}
 use mathlib.Core.List.{List, [], ◌∷◌}
 use Prim.Native.Nat.{ℕ, zero, suc, ◌+◌}
 use Rattle.std.specs.List.{list_all, range_with_len}
 use native.Mathlib.Omega.{arith}
-use lib.Dec.{eqb, eqb-zero-suc}
 use Rattle.views.specs.declared.View.{View}
 use Rattle.views.specs.Sets.{has, both, one, majority_of}
-use Rattle.views.specs.Lists.{id_of}
-use Rattle.rules.specs.Data.{rank}
 use Rattle.rules.specs.Member.{every, all, passes}
-use Rattle.book_bytes.specs.declared.Seat.{Seat}
-use Rattle.book_bytes.specs.Records.{seated}
 
 -- a member of the set is asked, another is not
 module _ (members : ℕ) (f : ℕ → Bool) (q : ℕ) where
@@ -51,15 +45,3 @@ all-list f (x ∷ l) = rw (all-list f l) (both-and (f x) (all f l))
 pub passes-majority : (v held : View) → passes one v held ≡ majority_of v.set held.set
 unfolding passes majority_of
 passes-majority v held = refl
-
--- ---- seats
-
-pub rank-there : (s : Seat) → s.there ≡ true → rank (seated s) ≡ suc (id_of s.view)
-rank-there s e = rw e
-
-pub rank-none : (s : Seat) → s.there ≡ false → rank (seated s) ≡ 0
-rank-none s e = rw e
-
-pub none-same : (there : Bool) (v : View) → not there ≡ eqb 0 (rank (cond there (Some v) None))
-none-same true v = sym (eqb-zero-suc (id_of v))
-none-same false v = refl

@@ -3,6 +3,7 @@ use mathlib.Core.Path.{◌≡◌, ap, ◌∙◌}
 use mathlib.Core.Logic.{⊎_elim}
 use mathlib.Core.Bool.{true, false, cond}
 use mathlib.Core.List.{List, [], ◌∷◌}
+use Rattle.std.specs.Prelude.{Some}
 use Prim.Native.Nat.{ℕ, ◌+◌, ◌≤◌}
 use native.Mathlib.Omega.{arith}
 use lib.Dec.{ltb}
@@ -20,7 +21,7 @@ use Rattle.book_bytes.specs.declared.Record.{Record}
 use Rattle.book_bytes.specs.Records.{meaning}
 use Rattle.book_bytes.proofs.Blank.{none-noted, none_told}
 use Rattle.book_bytes.proofs.Changes.{carried, counting}
-use Rattle.record_steps.specs.Turns.{seat, opened_to, attempted_at, settled_as}
+use Rattle.record_steps.specs.Turns.{opened_to, attempted_at, settled_as}
 
 -- ---- open views in their places
 
@@ -51,7 +52,7 @@ unnoted_of h = counting h h.registered h.handed.0 h.told.0 h.reported.0 0 0 0 (r
 
 -- the record after a join
 abbrev pub joined_to : View → Record → Record
-joined_to v h = unnoted_of (carried h (seat v))
+joined_to v h = unnoted_of (carried h (Some v))
 
 module _ (h : Record) (out : List Entry) (own new : List (Item ℕ)) where
   pub join-book : (p : ℕ) (v : View)

@@ -1,32 +1,24 @@
 -- What a join, an attempt and a collect that are accepted leave of the book that a record is: the book that the record after the turn is, with the
 -- queues changed as the rule says.
 use mathlib.Core.Path.{◌≡◌, sym, ◌∙◌}
-use mathlib.Core.Logic.{⊎_elim}
-use mathlib.Core.Bool.{true, false}
-use Rattle.std.specs.Prelude.{None, Some}
+use Rattle.std.specs.Prelude.{Option, Some, unwrap_or}
 use mathlib.Core.List.{List, [], ◌∷◌}
 use Prim.Native.Nat.{ℕ, ◌≤◌}
-use native.Mathlib.Omega.{arith}
 use lib.ListN.{length}
 use Rattle.views.specs.declared.View.{View}
 use Rattle.views.specs.Limits.{max_open}
-use Rattle.views.specs.Lists.{list_of, placed}
-use Rattle.views.proofs.SetLaws.{known}
+use Rattle.views.specs.Lists.{no_view, list_of, placed}
 use Rattle.rules.specs.Data.{Entry, entry, info, Item}
 use Rattle.rules.specs.Member.{joins, attempts, collects}
-use Rattle.book_bytes.specs.declared.Seat.{Seat}
 use Rattle.book_bytes.specs.declared.Record.{Record}
-use Rattle.book_bytes.specs.Records.{seated, meaning}
+use Rattle.book_bytes.specs.Records.{meaning}
 use Rattle.record_steps.specs.Turns.{attempted_at, settled_as}
 use Rattle.record_steps.proofs.MeaningLeft.{Leaves, joins-leaves, attempts-leaves, collects-leaves}
 use Rattle.record_steps.proofs.MeaningBooks.{joined_to, join-book, attempt-book, collect-book}
 
--- the view of a seat that has one
-pub seated-view : (s : Seat) (v : View) → seated s ≡ Some v → v ≡ s.view
-seated-view s v e =
-    ⊎_elim (λ (t : s.there ≡ true). let k : Some s.view ≡ Some v = rw t at e in cc)
-    (λ (t : s.there ≡ false). let k : None ≡ Some v = rw t at e in let z : ◌≡◌ {A = ℕ} 0 1 = cc in absurd (omega arith))
-    (known s.there)
+-- the view that there is
+pub view-is : (o : Option View) (v : View) → o ≡ Some v → v ≡ unwrap_or o no_view
+view-is o v e = rw e
 
 -- ---- the rule's book
 
@@ -35,12 +27,13 @@ module _ (h : Record) (out : List Entry) (own new : List (Item ℕ)) where
   join-leaves p v d e = joins-leaves p (meaning h out own new) v d e ∙ sym (join-book h out own new p v)
 
   module _ (l : List View) (lies : h.opens ≡ placed l) (short : length l ≤ max_open) where
-    pub attempt-leaves : (weight : ℕ → ℕ) (n p : ℕ) → Leaves (attempts weight n p (meaning h out own new)) (meaning (attempted_at h.carrier.view h) out new [])
+    pub attempt-leaves : (weight : ℕ → ℕ) (n p : ℕ)
+        → Leaves (attempts weight n p (meaning h out own new)) (meaning (attempted_at (unwrap_or h.carrier no_view) h) out new [])
     attempt-leaves weight n p d e =
-        attempts-leaves p (meaning h out own new) weight n h.carrier.view (seated-view h.carrier) d e
-        ∙ sym (attempt-book h out own new l lies short h.carrier.view)
+        attempts-leaves p (meaning h out own new) weight n (unwrap_or h.carrier no_view) (view-is h.carrier) d e
+        ∙ sym (attempt-book h out own new l lies short (unwrap_or h.carrier no_view))
 
-    pub collect-leaves : (n : ℕ) → Leaves (collects n (meaning h out own new)) (meaning (settled_as h.carrier.view h) out own new)
+    pub collect-leaves : (n : ℕ) → Leaves (collects n (meaning h out own new)) (meaning (settled_as (unwrap_or h.carrier no_view) h) out own new)
     collect-leaves n d e =
-        collects-leaves (meaning h out own new) n h.carrier.view (seated-view h.carrier) d e
-        ∙ sym (collect-book h out own new l lies short h.carrier.view)
+        collects-leaves (meaning h out own new) n (unwrap_or h.carrier no_view) (view-is h.carrier) d e
+        ∙ sym (collect-book h out own new l lies short (unwrap_or h.carrier no_view))

@@ -1,7 +1,7 @@
 -- Each step's verdict as its row of tests in the record's own terms, from left to right: of the queues it asks no more than their lengths.
 use mathlib.Core.Path.{◌≡◌, refl, ap, ◌∙◌}
-use mathlib.Core.Bool.{Bool, true, false, cond, not, ◌||◌}
-use Rattle.std.specs.Prelude.{None, Some, Result, Ok, Err}
+use mathlib.Core.Bool.{Bool, true, false, not, ◌||◌}
+use Rattle.std.specs.Prelude.{Option, None, Some, is_some, unwrap_or, Result, Ok, Err}
 use mathlib.Core.List.{List, [], ◌∷◌}
 use Prim.Native.Nat.{ℕ, zero, suc, min}
 use lib.Dec.{eqb, ltb, leb-zero, leb-suc-zero, leb-suc-suc}
@@ -12,14 +12,13 @@ use Rattle.views.specs.declared.refusal.Refusal.TheVariants.{NoCarrierView, NotA
 use Rattle.views.specs.Refusals.{Verdict, require, and_then}
 use Rattle.views.specs.Limits.{max_outgoing}
 use Rattle.views.specs.Sets.{both, has}
-use Rattle.views.specs.Lists.{id_of, list_of}
+use Rattle.views.specs.Lists.{id_of, no_view, list_of}
 use Rattle.rules.specs.Data as R
 use Rattle.rules.specs.Data.{Entry, Item, item, need as needed, with_view, with_first, rank}
 use Rattle.rules.specs.Member.{every_of, all, is_above, passes, joins, attempts, registers, sends, hands, tells, safes, collects}
 use Rattle.events.specs.Replies.{verdict_of}
-use Rattle.book_bytes.specs.declared.Seat.{Seat}
 use Rattle.book_bytes.specs.declared.Record.{Record}
-use Rattle.book_bytes.specs.Records.{seated, meaning}
+use Rattle.book_bytes.specs.Records.{meaning}
 use Rattle.record_steps.specs.Turns.{items_of, join_verdict}
 
 -- ---- a row and a step by its verdict
@@ -40,14 +39,11 @@ module _ {A : Type 0} where
   at-need true r x = refl
   at-need false r x = refl
 
-  at-seat : (there : Bool) (v : View) (r : Refusal) (f : View → R.Result A)
-      → verdict_of (with_view (cond there (Some v) None) r f) ≡ require there r (verdict_of (f v))
+  at-view : (o : Option View) (r : Refusal) (f : View → R.Result A)
+      → verdict_of (with_view o r f) ≡ require (is_some o) r (verdict_of (f (unwrap_or o no_view)))
   unfolding with_view require
-  at-seat true v r f = refl
-  at-seat false v r f = refl
-
-  at-view : (s : Seat) (r : Refusal) (f : View → R.Result A) → verdict_of (with_view (seated s) r f) ≡ require s.there r (verdict_of (f s.view))
-  at-view s r f = at-seat s.there s.view r f
+  at-view (Some v) r f = refl
+  at-view None r f = refl
 
   -- the first of a list behind k, where the verdict is the same whatever it is
   at_first : {B : Type 0} (l : List B) (k : ℕ) (r : Refusal) (f : B → List B → R.Result A) (v : Verdict) → ((x : B) (rest : List B) → verdict_of (f x rest) ≡ v)
@@ -62,7 +58,7 @@ module _ {A : Type 0} where
 
 -- the client view is the carrier view
 abbrev pub together : Record → Bool
-together h = eqb (rank (seated h.client)) (rank (seated h.carrier))
+together h = eqb (rank h.client) (rank h.carrier)
 
 -- the inward list that the turns ask of the rules is as long as they say
 pub items-length : (n : ℕ) → length (items_of n) ≡ n
@@ -78,44 +74,45 @@ module _ (p : ℕ) (h : Record) (out : List Entry) (own new : List (Item ℕ)) w
   join-row v = at-need _ _ _ ∙ ap (require _ _) (at-need _ _ _)
 
   pub attempt-row : (weight : ℕ → ℕ) (n : ℕ)
-      → verdict_of (attempts weight n p (meaning h out own new)) ≡ require h.carrier.there NoCarrierView (
-      require (is_above (id_of h.carrier.view) (seated h.client)) NotAboveClient (
-      require (every_of n h.carrier.view (has h.infos)) InfoMissing (
-      require (all (passes weight h.carrier.view) (h.settled ∷ list_of h.opens)) TestFailed (Ok tt))))
+      → verdict_of (attempts weight n p (meaning h out own new)) ≡ require (is_some h.carrier) NoCarrierView (
+      require (is_above (id_of (unwrap_or h.carrier no_view)) h.client) NotAboveClient (
+      require (every_of n (unwrap_or h.carrier no_view) (has h.infos)) InfoMissing (
+      require (all (passes weight (unwrap_or h.carrier no_view)) (h.settled ∷ list_of h.opens)) TestFailed (Ok tt))))
   unfolding attempts
   attempt-row weight n = at-view h.carrier _ _ ∙ ap (require _ _) (at-need _ _ _ ∙ ap (require _ _) (at-need _ _ _ ∙ ap (require _ _) (at-need _ _ _)))
 
-  pub register-row : verdict_of (registers p (meaning h out own new)) ≡ require h.client.there NoClientView (
+  pub register-row : verdict_of (registers p (meaning h out own new)) ≡ require (is_some h.client) NoClientView (
       require (not h.registered) AlreadyRegistered (require (room h (length out)) OutgoingFull (Ok tt)))
   unfolding registers
   register-row = at-view h.client _ _ ∙ ap (require _ _) (at-need _ _ _ ∙ ap (require _ _) (at-need _ _ _))
 
-  pub send-row : (x : ℕ) → verdict_of (sends p x (meaning h out own new)) ≡ require h.client.there NoClientView (
+  pub send-row : (x : ℕ) → verdict_of (sends p x (meaning h out own new)) ≡ require (is_some h.client) NoClientView (
       require (room h (length out)) OutgoingFull (Ok tt))
   unfolding sends
   send-row x = at-view h.client _ _ ∙ ap (require _ _) (at-need _ _ _)
 
-  pub hand-row : verdict_of (hands p (meaning h out own new)) ≡ require h.client.there NoClientView (require (ltb h.handed.0 (length own)) NoneToHand (Ok tt))
+  pub hand-row : verdict_of (hands p (meaning h out own new)) ≡ require (is_some h.client) NoClientView (
+      require (ltb h.handed.0 (length own)) NoneToHand (Ok tt))
   unfolding hands
   hand-row = at-view h.client _ _ ∙ ap (require _ _) (at_first own h.handed.0 _ _ _ (λ x rest. refl))
 
-  pub tell-row : verdict_of (tells p (meaning h out own new)) ≡ require h.client.there NoClientView (
+  pub tell-row : verdict_of (tells p (meaning h out own new)) ≡ require (is_some h.client) NoClientView (
       require (together h) ClientNotCarrier (
       require (both (not (eqb h.handed.0 h.told.0)) (not (eqb h.handed.0 0))) NothingNewToTell (require (room h (length out)) OutgoingFull (Ok tt))))
   unfolding tells
   tell-row = at-view h.client _ _ ∙ ap (require _ _) (at-need _ _ _ ∙ ap (require _ _) (at-need _ _ _ ∙ ap (require _ _) (at-need _ _ _)))
 
-  pub safe-row : (n : ℕ) → verdict_of (safes n p (meaning h out own new)) ≡ require h.client.there NoClientView (
+  pub safe-row : (n : ℕ) → verdict_of (safes n p (meaning h out own new)) ≡ require (is_some h.client) NoClientView (
       require (together h) ClientNotCarrier (
       require (ltb h.reported.0 (min h.handed.0 (length own))) NoneToReport (
-      require (every_of n h.client.view (λ q. ltb h.reported.0 (get_or h.tolds q 0))) ToldTooLow (Ok tt))))
+      require (every_of n (unwrap_or h.client no_view) (λ q. ltb h.reported.0 (get_or h.tolds q 0))) ToldTooLow (Ok tt))))
   unfolding safes
   safe-row n =
       rw (← length-take h.handed.0 own)
       (at-view h.client _ _ ∙ ap (require _ _) (at-need _ _ _ ∙ ap (require _ _) (at_first (take h.handed.0 own) h.reported.0 _ _ _ (λ x rest. at-need _ _ _))))
 
-  pub collect-row : (n : ℕ) → verdict_of (collects n (meaning h out own new)) ≡ require h.carrier.there NoCarrierView (
-      require (ltb (id_of h.settled) (id_of h.carrier.view)) NotAboveSettled (
-      require (every_of n h.carrier.view (has h.registrations)) RegistrationMissing (Ok tt)))
+  pub collect-row : (n : ℕ) → verdict_of (collects n (meaning h out own new)) ≡ require (is_some h.carrier) NoCarrierView (
+      require (ltb (id_of h.settled) (id_of (unwrap_or h.carrier no_view))) NotAboveSettled (
+      require (every_of n (unwrap_or h.carrier no_view) (has h.registrations)) RegistrationMissing (Ok tt)))
   unfolding collects
   collect-row n = at-view h.carrier _ _ ∙ ap (require _ _) (at-need _ _ _ ∙ ap (require _ _) (at-need _ _ _))

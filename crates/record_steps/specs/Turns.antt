@@ -1,6 +1,6 @@
 -- The member's steps on its small record: the verdict is that of the rules on the book it is, and what an accepted step
 -- changes of it.
-use Rattle.std.specs.Prelude.{Bool, true, false, cond, List, [], ℕ, ◌-◌, ltb, replicate, Result, Ok}
+use Rattle.std.specs.Prelude.{Bool, false, cond, List, [], ℕ, ◌-◌, ltb, replicate, Result, Ok, Option, Some, unwrap_or}
 use Rattle.views.specs.declared.View.{View}
 use Rattle.views.specs.declared.list.Views.{Views}
 use Rattle.views.specs.declared.refusal.Refusal.{Refusal}
@@ -12,10 +12,9 @@ use Rattle.rules.specs.Data as R
 use Rattle.rules.specs.Data.{Entry, entry, Item, item}
 use Rattle.rules.specs.Member.{is_above, attempts, registers, sends, hands, tells, safes, collects}
 use Rattle.rules.specs.Member.{client_is_carrier, has_room}
-use Rattle.book_bytes.specs.declared.Seat.{Seat}
 use Rattle.book_bytes.specs.declared.Record.{Record}
 use Rattle.book_bytes.specs.declared.Current.{Current}
-use Rattle.book_bytes.specs.Records.{seated, meaning}
+use Rattle.book_bytes.specs.Records.{meaning}
 use Rattle.events.specs.Replies.{verdict_of}
 
 -- queues of a length: the rules' verdicts ask of the queues no more than that
@@ -31,13 +30,10 @@ book_of h out own = meaning h (entries_of out) (items_of own) []
 
 -- ---- join
 
-abbrev pub seat : View → Seat
-seat v = record { there = true; view = v }
-
 -- the verdict: of the book, it asks the carrier view alone
-unfoldable pub join_verdict : ℕ → View → Seat → Verdict
+unfoldable pub join_verdict : ℕ → View → Option View → Verdict
 join_verdict p v at =
-    require (has v.set p) NotInSet (require (is_above (id_of v) (seated at)) NotAboveCarrier (Ok tt))
+    require (has v.set p) NotInSet (require (is_above (id_of v) at) NotAboveCarrier (Ok tt))
 
 -- ---- attempt
 
@@ -50,7 +46,7 @@ attempted_at v h = record {
   settled = h.settled;
   opens = opened_to v h.settled h.opens;
   carrier = h.carrier;
-  client = seat v;
+  client = Some v;
   registered = false;
   handed = record { 0 = 0 };
   told = record { 0 = 0 };
@@ -63,7 +59,8 @@ attempted_at v h = record {
 }
 
 unfoldable pub attempt_turn : ℕ → Record → Result Record Refusal
-attempt_turn n h = and_then (verdict_of (attempts one n 0 (book_of h 0 0))) (Ok (attempted_at h.carrier.view h))
+attempt_turn n h =
+    and_then (verdict_of (attempts one n 0 (book_of h 0 0))) (Ok (attempted_at (unwrap_or h.carrier no_view) h))
 
 -- ---- register, send, hand, tell, safe: no rule in the client view asks what is held
 
@@ -128,4 +125,4 @@ settled_as v h = record {
 }
 
 unfoldable pub collect_turn : ℕ → Record → Result Record Refusal
-collect_turn n h = and_then (verdict_of (collects n (book_of h 0 0))) (Ok (settled_as h.carrier.view h))
+collect_turn n h = and_then (verdict_of (collects n (book_of h 0 0))) (Ok (settled_as (unwrap_or h.carrier no_view) h))

@@ -2,13 +2,13 @@
 ghost use Rattle.std.specs.Prelude.{◌≡◌, ◌≤◌};
 ghost use Rattle.record_steps.specs.Turns.{join_verdict, attempt_turn, opened_to, attempted_at, collect_turn};
 
-use book_bytes::{Record, Seat};
+use book_bytes::Record;
 use views::list::Views;
 use views::refusal::{Refusal, Verdict};
 use views::{Member, Position, View, list};
 
 // Whether the view v may become the carrier view of the member p, which is at another or at none.
-pub fn join(p: Member, v: View, at: Seat) -> Verdict
+pub fn join(p: Member, v: View, at: Option<View>) -> Verdict
     ensures { result ≡ join_verdict p.0 v at }
 {
     if !sets::contains(v.set, p) {
@@ -26,10 +26,7 @@ pub fn attempt(n: u8, h: Record) -> Result<Record, Refusal>
     requires { h.side ≤ 1 }
     ensures { result ≡ attempt_turn n h }
 {
-    if !h.carrier.there {
-        return Err(Refusal::NoCarrierView);
-    }
-    let v = h.carrier.view;
+    let v = h.carrier.ok_or(Refusal::NoCarrierView)?;
     if !crate::tests::above(v.id, h.client) {
         return Err(Refusal::NotAboveClient);
     }
@@ -59,10 +56,7 @@ fn attempted(v: View, h: Record) -> Record
 {
     Record {
         opens: opened_to(v, h.settled, h.opens),
-        client: Seat {
-            there: true,
-            view: v,
-        },
+        client: Some(v),
         registered: false,
         handed: Position(0),
         told: Position(0),
@@ -76,10 +70,7 @@ fn attempted(v: View, h: Record) -> Record
 pub fn collect(n: u8, h: Record) -> Result<Record, Refusal>
     ensures { result ≡ collect_turn n h }
 {
-    if !h.carrier.there {
-        return Err(Refusal::NoCarrierView);
-    }
-    let v = h.carrier.view;
+    let v = h.carrier.ok_or(Refusal::NoCarrierView)?;
     if v.id <= h.settled.id {
         return Err(Refusal::NotAboveSettled);
     }

@@ -26,7 +26,7 @@ fn has_room(h: Current, out: u8) -> bool
 pub fn register(h: Current, out: u8) -> Verdict
     ensures { result ≡ register_verdict h out }
 {
-    if !h.client.there {
+    if h.client.is_none() {
         return Err(Refusal::NoClientView);
     }
     if h.registered {
@@ -42,7 +42,7 @@ pub fn register(h: Current, out: u8) -> Verdict
 pub fn send(h: Current, out: u8) -> Verdict
     ensures { result ≡ send_verdict h out }
 {
-    if !h.client.there {
+    if h.client.is_none() {
         return Err(Refusal::NoClientView);
     }
     if !has_room(h, out) {
@@ -55,7 +55,7 @@ pub fn send(h: Current, out: u8) -> Verdict
 pub fn hand(h: Current, own: u8) -> Verdict
     ensures { result ≡ hand_verdict h own }
 {
-    if !h.client.there {
+    if h.client.is_none() {
         return Err(Refusal::NoClientView);
     }
     if own <= h.handed.0 {
@@ -68,7 +68,7 @@ pub fn hand(h: Current, own: u8) -> Verdict
 pub fn tell(h: Current, out: u8) -> Verdict
     ensures { result ≡ tell_verdict h out }
 {
-    if !h.client.there {
+    if h.client.is_none() {
         return Err(Refusal::NoClientView);
     }
     if !in_step(h) {
@@ -87,16 +87,14 @@ pub fn tell(h: Current, out: u8) -> Verdict
 pub fn safe(n: u8, h: Current, own: u8) -> Verdict
     ensures { result ≡ safe_verdict n h own }
 {
-    if !h.client.there {
-        return Err(Refusal::NoClientView);
-    }
+    let v = h.client.ok_or(Refusal::NoClientView)?;
     if !in_step(h) {
         return Err(Refusal::ClientNotCarrier);
     }
     if h.handed <= h.reported || own <= h.reported.0 {
         return Err(Refusal::NoneToReport);
     }
-    if !crate::tests::all_told(n, h.client.view.set, h.tolds, h.reported) {
+    if !crate::tests::all_told(n, v.set, h.tolds, h.reported) {
         return Err(Refusal::ToldTooLow);
     }
     Ok(())

@@ -4,27 +4,28 @@ ghost use Rattle.views.specs.Sets.{has, one};
 ghost use Rattle.views.specs.Lists.{list_of};
 ghost use Rattle.rules.specs.Member.{is_above, every, all, passes};
 ghost use Rattle.rules.specs.Data.{rank};
-ghost use Rattle.book_bytes.specs.Records.{seated};
 
-use book_bytes::Seat;
 use views::list::Views;
 use views::{Member, Position, View, ViewId, list};
 
-// The identifier is above the seat's view, if it has one.
-pub fn above(id: ViewId, seat: Seat) -> bool
-    ensures { result ≡ is_above id.0 (seated seat) }
+// The identifier is above a view's, if there is one.
+pub fn above(id: ViewId, seat: Option<View>) -> bool
+    ensures { result ≡ is_above id.0 seat }
 {
-    !seat.there || seat.view.id < id
+    match seat {
+        Some(v) => v.id < id,
+        None => true,
+    }
 }
 
-// Two seats have views with one identifier, or both have none.
-pub fn same_view(a: Seat, b: Seat) -> bool
-    ensures { result ≡ eqb (rank (seated a)) (rank (seated b)) }
+// Both are views with one identifier, or neither is there.
+pub fn same_view(a: Option<View>, b: Option<View>) -> bool
+    ensures { result ≡ eqb (rank a) (rank b) }
 {
-    if a.there {
-        b.there && a.view.id == b.view.id
-    } else {
-        !b.there
+    match (a, b) {
+        (Some(v), Some(w)) => v.id == w.id,
+        (None, None) => true,
+        _ => false,
     }
 }
 

@@ -43,14 +43,13 @@ pub fn pass(list: &[u8], all: &mut [u8], queues: &mut [u8], p: Member) -> Verdic
 {
     let a = crate::book_at(all, p)?;
     let e = a + book_bytes::SIZE;
-    let carrier = book_bytes::load_seat(&all[a..e], book_bytes::CARRIER);
-    if !carrier.there {
-        return Err(Refusal::NoCarrierView);
-    }
+    let carrier = book_bytes::load_seat(&all[a..e], book_bytes::CARRIER).ok_or(
+        Refusal::NoCarrierView,
+    )?;
     if all[a + book_bytes::OUTGOING] == 0 {
         return Err(Refusal::NoneOutgoing);
     }
-    let i = group_bytes::place(list, queues[group_bytes::MADE], carrier.view.id);
+    let i = group_bytes::place(list, queues[group_bytes::MADE], carrier.id);
     let w = group_bytes::waiting_at(i, p);
     if limits::WAITING <= queues[w] {
         return Err(Refusal::WaitingFull);

@@ -67,12 +67,9 @@ pub fn deliver_read(b: &mut [u8], bytes: &[u8], read: Verdict, q: Member) -> Ver
         × (read ≡ Ok tt → IsOk (read_front bytes.now)) }
     ensures { Took (sent_as read (frame_in bytes.now)) q.0 b.old b.new result }
 {
-    let carrier = book_bytes::load_seat(b, book_bytes::CARRIER);
-    if !carrier.there {
-        return Err(Refusal::NoCarrierView);
-    }
+    let carrier = book_bytes::load_seat(b, book_bytes::CARRIER).ok_or(Refusal::NoCarrierView)?;
     read?;
-    deliver_message(b, carrier.view, q, bytes)?;
+    deliver_message(b, carrier, q, bytes)?;
     Ok(())
 }
 

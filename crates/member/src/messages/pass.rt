@@ -38,14 +38,11 @@ fn pass_first(b: &mut [u8], out: &mut [u8]) -> Result<usize, Refusal>
     ensures { GaveOut (passing_into (length out.old) (book_in b.old))
         (pass_bytes b.old) b.old b.new out.old out.new result }
 {
-    let carrier = book_bytes::load_seat(b, book_bytes::CARRIER);
-    if !carrier.there {
-        return Err(Refusal::NoCarrierView);
-    }
+    let carrier = book_bytes::load_seat(b, book_bytes::CARRIER).ok_or(Refusal::NoCarrierView)?;
     if b[book_bytes::OUTGOING] == 0 {
         return Err(Refusal::NoneOutgoing);
     }
-    give_out(b, out, carrier.view.id)
+    give_out(b, out, carrier.id)
 }
 
 // The first outgoing message is given out in bytes, at the front of the buffer.

@@ -5,11 +5,13 @@ use native.Mathlib.Omega.{arith}
 use Rattle.std.proofs.Common.{rules, Ok, Err}
 use Rattle.std.proofs.lemmas.Result.{err_from_is_err_and}
 use Rattle.views.specs.Refusals.{after}
-use Rattle.book_bytes.specs.Books.{members_in}
+use Rattle.book_bytes.specs.Books.{members_in, own_in_book}
 use Rattle.book_bytes.specs.Places.{inward_at}
 use Rattle.record_steps.specs.Turns.{attempt_turn}
+use Rattle.events.specs.declared.Event.TheVariants.{Attempt}
+use Rattle.events.specs.Replies.{member_number}
 use Rattle.book_steps.specs.Parts.{few_opened}
-use Rattle.book_steps.proofs.Committed.{sound-size, loaded-side}
+use Rattle.book_steps.proofs.Committed.{sound-size, loaded-side, mapped}
 use Rattle.book_steps.proofs.AttemptLaws.{emptied-size, attempt-refused, attempt-few, attempt-accepted}
 use Rattle.book_steps.proofs.carrier_view.attempt.Goals as goal
 
@@ -45,4 +47,5 @@ pub returns : goal.returns
 unfolding after
 returns c =
     let turned : Ok c.in_ok-next.next ≡ after (attempt_turn (members_in c.args.b.now) c.load-h.result) few_opened = search rules in
-    attempt-accepted _ _ c.load-h.ensures _ turned _ _ c.empty.ensures c.store.ensures
+    rw (mapped (Attempt (member_number (own_in_book c.args.b.now))) c.load-h.result.carrier c.map.result c.map.ensures.cases (λ v e k. search rules))
+    (attempt-accepted _ _ c.load-h.ensures _ turned _ _ c.empty.ensures c.store.ensures)

@@ -1,8 +1,10 @@
 -- `book_steps::client_view::hand` meets its contract: the verdict is the rule's, and one byte changes where it accepts.
 use native.Mathlib.Omega.{arith}
+use Rattle.std.proofs.Common.{rules}
 use Rattle.std.proofs.lemmas.Result.{err_from_is_err_and}
-use Rattle.book_steps.proofs.Committed.{sound-size, current-side}
-use Rattle.book_steps.proofs.MarkLaws.{item-small, item-inside, hand-refused, hand-there, hand-done}
+use Rattle.book_bytes.specs.Books.{own_in_book}
+use Rattle.book_steps.proofs.Committed.{sound-size, current-side, mapped}
+use Rattle.book_steps.proofs.MarkLaws.{handing, item-small, item-inside, hand-refused, hand-there, hand-done}
 use Rattle.book_steps.proofs.client_view.hand.Goals as goal
 
 pub load_current-h-requires : goal.load_current-h-requires
@@ -39,4 +41,6 @@ returns-in_err-hand c =
 pub returns : goal.returns
 returns c =
     let v = rw c.inward-at.ensures at c.in_ok-hand.ensures in
-    rw (c.item-x.ensures, c.inward-at.ensures) (hand-done _ _ c.load_current-h.ensures v)
+    let e = mapped (handing (own_in_book c.args.b.now) c.item-x.result) c.load_current-h.result.client c.map.result c.map.ensures.cases (λ w x k. search rules)
+    in
+    rw (e, c.item-x.ensures, c.inward-at.ensures) (hand-done _ _ c.load_current-h.ensures v)

@@ -1,8 +1,10 @@
 -- `book_steps::client_view::register` meets its contract: the verdict is the rule's, and the message is said where it accepts.
 use native.Mathlib.Omega.{arith}
+use Rattle.std.proofs.Common.{rules}
 use Rattle.std.proofs.lemmas.Result.{err_from_is_err_and}
-use Rattle.book_steps.proofs.Committed.{sound-size}
-use Rattle.book_steps.proofs.SpeakLaws.{register-refused, register-fits, register-done}
+use Rattle.book_bytes.specs.Books.{own_in_book}
+use Rattle.book_steps.proofs.Committed.{sound-size, mapped}
+use Rattle.book_steps.proofs.SpeakLaws.{registering, register-refused, register-fits, register-done}
 use Rattle.book_steps.proofs.client_view.register.Goals as goal
 
 pub load_current-h-requires : goal.load_current-h-requires
@@ -26,4 +28,6 @@ returns-in_err-register c =
     rw (p.1, p.2) (register-refused _ _ c.load_current-h.ensures _ c.in_err-register.ensures)
 
 pub returns : goal.returns
-returns c = register-done _ _ c.load_current-h.ensures c.in_ok-register.ensures _ c.spoken.ensures _ c.say.ensures
+returns c =
+    rw (mapped (registering (own_in_book c.args.b.now)) c.load_current-h.result.client c.map.result c.map.ensures.cases (λ v e k. search rules))
+    (register-done _ _ c.load_current-h.ensures c.in_ok-register.ensures _ c.spoken.ensures _ c.say.ensures)

@@ -1,8 +1,10 @@
 -- `book_steps::client_view::safe` meets its contract: the verdict is the rule's, and one byte changes where it accepts.
 use native.Mathlib.Omega.{arith}
+use Rattle.std.proofs.Common.{rules}
 use Rattle.std.proofs.lemmas.Result.{err_from_is_err_and}
-use Rattle.book_steps.proofs.Committed.{sound-size, current-side}
-use Rattle.book_steps.proofs.MarkLaws.{item-small, item-inside, safe-refused, safe-there, safe-done}
+use Rattle.book_bytes.specs.Books.{own_in_book}
+use Rattle.book_steps.proofs.Committed.{sound-size, current-side, mapped}
+use Rattle.book_steps.proofs.MarkLaws.{reporting, item-small, item-inside, safe-refused, safe-there, safe-done}
 use Rattle.book_steps.proofs.client_view.safe.Goals as goal
 
 pub load_current-h-requires : goal.load_current-h-requires
@@ -42,4 +44,6 @@ returns-in_err-safe c =
 pub returns : goal.returns
 returns c =
     let v = rw c.inward-at.ensures at c.in_ok-safe.ensures in
-    rw (c.item-x.ensures, c.inward-at.ensures) (safe-done _ _ c.load_current-h.ensures v)
+    let e = mapped (reporting (own_in_book c.args.b.now) c.item-x.result) c.load_current-h.result.client c.map.result c.map.ensures.cases (λ w x k. search rules)
+    in
+    rw (e, c.item-x.ensures, c.inward-at.ensures) (safe-done _ _ c.load_current-h.ensures v)

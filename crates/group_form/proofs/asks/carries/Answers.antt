@@ -1,19 +1,19 @@
--- `group_form::asks::carries` meets its contract, with a seat taken and with none.
+-- `group_form::asks::carries` meets its contract, with a carrier view and with none.
+use Rattle.std.specs.Prelude.{Option}
 use mathlib.Core.Path.{ap, ◌∙◌}
 use lib.Dec.{eqb}
 use Prim.Native.Nat.{suc}
+use Rattle.views.specs.declared.View.{View}
 use Rattle.rules.specs.Data.{rank}
-use Rattle.book_bytes.specs.declared.Seat.{Seat}
-use Rattle.book_bytes.specs.Records.{seated}
 use Rattle.group_form.proofs.AskLaws.{carried, none-carried}
 use Rattle.group_form.proofs.asks.carries.Goals as goal
 
-pub returns-then-seat : goal.returns-then-seat
-returns-then-seat c =
+pub returns-in-Some : goal.returns-in-Some
+returns-in-Some c =
     let g = c.args.id.0 in
-    carried g c.load_seat-seat.result c.if-seat.true ∙ ap (λ (s : Seat). eqb (rank (seated s)) (suc g)) c.load_seat-seat.ensures
+    carried g c.load_seat.result c.in-Some.v c.in-Some.is ∙ ap (λ (o : Option View). eqb (rank o) (suc g)) c.load_seat.ensures
 
-pub returns-else-seat : goal.returns-else-seat
-returns-else-seat c =
+pub returns-in-None : goal.returns-in-None
+returns-in-None c =
     let g = c.args.id.0 in
-    c.if-seat.false ∙ none-carried g c.load_seat-seat.result c.if-seat.false ∙ ap (λ (s : Seat). eqb (rank (seated s)) (suc g)) c.load_seat-seat.ensures
+    none-carried g c.load_seat.result c.in-None.is ∙ ap (λ (o : Option View). eqb (rank o) (suc g)) c.load_seat.ensures

@@ -2,9 +2,9 @@
 use mathlib.Core.Path.{◌≡◌, sym, ap, ◌∙◌}
 use Prim.Native.Nat.{◌+◌, ◌-◌}
 use native.Mathlib.Omega.{arith}
-use borrow.Author.Tests.{not-true, not-false}
+use Rattle.std.specs.Prelude.{None}
 use Rattle.std.proofs.lemmas.Result.{err_from_is_err_and}
-use Rattle.book_bytes.specs.declared.Seat.{Seat}
+use Rattle.views.specs.declared.refusal.Refusal.TheVariants.{NoCarrierView}
 use Rattle.book_bytes.specs.Places.{carrier_at, book_size}
 use Rattle.book_bytes.specs.Records.{seat_in}
 use Rattle.group_bytes.specs.Places.{book_bytes}
@@ -39,23 +39,22 @@ returns-in_err-a c =
     let e = err_from_is_err_and c.from_residual.result c.from_residual.ensures.1 in
     rw (e.1, e.2) (deliver-no-member r a.p.0 _ c.in_err-a.ensures)
 
-pub returns-then-not-seat : goal.returns-then-not-seat
-returns-then-not-seat c =
+pub returns-in_err-ok_or : goal.returns-in_err-ok_or
+returns-in_err-ok_or c =
     let a = c.args in
     let r : Ranges = record { list = a.list.now; books = a.all.now; queues = a.queues.now } in
     let found = c.in_ok-a.ensures in
     let part = part-is a.all.now a.p.0 found (c.in_ok-a.a + book_size - c.in_ok-a.a) (omega arith) in
     let seat : c.load_seat-seat.result ≡ seat_in (book_bytes a.all.now a.p.0) carrier_at = c.load_seat-seat.ensures ∙ ap (λ b. seat_in b carrier_at) part in
-    deliver-no-carrier r a.p.0 c.requires (place-found a.all.now a.p.0 found).0 (sym (ap (λ (x : Seat). x.there) seat) ∙ not-true _ c.if-not-seat.true)
+    let none : c.load_seat-seat.result ≡ None = grind arith in
+    let why : c.in_err-ok_or.field-0.0 ≡ NoCarrierView = grind arith in
+    let e = err_from_is_err_and c.from_residual-in_err-ok_or.result c.from_residual-in_err-ok_or.ensures.1 in
+    rw (e.1, e.2, why) (deliver-no-carrier r a.p.0 c.requires (place-found a.all.now a.p.0 found).0 (sym seat ∙ none))
 
 pub next-requires : goal.next-requires
 next-requires c =
     let a = c.args in
     let found = c.in_ok-a.ensures in
     let part = part-is a.all.now a.p.0 found (c.in_ok-a.a + book_size - c.in_ok-a.a) (omega arith) in
-    let seat : c.load_seat-seat.result ≡ seat_in (book_bytes a.all.now a.p.0) carrier_at = c.load_seat-seat.ensures ∙ ap (λ b. seat_in b carrier_at) part in (
-      c.requires,
-      (place-found a.all.now a.p.0 found).0,
-      sym (ap (λ (x : Seat). x.there) seat) ∙ not-false _ c.if-not-seat.false,
-      ap (λ (x : Seat). x.view.id) seat,
-    )
+    let seat : c.load_seat-seat.result ≡ seat_in (book_bytes a.all.now a.p.0) carrier_at = c.load_seat-seat.ensures ∙ ap (λ b. seat_in b carrier_at) part in
+    (c.requires, (place-found a.all.now a.p.0 found).0, sym seat ∙ c.in_ok-ok_or.ensures.ok_part)

@@ -26,13 +26,13 @@ pub bounds-queues-c : goal.bounds-queues-c
 bounds-queues-c c =
     let s = c in
     let r : Ranges = record { list = s.args.list.now; books = s.args.all.now; queues = s.args.queues.now } in
-    omega (arith, next-inside r s.args.p.0 s.requires.0 s.requires.1 s.requires.2 s.args.g s.requires.3 c.order_of-c.result c.order_of-c.ensures)
+    omega (arith, next-inside r s.args.p.0 s.requires.0 s.requires.1 s.args.v s.requires.2 c.order_of-c.result c.order_of-c.ensures)
 
 pub returns-then-queues-c : goal.returns-then-queues-c
 returns-then-queues-c c =
     let s = c in
     let r : Ranges = record { list = s.args.list.now; books = s.args.all.now; queues = s.args.queues.now } in
-    next-none r s.args.p.0 s.requires.0 s.requires.1 s.requires.2 s.args.g s.requires.3 c.order_of-c.result c.order_of-c.ensures c.if-queues-c.true
+    next-none r s.args.p.0 s.requires.0 s.requires.1 s.args.v s.requires.2 c.order_of-c.result c.order_of-c.ensures c.if-queues-c.true
 
 pub overflow_cast-k-2 : goal.overflow_cast-k-2
 overflow_cast-k-2 c = let s = c in omega (arith, c.slice_known-2-1.given (book_size * s.args.p.0 + taken_at))
@@ -41,12 +41,21 @@ pub take_at-requires : goal.take_at-requires
 take_at-requires c =
     let s = c in
     let r : Ranges = record { list = s.args.list.now; books = s.args.all.now; queues = s.args.queues.now } in
-    let bytes : RangesBytes r = (record { list = λ j. omega (arith, c.shared_slice_known-1.given j); books = λ j. omega (arith, c.slice_known-1.given j); queues = λ j. omega (arith, c.shared_slice_known-2-1.given j) }) in
-    next-asks r s.args.p.0 s.requires.0 s.requires.1 s.requires.2 s.args.g s.requires.3 c.order_of-c.result c.order_of-c.ensures bytes c.if-queues-c.false
+    let bytes : RangesBytes r = (record {
+      list = λ j. omega (arith, c.shared_slice_known-1.given j);
+      books = λ j. omega (arith, c.slice_known-1.given j);
+      queues = λ j. omega (arith, c.shared_slice_known-2-1.given j);
+    }) in
+    next-asks r s.args.p.0 s.requires.0 s.requires.1 s.args.v s.requires.2 c.order_of-c.result c.order_of-c.ensures bytes c.if-queues-c.false
 
 pub returns : goal.returns
 returns c =
     let s = c in
     let r : Ranges = record { list = s.args.list.now; books = s.args.all.now; queues = s.args.queues.now } in
-    let bytes : RangesBytes r = (record { list = λ j. omega (arith, c.shared_slice_known-1.given j); books = λ j. omega (arith, c.slice_known-1.given j); queues = λ j. omega (arith, c.shared_slice_known-2-1.given j) }) in
-    next-done r s.args.p.0 s.requires.0 s.requires.1 s.requires.2 s.args.g s.requires.3 c.order_of-c.result c.order_of-c.ensures bytes c.if-queues-c.false _ _ c.take_at.ensures
+    let bytes : RangesBytes r = (record {
+      list = λ j. omega (arith, c.shared_slice_known-1.given j);
+      books = λ j. omega (arith, c.slice_known-1.given j);
+      queues = λ j. omega (arith, c.shared_slice_known-2-1.given j);
+    }) in
+    next-done r s.args.p.0 s.requires.0 s.requires.1 s.args.v s.requires.2 c.order_of-c.result c.order_of-c.ensures bytes c.if-queues-c.false _ _
+    c.take_at.ensures

@@ -2,16 +2,14 @@
 use mathlib.Core.Path.{◌≡◌, sym, ap, ◌∙◌}
 use Prim.Native.Nat.{ℕ, ◌+◌, ◌-◌, ◌<◌}
 use native.Mathlib.Omega.{arith}
-use borrow.Author.Tests.{not-true, not-false}
-use mathlib.Core.Bool.{true}
 use mathlib.Core.Path.{ap₂}
 use mathlib.Core.List.{List}
 use lib.ListN.{get_or}
+use Rattle.std.specs.Prelude.{None, Some}
 use Rattle.std.proofs.lemmas.Result.{err_from_is_err_and}
 use Rattle.views.specs.declared.refusal.Refusal.TheVariants.{NoCarrierView, NoneOutgoing, WaitingFull}
 use Rattle.views.specs.Limits.{max_waiting}
 use Rattle.views.specs.Lists.{id_of}
-use Rattle.book_bytes.specs.declared.Seat.{Seat}
 use Rattle.book_bytes.specs.Places.{book_size, outgoing_at}
 use Rattle.book_bytes.specs.Records.{record_in}
 use Rattle.book_steps.specs.Acts.{pass_bytes}
@@ -20,12 +18,11 @@ use Rattle.group_bytes.specs.Groups.{Ranges, views_made, place_of}
 use Rattle.group_bytes.specs.Moves.{slot_added}
 use Rattle.group_bytes.proofs.BookBytes.{book-byte}
 use Rattle.group_bytes.proofs.Inside.{waiting-inside}
-use Rattle.group_bytes.proofs.PassGroup.{carried_in}
 use Rattle.group_steps.proofs.Rows.{ranged, made-rise}
 use Rattle.group_steps.proofs.OwnStepLaws.{place-found, part-room, part-is, put_back}
 use Rattle.group_steps.proofs.JoinLaws.{desk-of}
-use Rattle.group_steps.proofs.PassLaws.{place_is, pass-no-member, pass-refused, pass-accepted, no-carrier, carried-made, none-outgoing}
-use Rattle.group_steps.proofs.PassLaws.{waiting-full, pass-moves, forward-asks}
+use Rattle.group_steps.proofs.PassLaws.{place_is, pass-no-member, pass-refused, no-carrier, carried-made, none-outgoing}
+use Rattle.group_steps.proofs.PassLaws.{waiting-full, pass-accepted, forward-asks}
 use Rattle.group_steps.proofs.messages.pass.pass.Goals as goal
 
 pub book_at-requires : goal.book_at-requires
@@ -56,8 +53,8 @@ slice_bounds-load_seat-end c =
     let (m, at) = place-found a.all.now a.p.0 l.in_ok-a.ensures in
     omega (arith, m, at, f.books, f.members.1)
 
-pub returns-then-not-carrier : goal.returns-then-not-carrier
-returns-then-not-carrier c =
+pub returns-in_err-carrier : goal.returns-in_err-carrier
+returns-in_err-carrier c =
     let l = c in
     let a = l.args in
     let r : Ranges = record { list = a.list.now; books = a.all.now; queues = a.queues.now } in
@@ -66,9 +63,11 @@ returns-then-not-carrier c =
     let found = l.in_ok-a.ensures in
     let (m, at) = place-found a.all.now a.p.0 found in
     let b = book_bytes r.books p in
-    let s : l.load_seat-carrier.result ≡ (record_in b).carrier
-    = place_is r.books p found (l.in_ok-a.a + book_size - l.in_ok-a.a) (omega arith) _ l.load_seat-carrier.ensures in
-    pass-refused r p NoCarrierView (no-carrier r p h m (sym (ap (λ (z : Seat). z.there) s) ∙ not-true _ c.if-not-carrier.true))
+    let s = place_is r.books p found (l.in_ok-a.a + book_size - l.in_ok-a.a) (omega arith) _ l.load_seat.ensures in
+    let none : l.load_seat.result ≡ None = grind arith in
+    let why : l.in_err-carrier.field-0.0 ≡ NoCarrierView = grind arith in
+    let e = err_from_is_err_and c.from_residual-in_err-carrier.result c.from_residual-in_err-carrier.ensures.1 in
+    rw (e.1, e.2, why) (pass-refused r p NoCarrierView (no-carrier r p h m (s ∙ none)))
 
 pub bounds-all-a : goal.bounds-all-a
 bounds-all-a c =
@@ -91,12 +90,12 @@ returns-then-all-a-eq0 c =
     let found = l.in_ok-a.ensures in
     let (m, at) = place-found a.all.now a.p.0 found in
     let b = book_bytes r.books p in
-    let s : l.load_seat-carrier.result ≡ (record_in b).carrier
-    = place_is r.books p found (l.in_ok-a.a + book_size - l.in_ok-a.a) (omega arith) _ l.load_seat-carrier.ensures in
-    let t : (record_in b).carrier.there ≡ true = sym (ap (λ (z : Seat). z.there) s) ∙ not-false _ c.if-not-carrier.false in
+    let v = l.in_ok-carrier.carrier in
+    let t : (record_in b).carrier ≡ Some v
+    = place_is r.books p found (l.in_ok-a.a + book_size - l.in_ok-a.a) (omega arith) _ l.load_seat.ensures ∙ l.in_ok-carrier.ensures.ok_part in
     let byte : get_or b outgoing_at 0 ≡ get_or r.books (l.in_ok-a.a + outgoing_at) 0
     = book-byte r.books p outgoing_at (omega arith) ∙ ap (λ (j : ℕ). get_or r.books (j + outgoing_at) 0) (sym at) in
-    pass-refused r p NoneOutgoing (none-outgoing r p h m t (byte ∙ c.if-all-a-eq0.true))
+    pass-refused r p NoneOutgoing (none-outgoing r p h m v t (byte ∙ c.if-all-a-eq0.true))
 
 pub bounds-queues-0 : goal.bounds-queues-0
 bounds-queues-0 c =
@@ -131,12 +130,11 @@ waiting_at-w-requires c =
     let found = l.in_ok-a.ensures in
     let (m, at) = place-found a.all.now a.p.0 found in
     let b = book_bytes r.books p in
-    let s : l.load_seat-carrier.result ≡ (record_in b).carrier
-    = place_is r.books p found (l.in_ok-a.a + book_size - l.in_ok-a.a) (omega arith) _ l.load_seat-carrier.ensures in
-    let t : (record_in b).carrier.there ≡ true = sym (ap (λ (z : Seat). z.there) s) ∙ not-false _ c.if-not-carrier.false in
-    let i = place_of (id_of (carried_in b)) (views_made r) in
-    let e : c.place-i.result ≡ i = c.place-i.ensures ∙ ap (λ (z : Seat). place_of (id_of z.view) (views_made r)) s in
-    (omega (arith, f.made.1, f.room.1, carried-made r p h m t), omega (arith, f.members.1))
+    let v = l.in_ok-carrier.carrier in
+    let t : (record_in b).carrier ≡ Some v
+    = place_is r.books p found (l.in_ok-a.a + book_size - l.in_ok-a.a) (omega arith) _ l.load_seat.ensures ∙ l.in_ok-carrier.ensures.ok_part in
+    let i = place_of (id_of v) (views_made r) in
+    (omega (arith, f.made.1, f.room.1, carried-made r p h m v t), omega (arith, f.members.1))
 
 pub bounds-queues-w : goal.bounds-queues-w
 bounds-queues-w c =
@@ -149,13 +147,12 @@ bounds-queues-w c =
     let found = l.in_ok-a.ensures in
     let (m, at) = place-found a.all.now a.p.0 found in
     let b = book_bytes r.books p in
-    let s : l.load_seat-carrier.result ≡ (record_in b).carrier
-    = place_is r.books p found (l.in_ok-a.a + book_size - l.in_ok-a.a) (omega arith) _ l.load_seat-carrier.ensures in
-    let t : (record_in b).carrier.there ≡ true = sym (ap (λ (z : Seat). z.there) s) ∙ not-false _ c.if-not-carrier.false in
-    let i = place_of (id_of (carried_in b)) (views_made r) in
-    let e : c.place-i.result ≡ i = c.place-i.ensures ∙ ap (λ (z : Seat). place_of (id_of z.view) (views_made r)) s in
-    let w : c.waiting_at-w.result ≡ waiting_at i p = c.waiting_at-w.ensures ∙ ap (λ (j : ℕ). waiting_at j p) e in
-    omega (arith, waiting-inside r f i (carried-made r p h m t) p m)
+    let v = l.in_ok-carrier.carrier in
+    let t : (record_in b).carrier ≡ Some v
+    = place_is r.books p found (l.in_ok-a.a + book_size - l.in_ok-a.a) (omega arith) _ l.load_seat.ensures ∙ l.in_ok-carrier.ensures.ok_part in
+    let i = place_of (id_of v) (views_made r) in
+    let w : c.waiting_at-w.result ≡ waiting_at i p = c.waiting_at-w.ensures ∙ ap (λ (j : ℕ). waiting_at j p) c.place-i.ensures in
+    omega (arith, waiting-inside r f i (carried-made r p h m v t) p m)
 
 pub returns-then-queues-w-ge-WAITING : goal.returns-then-queues-w-ge-WAITING
 returns-then-queues-w-ge-WAITING c =
@@ -167,14 +164,13 @@ returns-then-queues-w-ge-WAITING c =
     let found = l.in_ok-a.ensures in
     let (m, at) = place-found a.all.now a.p.0 found in
     let b = book_bytes r.books p in
-    let s : l.load_seat-carrier.result ≡ (record_in b).carrier
-    = place_is r.books p found (l.in_ok-a.a + book_size - l.in_ok-a.a) (omega arith) _ l.load_seat-carrier.ensures in
-    let t : (record_in b).carrier.there ≡ true = sym (ap (λ (z : Seat). z.there) s) ∙ not-false _ c.if-not-carrier.false in
+    let v = l.in_ok-carrier.carrier in
+    let t : (record_in b).carrier ≡ Some v
+    = place_is r.books p found (l.in_ok-a.a + book_size - l.in_ok-a.a) (omega arith) _ l.load_seat.ensures ∙ l.in_ok-carrier.ensures.ok_part in
     let o : 0 < get_or b outgoing_at 0 = omega (arith, book-byte r.books p outgoing_at (omega arith), rw at at c.if-all-a-eq0.false) in
-    let i = place_of (id_of (carried_in b)) (views_made r) in
-    let e : c.place-i.result ≡ i = c.place-i.ensures ∙ ap (λ (z : Seat). place_of (id_of z.view) (views_made r)) s in
-    let w : c.waiting_at-w.result ≡ waiting_at i p = c.waiting_at-w.ensures ∙ ap (λ (j : ℕ). waiting_at j p) e in
-    pass-refused r p WaitingFull (waiting-full r p h m t o (rw w at c.if-queues-w-ge-WAITING.true))
+    let i = place_of (id_of v) (views_made r) in
+    let w : c.waiting_at-w.result ≡ waiting_at i p = c.waiting_at-w.ensures ∙ ap (λ (j : ℕ). waiting_at j p) c.place-i.ensures in
+    pass-refused r p WaitingFull (waiting-full r p h m v t o (rw w at c.if-queues-w-ge-WAITING.true))
 
 pub slice_bounds-forward-end : goal.slice_bounds-forward-end
 slice_bounds-forward-end c =
@@ -197,15 +193,14 @@ forward-requires c =
     let found = l.in_ok-a.ensures in
     let (m, at) = place-found a.all.now a.p.0 found in
     let b = book_bytes r.books p in
-    let s : l.load_seat-carrier.result ≡ (record_in b).carrier
-    = place_is r.books p found (l.in_ok-a.a + book_size - l.in_ok-a.a) (omega arith) _ l.load_seat-carrier.ensures in
-    let t : (record_in b).carrier.there ≡ true = sym (ap (λ (z : Seat). z.there) s) ∙ not-false _ c.if-not-carrier.false in
+    let v = l.in_ok-carrier.carrier in
+    let t : (record_in b).carrier ≡ Some v
+    = place_is r.books p found (l.in_ok-a.a + book_size - l.in_ok-a.a) (omega arith) _ l.load_seat.ensures ∙ l.in_ok-carrier.ensures.ok_part in
     let o : 0 < get_or b outgoing_at 0 = omega (arith, book-byte r.books p outgoing_at (omega arith), rw at at c.if-all-a-eq0.false) in
-    let i = place_of (id_of (carried_in b)) (views_made r) in
-    let e : c.place-i.result ≡ i = c.place-i.ensures ∙ ap (λ (z : Seat). place_of (id_of z.view) (views_made r)) s in
-    let w : c.waiting_at-w.result ≡ waiting_at i p = c.waiting_at-w.ensures ∙ ap (λ (j : ℕ). waiting_at j p) e in
+    let i = place_of (id_of v) (views_made r) in
+    let w : c.waiting_at-w.result ≡ waiting_at i p = c.waiting_at-w.ensures ∙ ap (λ (j : ℕ). waiting_at j p) c.place-i.ensures in
     let y : get_or r.queues (waiting_at i p) 0 < max_waiting = rw w at c.if-queues-w-ge-WAITING.false in
-    rw (part-is r.books p found (l.in_ok-a.a + book_size - l.in_ok-a.a) (omega arith), w) (forward-asks r p h m t o y)
+    rw (part-is r.books p found (l.in_ok-a.a + book_size - l.in_ok-a.a) (omega arith), w) (forward-asks r p h m v t o y)
 
 pub returns : goal.returns
 returns c =
@@ -217,16 +212,15 @@ returns c =
     let found = l.in_ok-a.ensures in
     let (m, at) = place-found a.all.now a.p.0 found in
     let b = book_bytes r.books p in
-    let s : l.load_seat-carrier.result ≡ (record_in b).carrier
-    = place_is r.books p found (l.in_ok-a.a + book_size - l.in_ok-a.a) (omega arith) _ l.load_seat-carrier.ensures in
-    let t : (record_in b).carrier.there ≡ true = sym (ap (λ (z : Seat). z.there) s) ∙ not-false _ c.if-not-carrier.false in
+    let v = l.in_ok-carrier.carrier in
+    let t : (record_in b).carrier ≡ Some v
+    = place_is r.books p found (l.in_ok-a.a + book_size - l.in_ok-a.a) (omega arith) _ l.load_seat.ensures ∙ l.in_ok-carrier.ensures.ok_part in
     let o : 0 < get_or b outgoing_at 0 = omega (arith, book-byte r.books p outgoing_at (omega arith), rw at at c.if-all-a-eq0.false) in
-    let i = place_of (id_of (carried_in b)) (views_made r) in
-    let e : c.place-i.result ≡ i = c.place-i.ensures ∙ ap (λ (z : Seat). place_of (id_of z.view) (views_made r)) s in
-    let w : c.waiting_at-w.result ≡ waiting_at i p = c.waiting_at-w.ensures ∙ ap (λ (j : ℕ). waiting_at j p) e in
+    let i = place_of (id_of v) (views_made r) in
+    let w : c.waiting_at-w.result ≡ waiting_at i p = c.waiting_at-w.ensures ∙ ap (λ (j : ℕ). waiting_at j p) c.place-i.ensures in
     let y : get_or r.queues (waiting_at i p) 0 < max_waiting = rw w at c.if-queues-w-ge-WAITING.false in
     let part = part-is r.books p found (l.in_ok-a.a + book_size - l.in_ok-a.a) (omega arith) in
     let done = c.forward.ensures in
     let gone = put_back r.books p found (l.in_ok-a.a + book_size - l.in_ok-a.a) (omega arith) _ ∙ ap (with_book r.books p) (done.0 ∙ ap pass_bytes part) in
     let added = done.1 ∙ ap₂ (λ (j : ℕ) (z : List ℕ). slot_added r.queues j z (outgoing_at + 1)) w part in
-    pass-accepted r p _ _ (pass-moves r p h m t o y) gone added
+    pass-accepted r p h m v t o y _ _ gone added
