@@ -39,7 +39,7 @@ opens_size = outgoing_at - opens_at
 
 -- ---- what the bytes hold of a record
 
--- a view or none at a place, behind a mark of 0 or 1
+-- a view or none at a place, after a mark of 0 or 1
 pub record Seated (b : List ℕ) (at : ℕ) (s : Option View) : Type 0 where
   pub mark : get_or b at 0 ≤ 1
   pub reads : seat_in b at ≡ s

@@ -98,7 +98,7 @@ module _ (n S p : ℕ) (b : List ℕ) (size : length b ≡ book_size) (byte : S 
   long : length seat ≡ book_size
   long = second.long ∙ first.long ∙ numbered_long
 
-  -- behind the two numbers all is zero, but for the views
+  -- after the two numbers all is zero, but for the views
   blank : (j : ℕ) → 2 ≤ j → get_or numbered j 0 ≡ 0
   blank j l =
       get_or-set_other (set zeros members_at n) self_at j p 0 (λ e. omega arith) ∙ get_or-set_other zeros members_at j n 0 (λ e. omega arith)

@@ -97,7 +97,7 @@ held_in b = held_of (record_in b)
 abbrev pub flag : Bool → ℕ
 flag b = cond b 1 0
 
--- where there is no view, what stands in its place stays
+-- where there is no view, what is in its place stays
 abbrev pub store_seat : List ℕ → ℕ → Option View → List ℕ
 store_seat b at (Some v) = store_view (set b at 1) (at + 1) v
 store_seat b at None = set b at 0

@@ -32,7 +32,7 @@ fresh_record S p = record {
   side = 0;
 }
 
--- the first view stands in the places of the carrier and the client view, also where the member is not in it
+-- the first view is in the places of the carrier and the client view, also where the member is not in it
 abbrev pub first_placed : ℕ → List ℕ → List ℕ
 first_placed S b = store_view (store_view b (carrier_at + 1) (first_view S)) (client_at + 1) (first_view S)
 

@@ -178,7 +178,7 @@ pub fn load(b: &[u8]) -> Record
     }
 }
 
-// A view or none is stored at a place; without one what stands there stays.
+// A view or none is stored at a place; without one what is there stays.
 pub fn store_seat(b: &mut [u8], at: usize, seat: Option<View>)
     requires { at + seat_size ≤ length b.old }
     ensures { b.new ≡ store_seat b.old at seat }

@@ -1,4 +1,4 @@
--- What a walk over entries or slots asks: n of them from a place on. What a walk over the items of a list does at each, of which i are passed.
+-- What a walk over entries or slots checks: n of them from a place on. What a walk over the items of a list does at each, of which i are passed.
 use mathlib.Core.Path.{◌≡◌, refl, sym, ap, ◌∙◌}
 use mathlib.Core.Bool.{Bool, true}
 use mathlib.Core.List.{List}

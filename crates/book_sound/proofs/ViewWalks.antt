@@ -1,4 +1,4 @@
--- What a walk over views in bytes asks: n views from a place on.
+-- What a walk over views in bytes checks: n views from a place on.
 use mathlib.Core.Path.{◌≡◌, refl, ◌∙◌}
 use mathlib.Core.Bool.{Bool, true, false, ◌&&◌}
 use mathlib.Core.List.{List}

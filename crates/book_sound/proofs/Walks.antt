@@ -1,4 +1,4 @@
--- What a walk over the members' told counts asks.
+-- What a walk over the members' told counts checks.
 use mathlib.Core.Path.{◌≡◌, refl, ◌∙◌}
 use mathlib.Core.Bool.{true, false}
 use mathlib.Core.List.{List}

@@ -1,4 +1,4 @@
--- What the driver asks of the bytes is what the rule asks of the group: the last view of the list is the newest, the books are the group's, each
+-- What the driver checks in the bytes is what the rule checks in the group: the last view of the list is the newest, the books are the group's, each
 -- refusal is at its place.
 use mathlib.Core.Path.{◌≡◌, refl, sym, ap, subst, ◌∙◌}
 use mathlib.Core.Logic.{◌≢◌, ◌⊎◌, inl, inr, ⊎_elim}

@@ -43,7 +43,7 @@ pub fn listed(list: &[View]) -> Views
     }
 }
 
-// From a place on holds the view, and behind it none.
+// From a place on holds the view, and after it none.
 pub fn lay(list: &mut [View], i: usize, v: View)
     ensures { list.new ≡ laid (max_views - i) list.old i v }
 {

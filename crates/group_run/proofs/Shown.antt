@@ -87,7 +87,7 @@ fields-show (Some (Send p g n)) = refl
 fields-show (Some (Hand p g n)) = refl
 fields-show (Some (Safe p g n)) = refl
 
--- a refusal shows nothing, whatever stands behind its number
+-- a refusal shows nothing, whatever is after its number
 reply-shows : (x : Reply) → cond (eqb (code_of x) 0) (outward_in (event_in x)) [] ≡ shown_by x
 reply-shows (Ok e) = fields-show e
 reply-shows (Err r) = rw (never-0 r)

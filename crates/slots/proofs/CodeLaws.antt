@@ -52,7 +52,7 @@ unfolding views_in
 view-moved b from to y h k =
     views-moved b from to 1 y h ∙ store_views-cons b to (view_in b from) [] k ∙ no-views (store_view b to (view_in b from)) (to + 5)
 
--- a view and n more behind it, copied behind sender, kind and their count
+-- a view and n more after it, copied after sender, kind and their count
 module _ (b : List ℕ) (at q settled opens n : ℕ) (bytes : AreBytes b) (sender : q < 256) (size : at + slot_size ≤ length b) (below : settled + 5 ≤ at) (under : opens + 5 * n ≤ at) (few : n ≤ max_open) where
   abbrev head : List ℕ
   head = set (set (set b at q) (at + 1) 2) (at + 10) (n + 1)

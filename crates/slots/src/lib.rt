@@ -34,7 +34,7 @@ pub fn move_bytes(b: &mut [u8], from: usize, to: usize, n: usize)
     requires { ((to ≤ from) ⊎ (from + n ≤ to)) × (from + n ≤ length b.old) × (to + n ≤ length b.old) }
     ensures { b.new ≡ moved b.old from to n }
 {
-    // copy_within does the same and is slower here, since it asks first which way the bytes go.
+    // copy_within does the same and is slower here, since it checks first which way the bytes go.
     for i in 0..n {
         b[to + i] = b[from + i];
     }

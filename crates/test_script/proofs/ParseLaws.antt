@@ -157,7 +157,7 @@ half-turn s entry bytes left more n a b x y w h two p q =
       rest = drop-set-lt (n + 1) bytes n v (omega arith) ∙ sym (drop-drop 1 n bytes) ∙ ap (λ (r : List ℕ). drop 1 r) w.rest ∙ drop-drop 1 n entry;
     }
 
--- the digits of a pair, and what is left behind them
+-- the digits of a pair, and what is left after them
 pub pair-first : (s : List ℕ) → 2 ≤ length s → s ≡ get_or s 0 0 ∷ get_or s 1 0 ∷ take (length s - 2) (drop 2 s)
 pair-first [] h = absurd (omega arith)
 pair-first (a ∷ []) h = absurd (omega arith)

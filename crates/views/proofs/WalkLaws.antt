@@ -126,14 +126,14 @@ module _ (k l : List View) (i j : ℕ) (x y : View)
         (λ (u : eqb (id_of x) (id_of y) ≡ false). rw (t, u) (higher t u)) (known (eqb (id_of x) (id_of y))))
         (known (ltb (id_of y) (id_of x)))
 
--- a list with a view where it stands, and one at its end
+-- a list with a view where it is, and one at its end
 here : (l : List View) (i : ℕ) → ltb i (length l) ≡ true → slice_get l i ≡ Some (get_or l i no_view)
 here l i t = slice_get-get_or l i no_view (ltb-true i (length l) t)
 
 past : (l : List View) (i : ℕ) → ltb i (length l) ≡ false → slice_get l i ≡ None
 past l i t = slice_get_past l i (ltb-false i (length l) t)
 
--- the choice of what stands at i and j, none where both lists are at their ends
+-- the choice of what is at i and j, none where both lists are at their ends
 pub chosen : (k l : List View) (i j : ℕ) (r : Option Choice) → r ≡ choice_of (slice_get k i) (slice_get l j) → i ≤ length k → j ≤ length l
     → MatchOption r ((length k ≤ i) × (length l ≤ j)) (Chosen k l i j)
 chosen k l i j r e hi hj =

@@ -31,7 +31,7 @@ pub numbers-few : (kind n : ℕ) → numbers_allowed kind n ≡ true → n ≤ 1
 unfolding numbers_allowed
 numbers-few kind n e = few-numbers (eqb kind 1) (eqb kind 4) n e
 
--- the definition's form of a test that is met here or behind
+-- the definition's form of a test that is met here or after
 pub or-cond : (a b : Bool) → cond a true b ≡ (a || b)
 or-cond true b = refl
 or-cond false b = refl

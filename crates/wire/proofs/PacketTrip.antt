@@ -135,7 +135,7 @@ pieces-written l a = ap (λ (r : List (Result Reading Refusal)). cut_by r (packe
 
 -- ---- what was read
 
--- readings of which none is refused, l: none, a refusal, or one behind which the others come
+-- readings of which none is refused, l: none, a refusal, or one after which the others come
 written-none : (s : List ℕ) (l : List Reading) → length s ≡ 0 → ◌≡◌ {A = List (Result Reading Refusal)} [] (map (λ (r : Reading). Ok r) l)
     → packet_of (map (λ (r : Reading). r.frame) l) ≡ s
 unfolding flatten

@@ -12,7 +12,7 @@ pub mod writer;
 use views::list::Views;
 use views::{View, ViewId};
 
-// What stands in a place without a view.
+// What is in a place without a view.
 const NO_VIEW: View = View {
     id: ViewId(0),
     set: 0,

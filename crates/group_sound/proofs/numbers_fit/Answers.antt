@@ -1,4 +1,4 @@
--- `group_sound::numbers_fit` meets its contract: it asks what the definition asks.
+-- `group_sound::numbers_fit` meets its contract: it checks what the definition checks.
 use native.Mathlib.Omega.{arith}
 use Rattle.std.proofs.lemmas.Grind.{common_steps}
 use Rattle.std.proofs.lemmas.Bool.Decides.{nat_tests}

@@ -34,7 +34,7 @@ pub fn deliver(b: &mut [u8], bytes: &[u8], q: Member) -> Result<Delivered, Refus
     }
     let mut at = 0;
     let mut count = 0;
-    // A turn goes on behind a message, whose length only its reader knows: no iterator cuts the bytes so.
+    // A turn goes on after a message, whose length only its reader knows: no iterator cuts the bytes so.
     while at < bytes.len() {
         match deliver_front(b, &bytes[at..], q) {
             Err(r) => {

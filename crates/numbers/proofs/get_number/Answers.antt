@@ -1,4 +1,4 @@
--- `numbers::get_number` meets its contract: x is the number in the bytes read so far, and another byte fits behind them.
+-- `numbers::get_number` meets its contract: x is the number in the bytes read so far, and another byte fits after them.
 use Rattle.std.proofs.Common.{◌≡◌, ◌+◌, ◌-◌, ◌<◌, ◌∙◌, refl, arith, get_or}
 use Rattle.std.proofs.lemmas.List.{get_or-take, get_or-drop}
 use Rattle.numbers.specs.Number.{get}

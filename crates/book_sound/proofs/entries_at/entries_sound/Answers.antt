@@ -1,4 +1,4 @@
--- `book_sound::entries_at::entries_sound` meets its contract: it asks every entry.
+-- `book_sound::entries_at::entries_sound` meets its contract: it checks every entry.
 use Rattle.std.proofs.Common.{◌∙◌, rules, arith, refl}
 use borrow.Author.Tests.{tests}
 use Rattle.std.proofs.lemmas.Iterator.{YieldsList-from_range, serves_from_Range}

@@ -1,4 +1,4 @@
--- `book_sound::entries_at::slots_fit` meets its contract: it asks every slot.
+-- `book_sound::entries_at::slots_fit` meets its contract: it checks every slot.
 use Rattle.std.proofs.Common.{◌∙◌, rules, arith, refl}
 use borrow.Author.Tests.{tests}
 use Rattle.std.proofs.lemmas.Iterator.{YieldsList-from_range}

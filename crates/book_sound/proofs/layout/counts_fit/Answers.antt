@@ -1,4 +1,4 @@
--- `book_sound::layout::counts_fit` meets its contract: it asks the conditions of the definition in their order.
+-- `book_sound::layout::counts_fit` meets its contract: it checks the conditions of the definition in their order.
 use Rattle.std.proofs.Common.{arith, sym, ◌∙◌}
 use Rattle.std.proofs.lemmas.Grind.{common_steps}
 use Rattle.rules.proofs.Truth.{four}

@@ -1,4 +1,4 @@
--- `book_sound::record::record_sound` meets its contract: it asks the parts of the definition in their order.
+-- `book_sound::record::record_sound` meets its contract: it checks the parts of the definition in their order.
 use Rattle.std.proofs.Common.{arith, sym, refl, ◌∙◌, ◌≡◌, Bool}
 use Rattle.std.proofs.lemmas.Grind.{common_steps}
 use lib.Dec.{leb}

@@ -1,4 +1,4 @@
--- `book_sound::record::tolds_fit` meets its contract: it asks the first places, and past the places there is no count.
+-- `book_sound::record::tolds_fit` meets its contract: it checks the first places, and past the places there is no count.
 use Rattle.std.proofs.Common.{◌∙◌, ◌≡◌, rules, length}
 use borrow.Author.Tests.{tests}
 use Rattle.std.proofs.lemmas.Iterator.{YieldsList-from_slice, YieldsList-from_take}

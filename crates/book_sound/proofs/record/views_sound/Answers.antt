@@ -1,4 +1,4 @@
--- `book_sound::record::views_sound` meets its contract: it asks the conditions of the definition in their order.
+-- `book_sound::record::views_sound` meets its contract: it checks the conditions of the definition in their order.
 use Rattle.std.proofs.Common.{arith, sym, ◌∙◌}
 use Rattle.std.proofs.lemmas.Grind.{common_steps}
 use Rattle.book_sound.proofs.Tests.{views-in}

@@ -1,4 +1,4 @@
--- `book_sound::views_at::all_fit` meets its contract: it asks the set of every view.
+-- `book_sound::views_at::all_fit` meets its contract: it checks the set of every view.
 use Rattle.std.proofs.Common.{◌∙◌, rules, arith, refl}
 use borrow.Author.Tests.{tests}
 use Rattle.std.proofs.lemmas.Iterator.{YieldsList-from_range}

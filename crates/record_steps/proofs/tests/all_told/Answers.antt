@@ -1,4 +1,4 @@
--- `record_steps::tests::all_told` meets its contract: it asks every member of the range.
+-- `record_steps::tests::all_told` meets its contract: it checks every member of the range.
 use Rattle.std.proofs.Common.{not, ◌||◌, ◌∙◌, rules, arith, refl}
 use borrow.Author.Tests.{tests}
 use lib.Dec.{ltb}

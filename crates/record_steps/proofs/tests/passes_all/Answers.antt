@@ -1,4 +1,4 @@
--- `record_steps::tests::passes_all` meets its contract: it asks the settled view, then every open one.
+-- `record_steps::tests::passes_all` meets its contract: it checks the settled view, then every open one.
 use Rattle.std.proofs.Common.{◌≡◌, sym, ◌∙◌, rules, arith, length}
 use Prim.Native.Nat.{min}
 use Rattle.views.specs.Limits.{max_views}

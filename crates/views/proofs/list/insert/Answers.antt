@@ -1,5 +1,5 @@
 -- `views::list::insert` meets its contract: the places hold what is put together of the views gone through and, once a view that is not below v was
--- met, of v; what is left comes behind.
+-- met, of v; what is left comes after.
 use Rattle.std.proofs.Common.{◌≡◌, ◌+◌, ◌<◌, ◌≤◌, true, cond, [], ◌∷◌, get_or, take, drop, drop_of_length-le, sym, arith}
 use Rattle.std.proofs.lemmas.List.{length-take}
 use mathlib.Core.Bool.{true≢false}

@@ -1,4 +1,4 @@
--- `views::list::prune` meets its contract: the places hold what is above the identifier of the views gone through, and what is left comes behind.
+-- `views::list::prune` meets its contract: the places hold what is above the identifier of the views gone through, and what is left comes after.
 use Rattle.std.proofs.Common.{◌≡◌, ◌<◌, [], length, get_or, take, drop, drop_of_length-le, ap, arith}
 use Rattle.std.proofs.lemmas.List.{length-take}
 use Rattle.views.specs.declared.View.{View}

@@ -1,4 +1,4 @@
--- `views::list::prune` meets its contract: the places hold what is above the identifier of the views gone through, and what is left comes behind.
+-- `views::list::prune` meets its contract: the places hold what is above the identifier of the views gone through, and what is left comes after.
 use Rattle.std.proofs.Common.{◌≤◌, drop}
 use Rattle.views.specs.Lists.{above_of}
 use Rattle.views.proofs.PlaceLaws.{Filling}

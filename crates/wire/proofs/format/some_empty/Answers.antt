@@ -1,4 +1,4 @@
--- What `any` asks of each view is the definition's test, and the places in use are those that the count has.
+-- What `any` checks of each view is the definition's test, and the places in use are those that the count has.
 use mathlib.Core.Path.{◌≡◌, ap, ◌∙◌}
 use Prim.Native.Nat.{ℕ, min}
 use borrow.Author.Tests.{tests}

@@ -15,7 +15,7 @@ use Rattle.member.specs.Parts.{GaveFront}
 use Rattle.member.proofs.PacketLaws.{underway-begins, underway-ends, underway-stops, underway-takes, underway-goes, packet-refused}
 use Rattle.member.proofs.messages.packet.deliver.Goals as goal
 
--- the bytes from a place on are all that lies behind it
+-- the bytes from a place on are all that lies after it
 behind : {q : ℕ} {b d : List ℕ} {r : Result ℕ Refusal} (s : List ℕ) (at : ℕ)
     → GaveFront (take (length s - at) (drop at s)) q b d r → GaveFront (drop at s) q b d r
 behind s at g = rw (take_all (length s - at) (drop at s) (omega (arith, length-drop at s))) at g
