@@ -24,12 +24,16 @@ use Rattle.record_steps.specs.Turns.{in_step}
 abbrev pub spoken : Current → Message → Option Message
 spoken h m = cond (in_step h) (Some m) None
 
--- it goes to the end of outgoing
+-- a message of a kind with a number goes to the end of outgoing
+abbrev pub short_bytes : ℕ → ℕ → List ℕ → List ℕ
+short_bytes k x b =
+    let n = get_or b outgoing_at 0 in
+    set (store_short b (outgoing_at + 1 + slot_size * n) (own_in_book b) k x) outgoing_at (n + 1)
+
+-- it goes there, if there is one
 unfoldable pub said_bytes : Option Message → List ℕ → List ℕ
 said_bytes None b = b
-said_bytes (Some m) b =
-    let n = get_or b outgoing_at 0 in
-    set (store_short b (outgoing_at + 1 + slot_size * n) (own_in_book b) (kind_of m) (number_of m)) outgoing_at (n + 1)
+said_bytes (Some m) b = short_bytes (kind_of m) (number_of m) b
 
 -- item k of the inward list with its count at c
 unfoldable pub item_sent : List ℕ → ℕ → ℕ → Item

@@ -10,10 +10,27 @@ pub mod messages;
 ghost use Rattle.std.specs.Prelude.{◌≡◌, ◌≤◌, ◌<◌, length, get_or, IsSome};
 ghost use Rattle.views.specs.Limits.{max_outgoing};
 ghost use Rattle.book_bytes.specs.Places.{book_size, outgoing_at, inward_at};
-ghost use Rattle.book_steps.specs.Parts.{said_bytes};
+ghost use Rattle.book_steps.specs.Parts.{short_bytes, said_bytes};
 
 use views::Member;
 use wire::{Message, format};
+
+// A message of any kind, without views, goes to the end of outgoing.
+pub fn say_short(b: &mut [u8], kind: u8, number: u64)
+    requires { (book_size ≤ length b.old) × (get_or b.old outgoing_at 0 < max_outgoing) }
+    ensures { b.new ≡ short_bytes kind number b.old }
+{
+    let n = b[book_bytes::OUTGOING];
+    let q = Member(b[book_bytes::SELF]);
+    slots::store_short(
+        b,
+        book_bytes::OUTGOING + 1 + slots::SLOT * (n as usize),
+        q,
+        kind,
+        number,
+    );
+    b[book_bytes::OUTGOING] = n + 1;
+}
 
 // A message without views goes to the end of outgoing, if there is one.
 pub fn say(b: &mut [u8], said: Option<Message>)
@@ -21,16 +38,7 @@ pub fn say(b: &mut [u8], said: Option<Message>)
     ensures { b.new ≡ said_bytes said b.old }
 {
     if let Some(m) = said {
-        let n = b[book_bytes::OUTGOING];
-        let q = Member(b[book_bytes::SELF]);
-        slots::store_short(
-            b,
-            book_bytes::OUTGOING + 1 + slots::SLOT * (n as usize),
-            q,
-            format::kind(m),
-            format::number(m),
-        );
-        b[book_bytes::OUTGOING] = n + 1;
+        say_short(b, format::kind(m), format::number(m));
     }
 }
 

@@ -8,7 +8,7 @@ ghost use Rattle.views.specs.Lists.{id_of};
 ghost use Rattle.views.specs.Refusals.{code_of, number_of};
 ghost use Rattle.c_answers.specs.Answers.{narrowed, event_size, event_bytes, length_size, length_bytes};
 ghost use Rattle.c_answers.specs.Answers.{delivery_size, delivery_bytes, found_size, found_bytes, given_bytes};
-ghost use Rattle.c_answers.specs.Answers.{named, fields_of};
+ghost use Rattle.c_answers.specs.Answers.{named, fields_of, fields_bytes};
 
 use events::{Delivered, Event, Reply, kinds};
 use views::refusal::Refusal;
@@ -71,14 +71,14 @@ pub fn narrow(x: u32, other: u8) -> u8
     u8::try_from(x).unwrap_or(other)
 }
 
-// The fields of an event's record.
+// The fields of an event's record, of which the bytes may hold any.
 #[derive(Clone, Copy)]
-struct Fields {
-    kind: u8,
-    member: Member,
-    view: View,
-    sender: Member,
-    entry: u64,
+pub struct Fields {
+    pub kind: u8,
+    pub member: Member,
+    pub view: View,
+    pub sender: Member,
+    pub entry: u64,
 }
 
 // A view of which the identifier alone is given.
@@ -137,19 +137,25 @@ fn fields_for(happened: Option<Event>) -> Fields
     }
 }
 
-// The event: its kind, the member, the view's identifier and set, the sender, the entry number. The numbers are within
-// the widths of their types, so that the bytes read back.
-pub fn put_event(out: &mut [u8], happened: Option<Event>)
+// An event's record: its kind, the member, the view's identifier and set, the sender, the entry number.
+pub fn put_fields(out: &mut [u8], e: Fields)
     requires { length out.old ≡ event_size }
-    ensures bytes { out.new ≡ event_bytes happened }
-    ensures fits { (id_of (fields_of happened).view < 256 ^ 4) × ((fields_of happened).entry < 256 ^ 8) }
+    ensures { out.new ≡ fields_bytes e }
 {
-    let e = fields_for(happened);
     out[KIND] = e.kind;
     out[MEMBER] = e.member.0;
     wire::writer::store_view(out, VIEW, e.view);
     out[SENDER] = e.sender.0;
     numbers::put_number(out, ENTRY, sizes::NUMBER, e.entry);
+}
+
+// The event's record. The numbers are within the widths of their types, so that the bytes read back.
+pub fn put_event(out: &mut [u8], happened: Option<Event>)
+    requires { length out.old ≡ event_size }
+    ensures bytes { out.new ≡ event_bytes happened }
+    ensures fits { (id_of (fields_of happened).view < 256 ^ 4) × ((fields_of happened).entry < 256 ^ 8) }
+{
+    put_fields(out, fields_for(happened));
 }
 
 // The number of a call that gives an event out: a refusal leaves the bytes.

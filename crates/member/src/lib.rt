@@ -13,6 +13,7 @@ ghost use Rattle.book_bytes.specs.Starts.{start_bytes};
 ghost use Rattle.member.specs.Parts.{admitted};
 ghost use Rattle.member.specs.Calls.{start_call, start_reply};
 
+pub use events::Delivered;
 use events::Reply;
 use views::refusal::{Refusal, Verdict};
 use views::{Member, View, ViewId, limits};

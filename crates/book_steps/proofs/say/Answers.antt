@@ -4,7 +4,7 @@ use Rattle.book_steps.proofs.say.Goals as goal
 
 pub returns-in-Some : goal.returns-in-Some
 unfolding said_bytes
-returns-in-Some c = rw (c.store_short.ensures, c.kind.ensures, c.number.ensures, c.in-Some.is)
+returns-in-Some c = rw (c.say_short.ensures, c.kind.ensures, c.number.ensures, c.in-Some.is)
 
 pub returns-in_default : goal.returns-in_default
 unfolding said_bytes
