@@ -1,2 +1,3 @@
 pub mod ParseParts
 pub mod OperandParts
+pub mod ShowParts

@@ -1,4 +1,7 @@
 // Answers to standard output: numbers, bytes in hexadecimal, refusals.
+ghost use Rattle.std.specs.Prelude.{◌<◌, ◌/◌, ◌%◌, ◌≡◌};
+ghost use Rattle.test_script.specs.ShowParts.{hex_digit_ascii};
+
 use std::io;
 use views::refusal::Refusal;
 
@@ -27,10 +30,31 @@ pub fn end(rt: &impl Print) -> io::Result<()> {
     rt.write_all(b"\n")
 }
 
-// Bytes in hexadecimal.
+// The digit of a number below 16.
+fn digit(x: u8) -> u8
+    requires { x < 16 }
+    ensures { result ≡ hex_digit_ascii x }
+{
+    if x < 10 { b'0' + x } else { b'a' + (x - 10) }
+}
+
+// The first digit of a byte, and its second.
+fn high(c: u8) -> u8
+    ensures { result ≡ hex_digit_ascii (c / 16) }
+{
+    digit(c / 16)
+}
+
+fn low(c: u8) -> u8
+    ensures { result ≡ hex_digit_ascii (c % 16) }
+{
+    digit(c % 16)
+}
+
+// Bytes in hexadecimal, by digits of which the contracts speak; of a formatted byte none here would.
 pub fn hex(rt: &impl Print, b: &[u8]) -> io::Result<()> {
     for c in b {
-        print!(rt; "{c:02x}")?;
+        rt.write_all(&[high(*c), low(*c)])?;
     }
     Ok(())
 }
