@@ -109,12 +109,15 @@ pub fn store_view(b: &mut [u8], at: usize, v: View)
     b[at + sizes::IDENTIFIER] = v.set;
 }
 
-// The n bytes of another range at a place are copied to `to`.
+// The n bytes of another range at a place are copied to `to`. Most messages have no views, and to copy none would be a
+// call all the same.
 pub fn copy(out: &mut [u8], to: usize, from: &[u8], at: usize, n: usize)
     requires { (to + n ≤ length out.old) × (at + n ≤ length from.now) }
     ensures { out.new ≡ paste out.old to (drop at from.now) n }
 {
-    out[to..to + n].copy_from_slice(&from[at..at + n]);
+    if n != 0 {
+        out[to..to + n].copy_from_slice(&from[at..at + n]);
+    }
 }
 
 // Every byte is 0.

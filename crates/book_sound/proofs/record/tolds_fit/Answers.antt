@@ -1,13 +1,17 @@
--- `book_sound::record::tolds_fit` meets its contract: it checks the first places, and past the places there is no count.
-use Rattle.std.proofs.Common.{◌∙◌, ◌≡◌, rules, length}
-use borrow.Author.Tests.{tests}
-use Rattle.std.proofs.lemmas.Iterator.{YieldsList-from_slice, YieldsList-from_take}
-use Rattle.std.proofs.lemmas.Iterator.Search.{all_from_yields_List}
-use Rattle.book_sound.proofs.Walks.{tolds-all}
+-- `book_sound::record::tolds_fit` meets its contract: a count that is too large is that of a member, and past the places there is none.
+use Rattle.std.proofs.Common.{rules, length, ◌≡◌}
+use mathlib.Core.Path.{sym}
+use native.Mathlib.Omega.{arith}
+use borrow.Author.Tests.{lt-leb}
+use Rattle.rules.proofs.Truth.{every-stop}
+use Rattle.book_sound.proofs.Walks.{tolds-end}
 use Rattle.book_sound.proofs.record.tolds_fit.Goals as goal
+
+pub returns-then-tolds-q-gt-ORDERED : goal.returns-then-tolds-q-gt-ORDERED
+returns-then-tolds-q-gt-ORDERED c =
+    sym (every-stop c.args.n _ c.loop-q.q (omega (arith, c.from.ensures, c.if-q-from.true)) (lt-leb _ _ c.if-tolds-q-gt-ORDERED.true))
 
 pub returns : goal.returns
 returns c =
     let long : length c.args.tolds ≡ 8 = search rules in
-    all_from_yields_List _ _ _ _ c.all.ensures.ran (YieldsList-from_take c.args.n (YieldsList-from_slice c.args.tolds (cc)) (cc)) (λ x b q k. search (rules, tests))
-    ∙ tolds-all c.args.n c.args.tolds
+    sym (tolds-end c.args.n c.args.tolds c.loop-q.q (omega arith) c.loop-q.invariant)
