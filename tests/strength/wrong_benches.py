@@ -47,7 +47,8 @@ FAULTS = {
          "output: if a.running && !bench.running { Output::Quiet } else { decided_by(bench.output, line) },"),
         ("refusals are always shown", "Output::Quiet => reply.is_ok(),", "Output::Quiet => true,"),
         ("refusals are never shown", "shows(bench.output, a.reply)", "shows(Output::Quiet, a.reply)"),
-        ("accepted lines are not shown", "Output::Quiet => reply.is_ok(),", "Output::Quiet => reply.is_err(),"),
+        ("accepted lines are not shown", "        Output::Undecided => reply.is_ok(),\n        Output::Quiet => reply.is_ok(),",
+         "        Output::Undecided => false,\n        Output::Quiet => false,"),
     ],
     "bench_lines/src/lines.rt": [
         ("`all` with a byte 13", 'words::is(line, b"all")', 'words::is(line, b"all") || words::is(line, b"all\\r")'),
